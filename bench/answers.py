@@ -1,23 +1,23 @@
 #!/usr/bin/env python3
-"""Times remembered answers in real files: runs, commits, puts and the opening of a store that has them, and prints ratios.
+"""Times cached results in real files: runs, commits, puts and the opening of a store that has them, and prints ratios.
 
 Usage: bench/answers.py [--small] [--part=PART].. [PROGRAM [STORE_TRIAL]]   (default: the built programs)
 
   --small       few files and answers and few turns, to see that all of it runs: the figures say nothing
   --part=PART   only this part, which is runs, edited, single, puts, openings or commits
 
-Runs: ten hooks run `true` over all files, in a repository after one commit: where nothing is remembered, with the scratch folder
-still to be written and as an earlier run left it, and where all is. Beside them stand opening the store, by `memory`, which does
-nothing else; `cat` of the same files; and pre-commit with the same hooks in a repository of Git, which has to report the same.
-Edited: with `x_per_file` a slow hook, 5 ms a file, is timed where one file was edited, for which one child has to be started,
-beside pre-commit, which runs it over all. Single: a run that starts nothing, of a hook that is remembered of each file by itself.
-Each look-up of it is a use, since another answer is in front, and a transaction of its own. Puts: a put is timed beside a
-staging, as calls on a store that is open and as what each adds to a command of its own. Openings: opening up to 100,000 answers
-is timed beside reading the same tables with the kit's database and hashing their contents, by store_trial. Commits: one whose
-hooks' answers are remembered is timed beside one without hooks.
+Runs: ten hooks run `true` over all files, in a repository after one commit. If nothing is cached, they are timed with a scratch
+folder that is still to be written and with one that an earlier run left; and once if all is cached. They are compared with opening
+the store, by `memory`, which does nothing else; with `cat` of the same files; and with pre-commit and the same hooks in a
+repository of Git, which has to report the same. Edited: a slow hook with `x_per_file`, 5 ms a file, is timed with one edited file,
+for which one child has to be started. It is compared with pre-commit, which runs it over all files. Single: a run that starts
+nothing, of a hook whose results are cached for each file. Each look-up is a use, since another answer is in front, and a
+transaction of its own. Puts: a put is compared with a staging, as calls on an open store and as what each adds to a command of its
+own. Openings: opening up to 100,000 answers is compared with reading the same tables with the kit's database and hashing their
+contents, by store_trial. Commits: one with cached results is compared with one without hooks.
 
 Each time is wall time in milliseconds, the least of several runs in which all that is compared takes turns. The load of the last
-minute is told before each part.
+minute is printed before each part.
 """
 import os
 import shutil
@@ -45,18 +45,18 @@ COMMIT = [PROGRAM, "commit", "-m", "m"]
 PRE_COMMIT = ["pre-commit", "run", "--all-files"]
 RUNS, COMMANDS, CALLS, OPENINGS, SLOW_RUNS = (2, 3, 10, 2, 1) if SMALL else (9, 40, 200, 9, 3)
 HOOKS, PUTS = 10, 20
-# How many files a run is over, and are edited among, and are remembered one by one; how many are staged where something is put
-# and where one is committed; and how many answers to each file a store is opened with.
+# How many files are in a run, in one with an edited file, and in one with results cached one by one. How many are staged for puts and
+# for commits. How many answers for each file an opened store has.
 RUN_OVER = (100,) if SMALL else (1000, 10000)
 EDITED_AMONG, ONE_BY_ONE = (50, 200) if SMALL else (1000, 10000)
 STAGED = (10, 100) if SMALL else (10, 1000, 10000)
 TO_EACH_FILE = (1, 2) if SMALL else (5, 10, 100)
-# The most that a remembered run should take of opening the store and once `cat` of the files, and of pre-commit's time, by how
-# many files there are.
+# The most that a cached run should take: as a part of opening the store and `cat` of the files once, and of pre-commit's time, by the
+# number of files.
 AIM_BESIDE_CAT, AIM_BESIDE_PRE_COMMIT = 1, {1000: 0.2, 10000: 0.6}
 AIM_PUT, AIM_OPENING, AIM_COMMIT = 1.5, 1.3, 1.5
-# The most that a run over one edited file should take of opening the store, and of pre-commit's time, and how often `cat` of the
-# files a run may take beside opening that looks all of them up, one by one.
+# The most that a run over one edited file should take, as a part of opening the store and of pre-commit's time. And how many times
+# `cat` of the files a run that looks all of them up one by one may take, without opening.
 AIM_EDITED, AIM_EDITED_BESIDE_PRE_COMMIT, AIM_ONE_BY_ONE = 3, 0.02, 3
 # The commands and the states of the files in a store whose answers saw all of them.
 WIDE_COMMANDS, WIDE_STATES = 10, 10
@@ -123,7 +123,7 @@ class Repository:
         return in_folder(self.folder, words)
 
     def look_for_answers(self, wanted):
-        """Looks that so many answers are remembered, else something else was timed than is said."""
+        """Checks that so many answers are cached: otherwise something else was timed."""
         os.chdir(self.folder)
         said = do(PROGRAM, "memory")
         if said != f"remembered: {wanted}\n":
@@ -163,7 +163,7 @@ def tell_load(what):
 # ---- runs on all files
 
 def one_round_of_runs(ours, git, names):
-    """What the runs of one round take, from a store without answers on, and what stands beside them."""
+    """What the runs of one round take, from a store without answers on, and what the compared programs take."""
     times = {}
     ours.restore()
     times["opening without answers"] = ours.time(OPENING)
@@ -179,7 +179,7 @@ def one_round_of_runs(ours, git, names):
 
 
 def compare_reports(ours, git):
-    """Both programs have to say the same of the same files, else they didn't do the same."""
+    """Both programs have to say the same of the same files: otherwise they didn't do the same."""
     os.chdir(git)
     theirs = do(*PRE_COMMIT, "--color", "never")
     os.chdir(ours.folder)
@@ -247,7 +247,7 @@ def hooks_of_signal(signal):
 
 
 def time_commands(folder):
-    """What a put adds to a run, beside what a staging adds to opening the store. There are few files, since those of a child that
+    """What a put adds to a run, and what a staging adds to opening the store. There are few files, since those of a child that
     a signal ended aren't read back."""
     answered, faulted = (Repository(os.path.join(folder, f"signal{signal}"), 1, hooks_of_signal(signal)) for signal in "09")
     times = least_of(one_round_of_commands(answered, faulted, number) for number in range(COMMANDS))
@@ -379,7 +379,7 @@ def time_edited_file(folder, files):
 
 
 def time_one_by_one(folder, files):
-    """A run that starts nothing, whose hook is remembered of each file by itself: as many as a new store remembers."""
+    """A run that starts nothing, of a hook with a cached result for each file: as many as a new store keeps."""
     tell_load(f"a hook remembered of each of {files} files")
     only = PER_FILE + ", files: ^many/"
     ours = Repository(os.path.join(folder, "single"), files, [hook(0, '"true"', "hook0", more=only)])

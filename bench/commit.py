@@ -1,14 +1,14 @@
 #!/usr/bin/env python3
-"""Times commits and runs on a repository beside Git with pre-commit's hooks installed, in one run, and prints ratios.
+"""Times commits and runs on a repository and Git with pre-commit's hooks installed, in one run, and prints ratios.
 
 Usage: bench/commit.py [PROGRAM [STORE_TRIAL]]   (default: the built programs)
 
-The repositories hold staged files of 400 bytes after some commits, each of which changes one file; those of hookhost are
-made by store_trial. Before each timed commit one file gets other bytes and is staged. The hooks are commands, `true`, of the
-stage `pre-commit`, which get a word of their own, so that each starts a child, and the changed file; pre-commit is installed
-for all four stages of a commit. A commit is timed beside Git's, and beside what opening the store takes, by store_trial, which
-opens it and does nothing else. A run of one hook on all files is timed beside pre-commit's, and beside `try` of the same files,
-which opens no store. Each time is wall time in milliseconds, the least of several.
+The repositories hold staged files of 400 bytes after some commits, each of which changes one file. Those of hookhost are made by
+store_trial. Before each timed commit one file gets other bytes and is staged. The hooks are commands, `true`, of the stage
+`pre-commit`. They get a word of their own, so that each starts a child, and the changed file. pre-commit is installed for all four
+stages of a commit. A commit is compared with Git's, and with opening the store, by store_trial, which does nothing else. A run of
+one hook on all files is compared with pre-commit's, and with `try` of the same files, which opens no store. Each time is wall time
+in milliseconds, the least of several.
 """
 import os
 import shutil

@@ -1,12 +1,12 @@
 #!/usr/bin/env python3
-"""Times `git commit` of one changed file with hookhost-git as the hook, beside pre-commit as the hook, in one run.
+"""Times `git commit` of one changed file with hookhost-git as the hook, and with pre-commit as the hook, in one run.
 
 Usage: bench/git.py [PROGRAM [FILES..]]   (default: the built program, and 10, 1,000 and 10,000 files)
 
 A repository holds so many files of 400 bytes. Ten hooks are commands that sleep 50 ms. Before each first try one file gets other
-bytes and is staged. Once it is committed the commit is taken back, and made again as it was: a second try, in which hookhost-git
-starts no command. Each time is wall time in milliseconds, the least of several. What is left without the hooks' own sleep is shown
-too, and how long the first run of all took, in which it stages each file.
+bytes and is staged. Once it is committed, the commit is undone and made again as it was: a second try, in which hookhost-git starts
+no command. Each time is wall time in milliseconds, the least of several. Shown too are the times without the hooks' own sleep, and
+that of the very first run, which stages each file.
 """
 import os
 import shutil

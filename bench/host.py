@@ -1,14 +1,14 @@
 #!/usr/bin/env python3
-"""Times the commands on a repository beside git doing the same in a repository of its own, in one run, and prints ratios.
+"""Times the commands on a repository and Git doing the same in a repository of its own, in one run, and prints ratios.
 
 Usage: bench/host.py [PROGRAM [STORE_TRIAL]]   (default: the built programs)
 
-The repositories are empty, or hold staged files of 400 bytes after some commits, each of which changes one file. Those of
-hookhost are made by store_trial. Each command is timed beside git's, and beside what opening the store takes, by
-store_trial, which opens it and does nothing else (its input is one line). `memory`, `memory --limit` and `forget` are timed with
-100 answers in the store, of which the limit drops half; git has nothing to stand beside them. Of many files of 400 bytes that one `add` stages, in a new repository, neither program
-has any content yet. Each time is wall time in milliseconds, the least of several runs in which the
-programs take turns. The peak memory is of the whole process.
+The repositories are empty, or hold staged files of 400 bytes after some commits, each of which changes one file. Those of hookhost
+are made by store_trial. Each command is compared with Git's, and with opening the store, by store_trial, which does nothing else
+(its input is one line). `memory`, `memory --limit` and `forget` are timed with 100 answers in the store, of which the limit drops
+half; Git has nothing like them. If one `add` stages many files of 400 bytes in a new repository, neither program has any content
+yet. Each time is wall time in milliseconds, the least of several runs in which the programs take turns. The peak memory is of the
+whole process.
 """
 import os
 import shutil
@@ -41,7 +41,7 @@ OF_HISTORY = {
     "show": Pair(["show", "1"], ["show", "--name-only", "--format=%B", "first"]),
 }
 
-# The commands on remembered answers, and lines by which store_trial puts some, of which there is room for all again.
+# The commands on cached answers, and lines by which store_trial puts some, of which there is room for all again.
 OF_ANSWERS = {"memory": ["memory"], "memory --limit": ["memory", "--limit=50"], "forget": ["forget"]}
 FIRST_LIMIT = 10_000
 ANSWERS = [f"remember tool{at} {NEW} | {NEW}={at} | | 0" for at in range(100)]
@@ -104,7 +104,7 @@ def time_commands(ours, other, opening, has_history):
 
 
 def put_answers():
-    """Puts answers into the folder's store. The commands behind that leave its log as commands do: with what store_trial leaves
+    """Puts answers into the folder's store. The commands after that leave its log as commands do: with what store_trial leaves
     the next one would wait longer for the disk."""
     play([f"set-limit {FIRST_LIMIT}", *ANSWERS])
     for pair in CHANGES.values():
@@ -112,7 +112,7 @@ def put_answers():
 
 
 def time_on_answers(folder, opening):
-    """The least milliseconds of each command on remembered answers, and of opening the store with them."""
+    """The least milliseconds of each command on cached answers, and of opening the store with them."""
     os.chdir(folder)
     rounds = []
     for _ in range(RUNS):

@@ -1,15 +1,15 @@
 #!/usr/bin/env python3
-"""Times runs whose answers are remembered, in one process of the built program run_trial, and prints ratios.
+"""Times runs with cached results, in one process of the built program run_trial, and prints ratios.
 
 Usage: bench/memory.py [--small] [RUN_TRIAL]   (default: crates/run_trial/out/run_trial)
 
   --small   few files and answers, to see that all of it runs: the figures say nothing
 
-Children answer at once, so that a run's own share is what is timed, over a book in memory with room for all answers. A run of
-ten hooks, each of which gets all files, is timed where nothing is remembered and where all is, beside the same run by hooks of
-the language `fail`, which start no child. Then runs on one file are timed as more answers are remembered: ten look-ups of the
-answer in front in each run; a run for each answer, which puts it; and another, which looks it up and brings it to the front.
-Each time is in milliseconds: what so many more runs take in a call, divided by their number, the least of several calls.
+Children answer at once, so that only a run's own share is timed, over a book in memory with room for all answers. A run of ten
+hooks, each of which gets all files, is timed with nothing and with all of it cached. It is compared with the same run by hooks of
+the language `fail`, which start no child. Then runs on one file are timed with more and more cached answers: ten look-ups of the
+answer in front in each run; a run for each answer, which puts it; and another, which looks it up and brings it to the front. Each
+time is in milliseconds: what so many more runs take in a call, divided by their number, the least of several calls.
 """
 import os
 import subprocess

@@ -1,17 +1,17 @@
 #!/usr/bin/env python3
-"""Times the parts of one hook over 99,999 files, beside pre-commit on the same files, and prints ratios.
+"""Times the parts of one hook over 99,999 files, and pre-commit on the same files, and prints ratios.
 
 Usage: bench/parts.py [--small] [--settled] [PROGRAM]   (default: crates/hookhost/out/hookhost)
 
   --small     a tenth of the files, to see that all of it runs: the figures say nothing
   --settled   also so long after the run before that its files are on the disk, which takes some minutes
 
-Each path has 17 bytes, so that the names are more than one command takes: the hook runs in 14 parts, each of which is a
-child of its own. It notes when each was started, in a file outside of the repository. The first is behind the opening of
-the store and the scratch folder, which the first run of all writes and a later one looks through; each further one is
-behind the child before it and the search for what that changed. What each further part costs is told as a ratio to the
-first. The hook is run by `run --all-files --fresh`, so that every part is started, and at last without `--fresh`, where
-none is. pre-commit starts as many parts, one behind another, in a repository of Git.
+Each path has 17 bytes, so that the names are more than one command takes: the hook runs in 14 parts, each of which is a child of
+its own. It notes when each was started, in a file outside of the repository. Before the first one the store is opened, and the
+scratch folder is written by the very first run, and looked through by a later one. Before each further one the child before it
+runs, and what that changed is searched for. The cost of each further part is given as a ratio to the first. The hook is run by
+`run --all-files --fresh`, so that every part is started, and at last without `--fresh`, so that none is. pre-commit starts as many
+parts, one after another, in a repository of Git.
 
 Each time is wall time in milliseconds.
 """

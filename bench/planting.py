@@ -3,7 +3,7 @@ import sqlite3
 
 from kept_answers import KeptAnswer, contents_of as contents_kept, digest, records_of
 
-# How many answers a new store remembers at most, and how many one may be told to.
+# How many answers a new store keeps at most, and the greatest limit that may be set.
 FIRST_LIMIT, MOST_ANSWERS = 10_000, 100_000
 
 
@@ -13,13 +13,12 @@ def answer_to(words, files):
 
 
 def keys_of(answers):
-    """The digests under which the row of each answer stands."""
+    """The digests that are the key of each answer's row."""
     return [tuple(map(digest, records_of(answer)[:2])) for answer in answers]
 
 
 def plant(path, answers, limit=FIRST_LIMIT, version=2):
-    """Puts answers into a store that has none, so that the last one stands in front in a store of version 2, which gets
-    that limit."""
+    """Puts answers into a store that has none, so that the last one is in front in a store of version 2, which gets that limit."""
     blobs = {digest(each): each for answer in answers for each in contents_kept(answer)}
     rows = [(*map(digest, records_of(answer)), answer.status) for answer in answers]
     with sqlite3.connect(path) as held:

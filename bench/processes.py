@@ -1,11 +1,11 @@
 #!/usr/bin/env python3
-"""Times real children, run by the built program child_trial, beside cat of their files, in one run, and prints ratios.
+"""Times real children, run by the built program child_trial, and cat of their files, in one run, and prints ratios.
 
 Usage: bench/processes.py [CHILD_TRIAL]   (default: crates/child_trial/out/child_trial)
 
-A second child over a tree that the first left as it was, beside cat of all its files, and the same where each child costs a
-reading of all files; a child that changes one file of many, both ways; and a child with 1 MiB of output, beyond one without,
-beside the same from one cat to another. Each time is wall time in milliseconds, the least of several.
+A second child over a tree that the first left as it was is compared with cat of all its files. The same is done with children for
+each of which all files are read. A child that changes one file of many is timed both ways. What 1 MiB of output adds to a child
+is compared with the same from one cat to another. Each time is wall time in milliseconds, the least of several.
 """
 import os
 import subprocess

@@ -1,12 +1,12 @@
 #!/usr/bin/env python3
-"""Times patterns, tags and `pygrep` in `hookhost try` beside other programs on the same files, and prints ratios.
+"""Times patterns, tags and `pygrep` in `hookhost try` and in other programs on the same files, and prints ratios.
 
 Usage: bench/selection.py [PROGRAM [TRIAL]]   (default: crates/hookhost/out/hookhost, crates/selection_trial/out/selection_trial)
 
-The others are `git grep`, `grep`, `cat`, the program for tests that builds patterns and does nothing else, and pre-commit,
-where that is installed. The commands of a line take turns, so that a busy moment hits them alike, and each figure is the
-median of their wall times, in seconds. Each output goes through a pipe, since `grep` stops at the first match where it
-writes to /dev/null. A pre-commit that is too slow for several runs is run once.
+The others are `git grep`, `grep`, `cat`, the program for tests that builds patterns and does nothing else, and pre-commit if that
+is installed. The commands of a line take turns, so that a busy moment hits them alike, and each figure is the median of their wall
+times, in seconds. Each output goes through a pipe, since `grep` stops at the first match if it writes to /dev/null. A pre-commit
+that is too slow for several runs is run once.
 """
 import os
 import shutil
@@ -159,7 +159,7 @@ def time_hooks(paths):
 
 
 def time_patterns(paths):
-    """A configuration of 500 patterns that is read, and then run too, beside a program that builds the same patterns."""
+    """A configuration of 500 patterns that is read, and then run too, compared with a program that builds the same patterns."""
     patterns = [rf"^src/module{number}/.*\.(c|h)$" for number in range(500)]
     configuration(CONFIGURATION, fail_hooks(500, by_files))
     write("patterns.rows", "".join(f"pattern {each.encode().hex()}\n" for each in patterns))

@@ -3,10 +3,9 @@
 
 Usage: bench/staging.py [STORE_TRIAL]   (default: crates/store_trial/out/store_trial)
 
-One staging, one unstaging and one fix accepted are timed with 10, 1,000, 10,000 and 50,000 files staged, each the least of
-several in one play, so that opening the store isn't in them; 100,000 stagings are timed beside the same rows by
-sqlite3; and fixes that delete half of the staged files are accepted among 25,000 and 50,000. Each time is wall time
-in milliseconds.
+One staging, one unstaging and one fix accepted are timed with 10, 1,000, 10,000 and 50,000 files staged. Each is the least of
+several in one play, so that opening the store isn't in them. 100,000 stagings are compared with the same rows by sqlite3. Fixes
+that delete half of the staged files are accepted among 25,000 and 50,000. Each time is wall time in milliseconds.
 """
 import os
 import sys

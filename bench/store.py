@@ -1,15 +1,15 @@
 #!/usr/bin/env python3
-"""Times calls on a store in a real file beside the same rows by the program sqlite3, in one run, and prints ratios.
+"""Times calls on a store in a real file and the same rows by the program sqlite3, in one run, and prints ratios.
 
 Usage: bench/store.py [PROGRAM]   (default: crates/store_trial/out/store_trial)
 
-Stagings are each a transaction of their own. Opening is timed after 1, 10 and 100 commits of 1,000 files of 400 bytes, once
-with the same contents in each commit and once with other contents in each, and beside it what the database alone takes:
-to open the file, and to open it, read each table once and hash the contents. The other calls are timed after each of those
-openings, since they are to cost the same whatever the history. The first staging is timed apart from the next 100, so that
-one sees what opening leaves for it to do. Each time is wall time in milliseconds, the least of several runs where nothing
-is written, or where each writes to a copy. The peak memory is of the whole process, beside the contents held, and beside it
-what the database alone takes: to put contents into their table, and to open a file and read its tables.
+Stagings are each a transaction of their own. Opening is timed after 1, 10 and 100 commits of 1,000 files of 400 bytes, once with
+the same contents in each commit and once with other contents in each. It is compared with what the database alone takes: to open
+the file, and to open it, read each table once and hash the contents. The other calls are timed after each of those openings, since
+they are to cost the same whatever the history. The first staging is timed apart from the next 100, so that one sees what opening
+leaves for it to do. Each time is wall time in milliseconds, the least of several runs. A run that writes gets a copy. The peak
+memory is of the whole process. It is compared with the contents held, and with what the database alone takes: to put contents into
+their table, and to open a file and read its tables.
 """
 import hashlib
 import os
@@ -84,7 +84,7 @@ class Play:
         return took
 
     def peak(self):
-        """The peak memory so far in MB. What wait4 tells counts this script's own memory too, from before the exec."""
+        """The peak memory so far in MB. The figure of wait4 counts this script's own memory too, from before the exec."""
         with open(f"/proc/{self.child.pid}/status") as status:
             return next(int(line.split()[1]) for line in status if line.startswith("VmHWM:")) * 1024 / 1e6
 
@@ -153,7 +153,7 @@ def time_large_commit(ours, other):
 
 
 def tell_peak(peak, held, alone):
-    """Prints a peak in MB and that of the database alone, beside so many bytes of contents."""
+    """Prints a peak in MB and that of the database alone, for so many bytes of contents."""
     told = "; ".join(f"{what} {each:.1f} MB, {each * 1e6 / held:.1f} times" for what, each in alone)
     print(f"{'':44} peak memory {peak:.1f} MB, {peak * 1e6 / held:.1f} times the contents; {told}")
 

@@ -44,7 +44,7 @@ def once(words, given="/dev/null"):
 
 
 def in_folder(folder, words, given="/dev/null"):
-    """The wall time of the command in that folder, where this process is then too."""
+    """The wall time of the command in that folder, which becomes this process's current folder."""
     os.chdir(folder)
     return once(words, given)
 
@@ -77,7 +77,7 @@ def made_peak(folder):
 
 
 def peak(helper, words, given="/dev/null"):
-    """The peak memory of the command in bytes, told by the program of peak.c, its input being that file."""
+    """The peak memory of the command in bytes, by the program of peak.c, with that file as its input."""
     with open(given, "rb") as stdin:
         done = subprocess.run([helper, *words], stdin=stdin, stdout=subprocess.DEVNULL, stderr=subprocess.PIPE,
                               text=True)
@@ -85,11 +85,11 @@ def peak(helper, words, given="/dev/null"):
 
 
 def beside_aim(ratio, aim):
-    """The most that a ratio should be, and whether it is; nothing where there is no aim."""
+    """The most that a ratio should be, and whether it is; None if there is no aim."""
     return "" if aim is None else f"  aim {aim}: {'met' if ratio <= aim else 'missed'}"
 
 
 def show(what, ours, other, beside, aim=None):
-    """One line: our time, the other program's, and their ratio, beside its aim if it has one."""
+    """One line: our time, the other program's, and their ratio, with its aim if it has one."""
     ratio = ours / other
     print(f"{what:44} {ours:9.2f} ms  {beside} {other:8.2f} ms  ratio {ratio:6.2f}{beside_aim(ratio, aim)}", flush=True)

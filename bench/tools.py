@@ -1,13 +1,13 @@
 #!/usr/bin/env python3
-"""Runs the tools of a team on real files, with what is remembered in the store, beside pre-commit.
+"""Runs the tools of a team on real files, with results cached in the store, and compares with pre-commit.
 
 Usage: bench/tools.py [PROGRAM]   (default: crates/hookhost/out/hookhost)
 
-A repository of 200 files of Debian's packages (shell, YAML, Python, Markdown) has ten hooks: tools that look, one that changes
-files, a script of the repository, and two of `pygrep`. It is run as it is, again once the changes are accepted, once more, with
-one file edited, and afresh. Each time pre-commit runs on the same files in a repository of Git: the reports must be the same, and
-so must the files that are left. Of `hookhost` it is counted how many commands were started: all at first and afresh, and else those
-alone that get a file which changed. Each command of `hookhost` is a process of its own.
+A repository of 200 files of Debian's packages (shell, YAML, Python, Markdown) has ten hooks: tools that check, one that changes
+files, a script of the repository, and two of `pygrep`. It is run as it is, again once the changes are accepted, once more, with one
+file edited, and with `--fresh`. Each time pre-commit runs on the same files in a repository of Git: the reports must be the same,
+and so must the files that are left. The commands that `hookhost` starts are counted: all at first and with `--fresh`, and otherwise
+only those that get a changed file. Each command of `hookhost` is a process of its own.
 
 It prints what each of the runs took.
 """
@@ -23,7 +23,7 @@ HERE = Path(__file__).resolve().parent
 PROGRAM = os.path.abspath(sys.argv[1] if len(sys.argv) > 1 else HERE / "../crates/hookhost/out/hookhost")
 CONFIGURATION = ".pre-commit-config.yaml"
 
-# How many files of each kind there are, and where they are looked for.
+# How many files of each kind there are, and the folders in which they are looked for.
 KINDS = {".py": 110, ".sh": 30, ".yaml": 12, ".md": 48}
 ROOTS = ["/usr/lib/python3", "/usr/lib/python3.11", "/usr/share/doc", "/usr/share", "/usr/lib"]
 MOST_BYTES = 12_000
@@ -123,7 +123,7 @@ class Side:
                 (self.folder / path).chmod(0o755)
 
     def report(self, *words):
-        """The report of a run, which may fail, without what `--fresh` says behind it."""
+        """The report of a run, which may fail, without what `--fresh` prints after it."""
         self.log.unlink(missing_ok=True)
         begun = time.perf_counter()
         done = subprocess.run(words, cwd=self.folder, env=self.env, stdin=subprocess.DEVNULL, capture_output=True, timeout=600)

@@ -1,13 +1,13 @@
 #!/usr/bin/env python3
-"""Times `hookhost try` beside /bin/true and `cat` of the same files, in one run, and prints ratios.
+"""Times `hookhost try`, /bin/true and `cat` of the same files, in one run, and prints ratios.
 
 Usage: bench/try.py [--children | --settled] [PROGRAM]   (default: crates/hookhost/out/hookhost)
 
-Each figure is the least of several runs, in milliseconds of wall time, so that a busy machine matters little. --children
-times hooks that start children, and nothing else: beside /bin/true started as often, `cat` of the files, and, where it is
-installed, pre-commit on the same configuration and files, whose report has to be the same. The scratch folder is as an
-earlier run left it; what the first run takes, which writes it, is told too. --settled times ten hooks so long after that
-run, as behind an earlier commit, that the system has written its files to the disk; it waits for some minutes.
+Each figure is the least of several runs, in milliseconds of wall time, so that a busy machine matters little. --children times
+hooks that start children, and nothing else. They are compared with /bin/true started as often, with `cat` of the files, and, if it
+is installed, with pre-commit on the same configuration and files, whose report has to be the same. The scratch folder is as an
+earlier run left it. The time of the first run, which writes it, is printed too. --settled times ten hooks so long after that run
+that the system has written its files to the disk, as after an earlier commit. It waits for some minutes.
 """
 import os
 import shutil

@@ -1,21 +1,21 @@
 #!/usr/bin/env python3
-"""Times what the order and the limit of the remembered answers cost, in stores in real files, and prints ratios.
+"""Times what the order and the limit of the cached results cost, in stores in real files, and prints ratios.
 
 Usage: bench/uses.py [--small] [--part=PART].. [PROGRAM [STORE_TRIAL]]   (default: the built programs)
 
   --small       few answers and few turns, to see that all of it runs: the figures say nothing
   --part=PART   only this part, which is calls, limits or migrations
 
-Calls: on a store that is open and has as many answers as its limit, looking up the row in front and looking up what isn't
-there, neither of which writes; a use, which is looking up the row that was used least lately, and moves it to the front
-in a transaction of its own; and a put, which drops that row. Beside them stands a staging, which is a transaction too,
-and beside the use the same statements by the program sqlite3. Limits: `memory --limit` that drops half of the answers or
-all but one, beside `memory`, which opens the store and does nothing else, and the drop alone beside the same rows by
-sqlite3. Migrations: `memory` on a store of version 1, which it makes one of version 2 and of whose answers it keeps
-10,000, beside the same on a store of version 2 with as many answers, and what it adds beside the same tables by sqlite3.
+Calls, on an open store that has as many answers as its limit: looking up the row in front and looking up a missing one, neither of
+which writes; a use, which looks up the row that was used least lately and moves it to the front in a transaction of its own; and a
+put, which drops that row. They are compared with a staging, which is a transaction too, and the use with the same statements by the
+program sqlite3. Limits: `memory --limit` that drops half of the answers or all but one is compared with `memory`, which opens the
+store and does nothing else, and the drop alone with the same rows by sqlite3. Migrations: `memory` on a store of version 1, which
+it converts to version 2, keeping 10,000 of its answers. It is compared with the same on a store of version 2 with as many answers,
+and what it adds is compared with the same tables by sqlite3.
 
-Each time is wall time in milliseconds, the least of several runs in which all that is compared takes turns. Each run
-that writes has a copy of its own, which the disk has. The load of the last minute is told before each part.
+Each time is wall time in milliseconds, the least of several runs in which all that is compared takes turns. Each run that writes
+has a copy of its own, which is on the disk. The load of the last minute is printed before each part.
 """
 import os
 import shutil
@@ -100,7 +100,7 @@ def tell_load(what):
 
 
 def look_for_answers(folder, wanted):
-    """Looks that so many answers are remembered, else something else was timed than is said."""
+    """Checks that so many answers are cached: otherwise something else was timed."""
     said = subprocess.run(OPENING, cwd=folder, stdout=subprocess.PIPE, text=True, check=True).stdout
     if said != f"remembered: {wanted}\n":
         sys.exit(f"bench/uses.py: {said!r}, wanted are {wanted}")
@@ -117,7 +117,7 @@ def rows_in(folder):
 
 
 def compare_stores(ours, theirs):
-    """Both programs have to leave the same rows, else they didn't do the same."""
+    """Both programs have to leave the same rows: otherwise they didn't do the same."""
     if rows_in(ours) != rows_in(theirs):
         sys.exit("bench/uses.py: sqlite3 leaves other rows")
 
@@ -125,8 +125,8 @@ def compare_stores(ours, theirs):
 # ---- calls on an open store
 
 def lines_of_calls(turn, count):
-    """The lines of each kind of call in a turn. Those of uses move one row after another, so that the row that was used
-    least lately is looked up each time, and the last of them is looked up again where it stands in front."""
+    """The lines of each kind of call in a turn. Those of uses move one row after another: each looks up the row that was used
+    least lately, and the last of them is looked up again while it is in front."""
     numbers = range(turn * CALLS, (turn + 1) * CALLS)
     used = [key_line(at % count) for at in numbers]
     return {
@@ -143,7 +143,7 @@ def lines_of_puts(turn):
 
 
 def uses_by_sqlite(path, keys):
-    """The milliseconds that sqlite3 takes for the statements of a use of each key beside opening the file."""
+    """The milliseconds that sqlite3 takes for the statements of a use of each key, without opening the file."""
     first = MOST_ANSWERS + 1
     uses = "".join(f"BEGIN; DELETE FROM uses WHERE {sql_of(key)}; "
                    f"INSERT INTO uses VALUES (x'{key[0].hex()}', x'{key[1].hex()}', {tick}); COMMIT;\n"
@@ -184,7 +184,7 @@ def time_all_calls(folder):
 # ---- limits
 
 def drops_by_sqlite(path, keys, limit):
-    """The milliseconds that sqlite3 takes to set the limit and drop these rows, one by one, beside opening the file."""
+    """The milliseconds that sqlite3 takes to set the limit and drop these rows, one by one, without opening the file."""
     drops = "".join(f"DELETE FROM answers WHERE {sql_of(key)}; DELETE FROM uses WHERE {sql_of(key)};\n" for key in keys)
     opening = PRAGMAS + "SELECT count(*) FROM meta;\n"
     change = f"BEGIN; {drops} UPDATE meta SET value = {limit} WHERE name = 'limit'; COMMIT;\n"
@@ -221,7 +221,7 @@ def time_limits(folder):
 # ---- migrations
 
 def migration_by_sqlite(path, dropped):
-    """The milliseconds that sqlite3 takes to give a store of version 1 the rows of version 2, beside opening the file."""
+    """The milliseconds that sqlite3 takes to give a store of version 1 the rows of version 2, without opening the file."""
     opening = PRAGMAS + "SELECT count(*) FROM meta;\n"
     change = ("BEGIN; CREATE TABLE uses (words BLOB NOT NULL, seen BLOB NOT NULL, tick INTEGER NOT NULL UNIQUE, "
               "PRIMARY KEY (words, seen)) STRICT; "

@@ -1,12 +1,12 @@
 #!/usr/bin/env python3
-"""Times `hookhost check` on large configurations beside `cat` of the same file, in one run, and prints ratios.
+"""Times `hookhost check` on large configurations and `cat` of the same file, in one run, and prints ratios.
 
 Usage: bench/yaml.py [PROGRAM]   (default: crates/hookhost/out/hookhost)
 
-Each configuration is a small one with 1 MiB of one kind of text under a key whose value is ignored, so that the reading of
-YAML is what is timed. Each figure is the least of several runs, in milliseconds of wall time. It is taken twice: with the
-commands taking turns, so that a busy moment hits them alike, and with each command by itself, which finds `cat` at its
-fastest since nothing stands between its runs.
+Each configuration is a small one with 1 MiB of one kind of text under a key whose value is ignored, so that the reading of YAML is
+what is timed. Each figure is the least of several runs, in milliseconds of wall time. It is taken twice: with the commands taking
+turns, so that a busy moment hits them alike, and with each command by itself, which finds `cat` at its fastest since nothing comes
+between its runs.
 """
 import os
 import shutil

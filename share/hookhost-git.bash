@@ -1,7 +1,7 @@
 # Completion of hookhost-git in bash. To use it, in ~/.bashrc:
 #   source FOLDER/hookhost-git.bash
 
-# Puts what may stand at the cursor into COMPREPLY.
+# Puts what can follow at the cursor into COMPREPLY.
 _hookhost_git() {
   local word=${COMP_WORDS[COMP_CWORD]} before=${COMP_WORDS[COMP_CWORD - 1]} option='' ended='' at
   local -a commits

@@ -23,9 +23,9 @@ end
 
 complete -c hookhost-git -f
 complete -c hookhost-git -n __fish_is_first_token -a install -d 'Makes Git run the hooks before each commit'
-complete -c hookhost-git -n __fish_is_first_token -a uninstall -d 'Takes that hook away'
+complete -c hookhost-git -n __fish_is_first_token -a uninstall -d 'Removes that hook'
 complete -c hookhost-git -n __fish_is_first_token -a run -d 'Runs the hooks on the files that a commit would change now'
-complete -c hookhost-git -n __fish_is_first_token -a remove -d 'Takes away the working files that the hooks of the last run removed'
+complete -c hookhost-git -n __fish_is_first_token -a remove -d 'Removes the working files that the hooks of the last run removed'
 complete -c hookhost-git -n __fish_is_first_token -a hook -d 'What Git calls'
 complete -c hookhost-git -n '__fish_is_first_token; or __hookhost_git_is install uninstall remove run' -s h -l help -d 'Prints the help'
 complete -c hookhost-git -n __fish_is_first_token -l version -d 'Prints the version of hookhost'

@@ -1,7 +1,7 @@
 # Completion of hookhost-reads in bash, made by share/make.py from what its help prints. To use it, in ~/.bashrc:
 #   source FOLDER/hookhost-reads.bash
 
-# Puts what may stand at the cursor into COMPREPLY.
+# Puts what can follow at the cursor into COMPREPLY.
 _hookhost_reads() {
   local IFS=$' \t\n' at piece parted='' is_joined=''
   local -a words=()
@@ -18,7 +18,7 @@ _hookhost_reads() {
       parted=${words[-1]} is_joined=1
     fi
   done
-  # The last option decides what follows it. An option is proposed once, and none that can't stand with one before it.
+  # The last option decides what follows it. An option is proposed once, and none that can't be given with an earlier one.
   local -a options=(--all-files --files --each --cautious -h --help) taken
   local last='' is_ended='' word each
   for word in "${words[@]:0:${#words[@]}-1}"; do
@@ -69,7 +69,7 @@ _hookhost_reads_propose() {
   [[ ${#COMPREPLY[@]} != 1 || ${COMPREPLY[0]} != *= ]] || compopt -o nospace 2> /dev/null
 }
 
-# Proposes the files whose paths begin so, behind the second word. Readline puts quotes around a path that needs them.
+# Proposes the files whose paths begin so, after the second word. Readline puts quotes around a path that needs them.
 _hookhost_reads_propose_paths() {
   local path=$1 head=$2
   case $path in

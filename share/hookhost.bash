@@ -1,7 +1,7 @@
 # Completion of hookhost in bash, made by share/make.py from what the program's help prints. To use it, in ~/.bashrc:
 #   source FOLDER/hookhost.bash
 
-# Puts what may stand at the cursor into COMPREPLY.
+# Puts what can follow at the cursor into COMPREPLY.
 _hookhost() {
   local IFS=$' \t\n' at piece parted='' is_joined=''
   local -a words=()
@@ -50,7 +50,7 @@ _hookhost_command() {
     forget) options=(-h --help) valued=() filed=() most=0 ;;
     *) return ;;
   esac
-  # An option is proposed once, and behind -- each word is a value.
+  # An option is proposed once, and after -- each word is a value.
   local given=0 is_ended='' pending='' word
   for word in "${words[@]:1:${#words[@]}-2}"; do
     if [[ $pending ]]; then
@@ -113,7 +113,7 @@ _hookhost_propose() {
   [[ ${#COMPREPLY[@]} != 1 || ${COMPREPLY[0]} != *= ]] || compopt -o nospace 2> /dev/null
 }
 
-# Proposes the files whose paths begin so, behind the second word. Readline puts quotes around a path that needs them.
+# Proposes the files whose paths begin so, after the second word. Readline puts quotes around a path that needs them.
 _hookhost_propose_paths() {
   local path=$1 head=$2
   case $path in

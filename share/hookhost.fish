@@ -7,7 +7,7 @@ function __hookhost_is
     test (count $words) -gt 1; and test "$words[2]" = $argv[1]
 end
 
-# Whether the command is this one, and fewer values than so many, or any, stand behind it so far.
+# Whether the command is this one, and it has fewer values than so many so far, or takes any number.
 function __hookhost_takes
     __hookhost_is $argv[1]; or return
     set -l words (commandline -opc)
@@ -44,8 +44,8 @@ complete -c hookhost -n __fish_is_first_token -a accept -d 'Applies the fixes to
 complete -c hookhost -n __fish_is_first_token -a commit -d 'Commits the staged files, through the hooks of a commit'
 complete -c hookhost -n __fish_is_first_token -a log -d 'Prints the commits, the newest first'
 complete -c hookhost -n __fish_is_first_token -a show -d 'Prints a commit\'s message and its paths'
-complete -c hookhost -n __fish_is_first_token -a memory -d 'Prints how many answers of hooks\' commands are remembered, or limits them'
-complete -c hookhost -n __fish_is_first_token -a forget -d 'Forgets the remembered answers, and prints how many there were'
+complete -c hookhost -n __fish_is_first_token -a memory -d 'Prints how many results of hooks\' commands are cached, or limits them'
+complete -c hookhost -n __fish_is_first_token -a forget -d 'Drops all cached results, and prints how many there were'
 complete -c hookhost -n '__fish_is_first_token; and not __fish_contains_opt -s h help' -s h -l help -d 'Print help'
 complete -c hookhost -n '__fish_is_first_token; and not __fish_contains_opt -s V version' -s V -l version -d 'Print version'
 complete -c hookhost -n '__hookhost_is init; and not __fish_contains_opt -s h help' -s h -l help -d 'Print help'
@@ -69,16 +69,16 @@ complete -c hookhost -n '__hookhost_is cat; and not __fish_contains_opt -s h hel
 complete -c hookhost -n '__hookhost_takes cat 1' -F
 complete -c hookhost -n '__hookhost_is run; and not __fish_contains_opt all-files' -l all-files -d 'Takes all staged files, not only those that differ from the last commit'
 complete -c hookhost -n '__hookhost_is run' -l hook-stage -x -a 'pre-commit manual' -d 'The stage whose hooks are run, pre-commit or manual; without it pre-commit'
-complete -c hookhost -n '__hookhost_is run; and not __fish_contains_opt fresh' -l fresh -d 'Starts every command, also where its answer is remembered'
+complete -c hookhost -n '__hookhost_is run; and not __fish_contains_opt fresh' -l fresh -d 'Starts every command, also if its result is cached'
 complete -c hookhost -n '__hookhost_is run; and not __fish_contains_opt cautious' -l cautious -d 'Counts every file as seen by a hook that doesn\'t say which, and takes no failure from the cache'
-complete -c hookhost -n '__hookhost_is run; and not __fish_contains_opt verbose' -l verbose -d 'Prints the output of every hook, and how many answers came from the cache'
+complete -c hookhost -n '__hookhost_is run; and not __fish_contains_opt verbose' -l verbose -d 'Prints the output of every hook, and how many results came from the cache'
 complete -c hookhost -n '__hookhost_is run' -l color -x -a 'auto always never' -d 'Colors how hooks ended: always, never, or auto, at a terminal; without it auto'
 complete -c hookhost -n '__hookhost_is run; and not __fish_contains_opt -s h help' -s h -l help -d 'Print help'
 complete -c hookhost -n '__hookhost_is run-files' -l only -x -d 'The id or alias of the hooks to run; without it all of the stage'
 complete -c hookhost -n '__hookhost_is run-files' -l hook-stage -x -a 'pre-commit manual' -d 'The stage whose hooks are run, pre-commit or manual; without it pre-commit'
-complete -c hookhost -n '__hookhost_is run-files; and not __fish_contains_opt fresh' -l fresh -d 'Starts every command, also where its answer is remembered'
+complete -c hookhost -n '__hookhost_is run-files; and not __fish_contains_opt fresh' -l fresh -d 'Starts every command, also if its result is cached'
 complete -c hookhost -n '__hookhost_is run-files; and not __fish_contains_opt cautious' -l cautious -d 'Counts every file as seen by a hook that doesn\'t say which, and takes no failure from the cache'
-complete -c hookhost -n '__hookhost_is run-files; and not __fish_contains_opt verbose' -l verbose -d 'Prints the output of every hook, and how many answers came from the cache'
+complete -c hookhost -n '__hookhost_is run-files; and not __fish_contains_opt verbose' -l verbose -d 'Prints the output of every hook, and how many results came from the cache'
 complete -c hookhost -n '__hookhost_is run-files' -l color -x -a 'auto always never' -d 'Colors how hooks ended: always, never, or auto, at a terminal; without it auto'
 complete -c hookhost -n '__hookhost_is run-files' -l paths-from -r -F -d 'A file of paths, each ended by a NUL byte; - is standard input'
 complete -c hookhost -n '__hookhost_is run-files; and not __fish_contains_opt -s h help' -s h -l help -d 'Print help'
@@ -91,6 +91,6 @@ complete -c hookhost -n '__hookhost_is commit' -s m -x -d 'The message, which ho
 complete -c hookhost -n '__hookhost_is commit; and not __fish_contains_opt -s h help' -s h -l help -d 'Print help'
 complete -c hookhost -n '__hookhost_is log; and not __fish_contains_opt -s h help' -s h -l help -d 'Print help'
 complete -c hookhost -n '__hookhost_is show; and not __fish_contains_opt -s h help' -s h -l help -d 'Print help'
-complete -c hookhost -n '__hookhost_is memory' -l limit -x -d 'Remembers at most so many answers from now on: from 1 to 100000'
+complete -c hookhost -n '__hookhost_is memory' -l limit -x -d 'Keeps at most so many cached results from now on: from 1 to 100000'
 complete -c hookhost -n '__hookhost_is memory; and not __fish_contains_opt -s h help' -s h -l help -d 'Print help'
 complete -c hookhost -n '__hookhost_is forget; and not __fish_contains_opt -s h help' -s h -l help -d 'Print help'

@@ -1,16 +1,16 @@
 #!/usr/bin/env python3
-"""Writes the completions for bash, zsh and fish and the manual page in this folder, from what the program's own help prints, and
-the completions of hookhost-reads, from what that prints.
+"""Writes the completions for bash, zsh and fish and the manual page in this folder from the help that the program prints. Also writes
+the completions of hookhost-reads from its help.
 
 Usage: share/make.py [PROGRAM]           writes hookhost.bash, _hookhost, hookhost.fish and hookhost.1, and hookhost-reads.bash,
                                          _hookhost-reads and hookhost-reads.fish; without PROGRAM these three alone
        share/make.py [PROGRAM] --check   compares them with what it would write, and fails with the first difference
 
-The commands, their options and values, and all that is said of them, are read from `hookhost --help` and `hookhost COMMAND
---help`. Which words an option takes the program tells where it is given an empty one. A line of help that nothing here knows
-how to read is an error, so that none is left out. What the manual page says of files and of the environment are sentences of
-docs/REFERENCE.md and docs/DECISIONS.md, and a few words of its own. hookhost-reads has no commands, and an option of it may take
-several words; what is said of an option is the beginning of what its help says.
+The commands, their options and values, and their descriptions are read from `hookhost --help` and `hookhost COMMAND --help`. Which
+words an option takes is found by giving it an empty one: the error lists them. A line of help that this script can't read is an
+error, so that none is left out. What the manual page says of files and of the environment are sentences of docs/REFERENCE.md and
+docs/DECISIONS.md, and texts of its own. hookhost-reads has no commands, and an option of it may take several words; the description
+of its options is the beginning of their help.
 """
 import os
 import re
@@ -22,11 +22,11 @@ from dataclasses import dataclass, field
 HERE = os.path.dirname(os.path.abspath(__file__))
 TOP = os.path.dirname(HERE)
 READS = os.path.join(TOP, "git", "hookhost-reads")
-# The day on which the page's own texts were last looked over.
+# The day on which the page's own texts were last checked.
 DATE = "2026-11-29"
-# The arguments and the values that name files of the folder; for every other one nothing can be proposed.
+# The arguments and values that name files of the folder. For all others nothing can be proposed.
 PATHS = ["CONFIG", "PATH", "FILE"]
-# What the page says of files and of the environment: how the sentences begin that say it, or words of its own.
+# What the page says of files and of the environment: the beginnings of sentences of the documents, or a text of its own.
 FILES = [
     (".pre-commit-config.yaml", "The configuration. try reads the file that it is given and check the one of the current folder; \
 run, run-files and commit read the staged one."),
@@ -34,7 +34,7 @@ run, run-files and commit read the staged one."),
     (".hookhost/store.db-wal", ["SQLite's log lies beside it, "]),
     (".hookhost/lock", ["'hookhost: cannot use .hookhost/lock' says "]),
     (".git/info/exclude", "In a checkout of Git the line .hookhost/ of this file keeps the repository out of Git. init adds it, and so does a later \
-command that changes something, where it is missing. A .hookhost/.gitignore that an earlier hookhost wrote is removed then."),
+command that changes something, if it is missing. A .hookhost/.gitignore that an earlier hookhost wrote is removed then."),
     (".hookhost/scratch", ["Each command runs in ", "A copy is executable ", "The folder is made for the first command"]),
     (".hookhost/scratch.run", ["While a run has commands under way, "]),
     (".hookhost/scratch.1", ["A run that finds it in use, "]),
@@ -43,29 +43,29 @@ command that changes something, where it is missing. A .hookhost/.gitignore that
 ENVIRONMENT = [
     ("SKIP", ["`run`, `run-files` and `commit` skip the hooks "]),
     ("PATH", ["Standard input is empty, the environment is ", "A program word without a `/` is looked for along "]),
-    ("COLUMNS", "Where standard error is a terminal, it shows a line for the command of a hook that is running, cut to so many \
-columns, else to 80."),
+    ("COLUMNS", "If standard error is a terminal, it shows a line for the command of a hook that is running, cut to so many \
+columns, by default 80."),
     ("TERM", ["With `TERM=dumb`, "]),
-    ("PRE_COMMIT_COLOR", "always or never: whether a report has colors. Else it has, where standard output is a terminal, TERM isn't dumb and NO_COLOR isn't set."),
+    ("PRE_COMMIT_COLOR", "always or never: whether a report has colors. Without it a report has colors if standard output is a terminal, TERM isn't dumb and NO_COLOR isn't set."),
     ("NO_COLOR", "any text: no report has colors, unless PRE_COMMIT_COLOR is always."),
-    ("HOOKHOST_TOP", "hookhost-git sets it to the top of the working tree, for hooks. Where it is set, no hint is given."),
-    ("HOOKHOST_LINKS", "names with colons between, as .venv:node_modules. The commands of hooks find a link of each name to what stands under it \
-in the folder of HOOKHOST_TOP, else in the current folder, but where a file of the run has the name. hookhost-git sets it to the names of hookhost.link."),
+    ("HOOKHOST_TOP", "hookhost-git sets it to the top of the working tree, for hooks. If it is set, no hint is given."),
+    ("HOOKHOST_LINKS", "names with colons between, as .venv:node_modules. The commands of hooks find a link of each name to the file or folder of that \
+name in HOOKHOST_TOP, or without that in the current folder, unless a file of the run has the name. hookhost-git sets it to the names of hookhost.link."),
     ("HOOKHOST_SCRATCH", "hookhost-git sets it to the folder in which the commands of hooks run, in place of .hookhost/scratch."),
     ("HOOKHOST_GIT_CALLS", "hookhost-git sets it to a file in which its own git notes calls that found no repository. A command that made one has \
-given no answer: it is told as a fault, and never remembered."),
+no result: it is reported as a fault, and never cached."),
 ]
 SEE_ALSO = ["git(1)", "githooks(5)", "hookhost-git(1)", "sqlite3(1)"]
-FURTHER = "https://pre-commit.com describes the configuration. What hookhost takes, prints and refuses stands, to the byte, in \
-docs/REFERENCE.md of its repository."
+FURTHER = "https://pre-commit.com describes the configuration. docs/REFERENCE.md of hookhost's repository says, to the byte, what it takes, \
+prints and refuses."
 
 
 # ---- what the program says
 
 @dataclass
 class Option:
-    """An option: its names, the name of its value (empty where it has none), what is said of it, and the words that it takes. Then
-    whether all words up to the next option are its values, and the names of options that can't stand with it."""
+    """An option: its names, the name of its value (empty if it has none), its description, and the words that it takes. Then whether
+    all words up to the next option are its values, and the names of options that can't be given with it."""
     names: list
     value: str
     text: str
@@ -76,7 +76,7 @@ class Option:
 
 @dataclass
 class Argument:
-    """An argument: its name, whether it may be given again, and what is said of it."""
+    """An argument: its name, whether it may be given again, and its description."""
     name: str
     is_many: bool
     text: str
@@ -84,7 +84,7 @@ class Argument:
 
 @dataclass
 class Help:
-    """What the help of the program or of a command says. The blocks are its texts, as they are parted by empty lines."""
+    """The help of the program or of a command. The blocks are its texts between empty lines."""
     about: str
     usage: str
     commands: list
@@ -101,7 +101,7 @@ def answer(program, *words):
 
 
 def table(block):
-    """The rows of a table of the help below its head: what is named, and what is said of it."""
+    """The rows of a table of the help below its head: a name and its description."""
     _, *lines = block.splitlines()
     rows = [re.fullmatch(r" +(\S.*?) {2,}(\S.*)", line) for line in lines]
     if not all(rows):
@@ -130,8 +130,7 @@ def help_of(program, *command):
 
 
 def words_of(program, command, option, others):
-    """The words that an option takes, as the program tells if it is given an empty one and all else that it needs; none if it takes
-    any."""
+    """The words that an option takes, as the error for an empty one lists them; none if it takes any. `others` are the required words."""
     said = re.search(r": only (.*) (?:is|are) allowed\n", answer(program, *command, option, "", *others))
     return re.split(r", | and ", said[1]) if said else []
 
@@ -155,7 +154,7 @@ def help_of_reads():
 
 
 def completed(option):
-    """How the names of an option are proposed: with `=` behind a long one that takes one value."""
+    """How the names of an option are proposed: with `=` after a long one that takes one value."""
     return [name + "=" if option.value and not option.is_many and name.startswith("--") else name for name in option.names]
 
 
@@ -176,7 +175,7 @@ def takes_paths(arguments):
 
 # ---- bash
 
-# The words of the line, as what follows finds them: the last is that at the cursor.
+# The words of the line, for what follows. The last is that at the cursor.
 BASH_JOINED = r"""  local IFS=$' \t\n' at piece parted='' is_joined=''
   local -a words=()
   COMPREPLY=()
@@ -214,7 +213,7 @@ BASH_HELPERS = r"""# Leaves an option out of those that are proposed.
   [[ ${#COMPREPLY[@]} != 1 || ${COMPREPLY[0]} != *= ]] || compopt -o nospace 2> /dev/null
 }
 
-# Proposes the files whose paths begin so, behind the second word. Readline puts quotes around a path that needs them.
+# Proposes the files whose paths begin so, after the second word. Readline puts quotes around a path that needs them.
 %SELF%_propose_paths() {
   local path=$1 head=$2
   case $path in
@@ -231,7 +230,7 @@ BASH_HELPERS = r"""# Leaves an option out of those that are proposed.
 BASH = r"""# Completion of hookhost in bash, made by share/make.py from what the program's help prints. To use it, in ~/.bashrc:
 #   source FOLDER/hookhost.bash
 
-# Puts what may stand at the cursor into COMPREPLY.
+# Puts what can follow at the cursor into COMPREPLY.
 _hookhost() {
 %JOINED%
   case ${#words[@]},${words[0]} in
@@ -250,7 +249,7 @@ _hookhost_command() {
 %CASES%
     *) return ;;
   esac
-  # An option is proposed once, and behind -- each word is a value.
+  # An option is proposed once, and after -- each word is a value.
   local given=0 is_ended='' pending='' word
   for word in "${words[@]:1:${#words[@]}-2}"; do
     if [[ $pending ]]; then
@@ -320,10 +319,10 @@ def bash_of(program, commands):
 BASH_OF_READS = r"""# Completion of hookhost-reads in bash, made by share/make.py from what its help prints. To use it, in ~/.bashrc:
 #   source FOLDER/hookhost-reads.bash
 
-# Puts what may stand at the cursor into COMPREPLY.
+# Puts what can follow at the cursor into COMPREPLY.
 _hookhost_reads() {
 %JOINED%
-  # The last option decides what follows it. An option is proposed once, and none that can't stand with one before it.
+  # The last option decides what follows it. An option is proposed once, and none that can't be given with an earlier one.
   local -a options=(%OPTIONS%) taken
   local last='' is_ended='' word each
   for word in "${words[@]:0:${#words[@]}-1}"; do
@@ -375,7 +374,7 @@ def filled(text, parts):
 
 ZSH = r"""#compdef hookhost
 # Completion of hookhost in zsh, made by share/make.py from what the program's help prints. To use it, put this file into a
-# folder of $fpath, as /usr/local/share/zsh/site-functions, and begin zsh anew.
+# folder of $fpath, as /usr/local/share/zsh/site-functions, and start zsh again.
 
 local curcontext=$curcontext state state_descr line
 local -a commands
@@ -409,7 +408,7 @@ def zsh_quoted(text):
 
 
 def zsh_option(option):
-    """An option as _arguments of zsh takes it. With --help or --version nothing else stands."""
+    """An option as _arguments of zsh takes it. With --help or --version nothing else is proposed."""
     told = "[" + re.sub(r"([\[\]:\\])", r"\\\1", option.text) + "]"
     without = f"({' '.join(option.rivals)})" if option.rivals else ""
     if {"--help", "--version"} & {*option.names}:
@@ -466,7 +465,7 @@ function __hookhost_is
     test (count $words) -gt 1; and test "$words[2]" = $argv[1]
 end
 
-# Whether the command is this one, and fewer values than so many, or any, stand behind it so far.
+# Whether the command is this one, and it has fewer values than so many so far, or takes any number.
 function __hookhost_takes
     __hookhost_is $argv[1]; or return
     set -l words (commandline -opc)
@@ -498,7 +497,7 @@ def fish_quoted(text):
 
 
 def fish_option(command, conditions, option):
-    """An option. One without a value is proposed once; fish asks for the words of another behind it, but not for many."""
+    """An option. One without a value is proposed once. After another fish asks for its word, but not for many words."""
     bare, rivals = ([name.lstrip("-") for name in names] for names in (option.names, option.rivals))
     given = " ".join(("-s " if len(name) == 1 else "") + name for name in bare + rivals)
     names = " ".join(("-s " if len(name) == 1 else "-l ") + name for name in bare)
@@ -550,7 +549,7 @@ def fish_of_reads(told):
 # ---- the manual page
 
 def escaped(text):
-    """A text as roff takes it, to the letter."""
+    """A text in the form in which roff prints it unchanged."""
     names = {"\\": "e", "-": "-", "'": "(aq", "`": "(ga", "^": "(ha", "~": "(ti", '"': "(dq"}
     return re.sub(r"^\.", r"\\&.", re.sub(r"[-\\'`^~\"]", lambda it: "\\" + names[it[0]], text), flags=re.MULTILINE)
 
@@ -586,7 +585,7 @@ def statuses(lines):
 
 
 def page_block(block):
-    """A text of the help: an example, the exit statuses, or a paragraph with refusals behind it."""
+    """A text of the help: an example, the exit statuses, or a paragraph, maybe followed by refusals."""
     head, *lines = block.splitlines()
     if head in ("Example:", "Examples:"):
         return example(head, lines)
@@ -606,14 +605,14 @@ def is_of_refusals(block):
 
 
 def page_command(told, shared):
-    """What the help of a command says, but for the texts on refusals that others have too."""
+    """What the help of a command says, without the texts on refusals that other commands have too."""
     lines = [f".SS {marked(told.usage)}", escaped(told.about + ".")]
     for argument in told.arguments:
         lines += item(f"\\fI{argument.name}\\fR", argument.text)
     for option in told.options:
         names = ", ".join(f"\\fB{escaped(it)}\\fR" for it in option.names)
         lines += item(names + (f" \\fI{option.value}\\fR" if option.value else ""), option.text)
-    pointer = paragraph("What other commands refuse too stands under DIAGNOSTICS.")
+    pointer = paragraph("Refusals that other commands have too are under DIAGNOSTICS.")
     for block in told.blocks:
         if block not in shared:
             lines += page_block(block)
@@ -623,7 +622,7 @@ def page_command(told, shared):
 
 
 def shared_refusals(commands):
-    """The texts on refusals that the help of several commands has, with these."""
+    """The texts on refusals that the help of several commands has, with the names of these."""
     found = {}
     for name, told in commands.items():
         for block in filter(is_of_refusals, told.blocks):
@@ -632,7 +631,7 @@ def shared_refusals(commands):
 
 
 def sentence(texts, beginning):
-    """The sentence that begins so, without the marks of its document."""
+    """The sentence that begins so, without the markup of its document."""
     found = re.search(re.escape(beginning).replace(r"\ ", r"\s") + r".*?\.(?=\s|$)", texts, re.DOTALL)
     if not found:
         sys.exit(f"share/make.py: no sentence begins with {beginning!r}")
@@ -640,7 +639,7 @@ def sentence(texts, beginning):
 
 
 def told_of(texts, rows):
-    """A list of what is said of files or variables."""
+    """A list of files or variables with what the page says of each."""
     said = [(name, told if isinstance(told, str) else " ".join(sentence(texts, it) for it in told)) for name, told in rows]
     return [line for name, text in said for line in item(f".B {escaped(name)}", text)]
 
@@ -657,7 +656,7 @@ def page_of(program, commands):
         ".SH SYNOPSIS", ".nf", *map(marked, usages), ".fi",
         ".SH DESCRIPTION", *[line for block in program.blocks if block != ends for line in page_block(block)][1:],
         ".SH COMMANDS", *(line for told in commands.values() for line in page_command(told, shared)),
-        ".SH DIAGNOSTICS", "What several commands refuse stands here; what one refuses stands with it, above.",
+        ".SH DIAGNOSTICS", "These are the refusals of several commands. Those of one command are above, with it.",
         *(line for block, names in shared.items() for line in [".PP", f".B {escaped(', '.join(names))}", *page_block(block)]),
         ".SH EXIT STATUS", *statuses(ends.splitlines()[1:]),
         ".SH FILES", *told_of(texts, FILES),
@@ -674,7 +673,7 @@ def read(*path):
 
 
 def difference(name, wanted):
-    """The first line in which a file of this folder isn't as it would be made, or None."""
+    """The first line in which a file of this folder differs from what would be written, or None."""
     path = os.path.join(HERE, name)
     if not os.path.isfile(path):
         return f"there is no share/{name}"
@@ -687,7 +686,7 @@ def difference(name, wanted):
 
 
 def of_program(path):
-    """The files that are made of the program's help, with what each has to hold."""
+    """The files that are made from the program's help, with what each has to hold."""
     if not os.access(path, os.X_OK):
         sys.exit(f"share/make.py: there is no program {path}")
     program = help_of(path)
@@ -697,7 +696,7 @@ def of_program(path):
 
 
 def of_reads():
-    """The files that are made of the help of hookhost-reads, with what each has to hold."""
+    """The files that are made from the help of hookhost-reads, with what each has to hold."""
     told = help_of_reads()
     return {"hookhost-reads.bash": bash_of_reads(told), "_hookhost-reads": zsh_of_reads(told), "hookhost-reads.fish": fish_of_reads(told)}
 
@@ -715,7 +714,7 @@ def main():
             with open(os.path.join(HERE, name), "w", encoding="utf-8") as file:
                 file.write(wanted)
         elif wrong := difference(name, wanted):
-            sys.exit(f"share/make.py: {wrong}; `python3 share/make.py PROGRAM` makes it anew")
+            sys.exit(f"share/make.py: {wrong}; `python3 share/make.py PROGRAM` makes it again")
     print(f"share: {len(made)} files {'are as they are made' if is_check else 'written'}")
 
 

@@ -1,9 +1,9 @@
 #!/usr/bin/env python3
-"""Plays lines of `rt ci` to the demo's counting of proved crates, demo/count_proved, and compares what it says; and looks that
-what the demo cuts off the program for its trial, by demo/try_alone.sed, stands there.
+"""Checks demo/count_proved: gives it lines of `rt ci`, and compares what it prints. Also checks that the program has what
+demo/try_alone.sed cuts from it for the trial.
 
-The lines stand in tests/demo_lines.txt as rt prints them: crates that are proved, kept from an earlier run, and not proved;
-tests that are proved beside their crate, or not; edits and programs. Each crate that is proved or kept counts once.
+tests/demo_lines.txt has the lines as rt prints them. They are of crates that are proved, kept from an earlier run, or not proved; of
+tests that are proved or not; of edits and of programs. Each crate that is proved or kept counts once.
 """
 import os
 import re
@@ -16,7 +16,7 @@ from places import TOP
 COUNT = os.path.join(TOP, "demo", "count_proved")
 # The calls of the program by which it reaches the repository.
 CUT = ["look_up(", "change(", "init("]
-# What is asked for, and the crates that the lines show as proved or kept, in their order.
+# The crates that are named, and those that the lines show as proved or kept, in their order.
 CASES = [
     ("hook_base child_port lazy_disk yaml_lines yaml_flows hookhost", "hook_base child_port lazy_disk hookhost"),
     ("hookhost lazy_disk child_port hook_base", "hook_base child_port lazy_disk hookhost"),
@@ -26,7 +26,7 @@ CASES = [
 
 
 def said(names, lines):
-    """What the counting says of the lines, without the minutes."""
+    """What demo/count_proved prints for the lines, without the minutes."""
     done = subprocess.run([COUNT, *names], input=lines, stdout=subprocess.PIPE, check=True)
     return re.sub(r" \(after \d+ minutes\)$", "", done.stdout.decode(), flags=re.MULTILINE)
 
@@ -46,7 +46,7 @@ def main():
     for asked, proved in CASES:
         names = asked.split()
         wanted = "".join(f"{at} of {len(names)} crates proved: {name}\n" for at, name in enumerate(proved.split(), 1))
-        # What rt says twice counts once all the same.
+        # A crate that rt reports twice counts once.
         for given in [lines, lines + lines]:
             if (told := said(names, given)) != wanted:
                 failed += 1

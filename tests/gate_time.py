@@ -1,19 +1,19 @@
 #!/usr/bin/env python3
-"""Runs the parts of tests/run or tests/prove, up to the first that fails, and prints what each said last and where the time went.
+"""Runs the parts of tests/run or tests/prove, up to the first that fails, and prints the last line of each and the time that it took.
 
 Usage: tests/gate_time.py --name=NAME --budget=N --programs=COMMAND [--in=FOLDER] FILE
 
-FILE has a command a line, and comments. Those before the line `--` run in turn. Then COMMAND makes the programs, and says of
-each when it is there. A line after `--` names the programs that its command plays, and then the command. These run side by side,
-begun in this order, each once its programs are there: one a processor, and further ones while a processor is idle. As long as
-COMMAND runs, one is begun if a processor is idle. What each prints is shown once it has ended. All of these run in FOLDER. N is
-how many processor minutes all may take; more are told. The last line, `N passed, M failed`, counts the cases of all scripts:
-each ends with a line that counts its own.
+FILE has a command on each line, and comments. Those before the line `--` run in turn. Then COMMAND makes the programs, and prints
+when each is made. A line after `--` names the programs that its command runs, and then the command. These run side by side and are
+begun in this order, each once its programs are made: one for each processor, and more while a processor is idle. While COMMAND
+runs, one is begun if a processor is idle. The output of each is shown once it has ended. All of these run in FOLDER. N is how many
+processor minutes all may take; the summary says so if it is more. The last line, `N passed, M failed`, counts the cases of all
+scripts: each ends with a line that counts its own.
 
-A part's processor time is what the system counts for it and for all that it started. Where it is the checker's, the processes
-below it are looked at twice a second, and their time goes to the crate that their command line or folder names: to its
-proofs, to its must-fail edits, or to its program (built and run). What a process took after the last look at it, and what
-names no crate, is the part's own.
+A part's processor time is what the system counts for it and for all that it started. If it is the checker's, the processes below it
+are looked at twice a second. Their time is counted for the crate that their command line or folder names: for its proofs, its
+must-fail edits, or its program (built and run). The time of a process after its last look, and of one that names no crate, is
+counted for the part itself.
 """
 import argparse
 import os
@@ -30,12 +30,12 @@ PAUSE, IDLE_SECONDS = 0.5, 5
 START = time.monotonic()
 TICKS = os.sysconf("SC_CLK_TCK")
 PHASES = ["proofs", "edits", "program"]
-# What the checker, or what builds programs without proofs, says of a program that is there.
+# What the checker, or tests/trial_programs.py, prints of a program that is made.
 MADE = re.compile(rb"(?:rt: )?(\w+)(?: proved|: the proved program|: built without proofs .*)\n")
 
 
 def processes():
-    """Each process that runs: its parent, when it began, and the seconds of processor time that it took by itself."""
+    """Each running process: its parent, when it began, and the seconds of processor time that it took itself."""
     found = {}
     for name in filter(str.isdigit, os.listdir("/proc")):
         try:
@@ -95,7 +95,7 @@ class Watch:
                     self.took[process, began] = known[-1], took
 
     def work_at(self, process, began):
-        """What the process works for. It is asked anew until it is known, since a command begins as what starts it."""
+        """What the process works for. It is asked again until it is known, since a command begins as a copy of what starts it."""
         if not self.works.get((process, began)):
             self.works[process, began] = work_of(process)
         return self.works[process, began]
@@ -111,8 +111,8 @@ class Watch:
 
 
 class Part:
-    """A part of the gate: its command, the programs that it plays, and once it ran its status, its last line, its seconds, and
-    those of processors."""
+    """A part of the gate: its command and the programs that it runs. Once it ran: its status, its last line, its seconds, and those of
+    processors."""
 
     def __init__(self, name, folder=".", programs=()):
         self.name, self.folder, self.programs = name, folder, frozenset(programs)
@@ -136,7 +136,7 @@ class Part:
         self.status, self.took, self.seconds = command.returncode, time.monotonic() - start, used.ru_utime + used.ru_stime
 
     def cases(self):
-        """How many cases its last line says that passed and failed. One that fails before it counts them is one that failed."""
+        """How many cases passed and failed by its last line. A part that fails without such a line counts as one that failed."""
         counts = re.search(r"(\d+) passed, (\d+) failed$", self.said) if not self.name.startswith("rt ") else None
         passed, failed = map(int, counts.groups()) if counts else (0, 0)
         return passed, failed or int(bool(self.status))
@@ -148,12 +148,12 @@ def show(line):
 
 
 def minutes():
-    """How long the gate has been running, so that a run that was cut off tells how far it came by when."""
+    """How long the gate has been running. So the lines of a run that was cut off show the time at which it came to each."""
     return f"{(time.monotonic() - START) / 60:.1f} minutes"
 
 
 def with_time(line):
-    """A line of the checker, which begins what it says of a crate by two signs, with the time."""
+    """A line of the checker, with the time if it is the first one on a crate."""
     return b"after " + minutes().encode() + b": " + line if line.startswith(b"== ") else line
 
 
@@ -186,7 +186,7 @@ class Idleness:
         return sum(int(words[4]) + int(words[5]) for words in lines if words[0] in ours) / TICKS
 
     def is_there(self):
-        """Says so after each stretch of time, and then begins the next one."""
+        """Whether one has been idle since the last time. It is asked at most every IDLE_SECONDS seconds."""
         passed = time.monotonic() - self.since
         if passed < IDLE_SECONDS:
             return False
@@ -203,7 +203,7 @@ class SideBySide:
         self.made, self.printing, self.idleness = set(), threading.Lock(), Idleness()
 
     def run(self):
-        """Runs all, up to the first that fails: those that run then go on to their end."""
+        """Runs all, up to the first that fails. Those that run at that time go on to their end."""
         making = threading.Thread(target=self.make)
         making.start()
         while making.is_alive() or self.running or self.left:
@@ -238,9 +238,9 @@ class SideBySide:
         return any(part.status for part in [self.maker, *self.scripts])
 
     def next(self, is_making):
-        """The script that is to be begun now, if any."""
+        """The script to begin now, if any."""
         processors = len(os.sched_getaffinity(0))
-        # A script whose program never comes is begun in the end, and fails.
+        # A script whose program was not made is started at the end, and fails.
         ready = [part for part in self.left if not is_making or part.programs <= self.made]
         is_free = not is_making and len(self.running) < processors or len(self.running) < 2 * processors and self.idleness.is_there()
         return ready[0] if ready and is_free else None

@@ -1,23 +1,22 @@
 #!/usr/bin/env python3
-"""Compares docs/REFERENCE.md with the code: each refusal's number and name, what `--help` says of it, each limit, the words of
-a configuration, and each row of the tables of tags; and docs/DEFINITIONS.md with the definitions.
+"""Compares docs/REFERENCE.md with the code, and docs/DEFINITIONS.md with the definitions. Of the reference it compares each refusal's
+number and name, what `--help` says of it, each limit, the words of a configuration, and each row of the tables of tags.
 
-Usage: tests/reference.py [FOLDER]   (default: the repository that this file stands in)
+Usage: tests/reference.py [FOLDER]   (default: the repository that this file lies in)
 
-An enum whose `number` tells its variants apart is a kind of refusal. Its variants' numbers and names (those of `name`, and
-where there is none the variants' own) have to be the rows of one table of the reference whose first column is `number`, and
-each such table has to be of one enum. HELP says which enum's table the help of a command prints: a line of number, name and
-when, and below it one of what to do, in the words of the reference without its backticks. The help of each command on a repository
-prints the rows that name the command in the tables whose first column is `printed`. The help of the program prints the table
-of the exit statuses. No line of help is wider than 84 columns. A limit is a definition `most_.. = NUMBER` in a crate's specs/;
-LIMITS says where the reference's table "Limits" names each of them, and every number of that table has to be a limit. The keys,
-stages, languages and truths of the section on the configuration have to be those of hook_config's specs/.
+An enum whose method `number` gives each variant its own number is a kind of refusal. Its variants' numbers and names (those of
+`name`, or without it the variants' own) have to be the rows of one table of the reference whose first column is `number`. Each such
+table has to be of one enum. HELP says which enum's table the help of a command prints: a line of number, name and when, and below
+it one of what to do, in the words of the reference without its backticks. The help of each command on a repository prints the rows
+that name the command in the tables whose first column is `printed`. The help of the program prints the table of the exit statuses.
+No line of help is wider than 84 columns. A limit is a definition `most_.. = NUMBER` in a crate's specs/. LIMITS says where the
+reference's table "Limits" names each of them, and every number of that table has to be a limit. The keys, stages, languages and
+truths of the section on the configuration have to be those of hook_config's specs/.
 
-A table of the definitions whose first columns are `word` and `file` is of the crates that its section's heading names: each
-word is defined in one of these files of their specs/, or is a type of the code that such a file uses. The laws of a table are
-those of the crates that it names, all of them. Each file of specs/, but for Lib.antt and the lemmas, stands in a table of its
-crate's sections; one that says in its first lines that it is for private functions or for laws alone may be named in their text
-instead.
+A table of the definitions whose first columns are `word` and `file` is of the crates that its section's heading names. Each word is
+defined in one of these files of their specs/, or is a type of the code that such a file uses. A table of laws has all laws of the
+crates that it names. Each file of specs/, except Lib.antt and the lemmas, is in a table of its crate's sections. If a file says in
+its first lines that it is for private functions or for laws alone, it may be named in their text instead.
 """
 import os
 import re
@@ -27,8 +26,8 @@ sys.path.insert(0, os.path.abspath(f"{__file__}/../shared"))
 import places
 
 TOP = os.path.abspath(sys.argv[1] if len(sys.argv) > 1 else places.TOP)
-# The row of the table, the words in it with {} for the number, and the limit: its crate, its name, and how much the words
-# say more than it.
+# The row of the table, the words in it with {} for the number, and the limit. A limit is its crate, its name, and by how much the number
+# in the words is greater.
 LIMITS = [
     ("configuration", "1 MiB ({} bytes)", "yaml_lines", "most_bytes", 0),
     ("configuration", "a node within at most {} others", "yaml_lines", "most_nodes", -1),
@@ -53,10 +52,10 @@ LIMITS = [
 HELP = {"TRY_HELP": "TryFault", "CHECK_HELP": "ConfigKind"}
 # The documents that name the logic in which the program is proved, as `--version` prints it.
 OF_THE_LOGIC = [("README.md",), ("docs", "PROMISES.md")]
-# The refusals of which the reference says what to do for a library's caller; the help says it in the words of the commands.
+# The refusals for which the reference also says what a library's caller does. The help says what a user of the commands does.
 LIBRARIES = ["StoreFault", "HostRefusal"]
-# The constants of command_line with the help of the commands on a repository, and the enums of what these refuse: those of the
-# store when it is opened, and then their own.
+# The constants of command_line with the help of the commands on a repository, and the enums of their refusals: those of opening
+# the store, and then their own.
 REPOSITORY_HELP = {
     "init": "INIT_HELP",
     "add": "ADD_HELP",
@@ -96,7 +95,7 @@ def sources(part, ending):
 
 
 def arms(body, function, value):
-    """What the arms of a method's match give, by the variant."""
+    """The values of the arms of a method's match, by the variant."""
     found = re.search(rf"\n    (?:pub(?:\(crate\))? )?fn {function}\(&self\).*?\n    \}}\n", body, re.DOTALL)
     return dict(re.findall(rf"\w+::(\w+)(?:\([^)]*\)| \{{[^}}]*\}})? => {value},", found[0])) if found else {}
 
@@ -119,7 +118,7 @@ def tables(text):
 
 
 def wrong_refusals(reference):
-    """How the numbered tables differ from the enums, each table beside the enum that it is of, or shares most names with."""
+    """How the numbered tables differ from the enums. Each table is compared with its own enum, or the one with which it shares most names."""
     left = refusals_of_code()
     for rows in (rows for rows in tables(reference) if rows[0][0] == "number"):
         told = {int(row[0]): row[1] for row in rows[2:]}
@@ -245,7 +244,7 @@ def wrong_limits(reference):
 
 
 def listed(texts, name):
-    """The words of a list in specs/: what follows `NAME =`, where a key stands for the word of its row."""
+    """The words of a list in specs/: what follows `NAME =`. A key there means the word of its row."""
     body = re.search(rf"^{name} =(.*?)\n(?=\n|\Z)", texts, re.MULTILINE | re.DOTALL)[1]
     for word, key in re.findall(r'codes "([^"]*)"|listed \(?(\w+)', body):
         yield word or re.search(rf'^{key}\b.* = record {{ word = codes "([^"]*)"', texts, re.MULTILINE)[1]
@@ -303,7 +302,7 @@ def wrong_tags(reference):
 
 
 def wrong_tag_words():
-    """How the tags that explain knows differ from those that the tables give and those that each file has."""
+    """How the tags that explain accepts differ from those that the tables give and those that each file has."""
     body = re.search(r"fn tag_words\(\).*?\n}\n", read("crates", "configuration_explain", "src", "known_words.rt"), re.DOTALL)[0]
     known, given = re.findall(r'"([^"]+)"', body), {tag for constant in TAG_TABLES.values() for _, tags in rows_of_code(constant) for tag in tags}
     for tag in {*known} ^ {*given, *TAGS_OF_ALL}:
@@ -312,7 +311,7 @@ def wrong_tag_words():
 
 def defined(text):
     """The words that a file of specs/ defines, and the types of the code that it uses."""
-    # What stands in a block is read as if it stood in none.
+    # The content of a block is read as if it were outside of it.
     text = re.sub(r"^(?:(?:\w+ )*mutual|module .* where)\n((?:(?:  .*)?\n)+)", lambda it: re.sub("^  ", "", it[1], flags=re.MULTILINE), text, flags=re.MULTILINE)
     found = re.findall(r"^(?:\w+ )*pub (?:\w+ )*([^\s:({]+)", text, re.MULTILINE)
     uses = re.findall(r"^use Rattle\.\w+\.specs\.declared\.[^{\n]*\{([^}]*)\}", text, re.MULTILINE)
@@ -320,7 +319,7 @@ def defined(text):
 
 
 def is_aside(path):
-    """Whether a file says in its first lines that nobody but private functions or laws needs it."""
+    """Whether a file says in its first lines that it is only for private functions or laws."""
     head = re.match(r"(?:--.*\n)*", read(path))[0]
     return re.search(r"private (functions|fields)|inner calls|\blaws?\b", head, re.IGNORECASE)
 

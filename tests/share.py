@@ -1,13 +1,13 @@
 #!/usr/bin/env python3
-"""Tries what stands in share/: that it is made of the help of the program and of hookhost-reads, the completions in real shells, and
-the manual page.
+"""Tests the files of share/: that share/make.py makes them from the help of the program and of hookhost-reads, the completions in real
+shells, and the manual page.
 
 Usage: tests/share.py [PROGRAM]   (default: crates/hookhost/out/hookhost)
 
-The files have to be those that share/make.py makes, which has to find a line more in each. Bash is asked what it proposes for
-the lines of CASES and for each command and its options, and so is fish where it is installed; zsh, where it is installed, has to
-read its files. What is proposed the program or hookhost-reads has to take, and of the stages of docs/REFERENCE.md the program may
-take no other. The manual page has to hold each text of the help, and those of man, groff and mandoc that are installed have to read
+The files have to be those that share/make.py makes, and its --check has to find one more line in each. Bash is asked what it
+proposes for the lines of CASES and for each command and its options, and so is fish if it is installed. zsh has to read its files,
+if it is installed. The program or hookhost-reads has to take what is proposed, and of the stages of docs/REFERENCE.md the program
+may take no other. The manual page has to hold each text of the help, and man, groff and mandoc, if they are installed, have to read
 it without a warning.
 """
 import os
@@ -66,8 +66,8 @@ CASES = [
     ("hookhost status R", []),
     ("hookhost nope R", []),
 ]
-# What fish answers otherwise: files with names that are hard to propose, options where a command takes no path any more, and
-# those with a value, which it proposes again.
+# What fish answers differently: files with names that are hard to propose, options if a command takes no more paths, and those with a
+# value, which it proposes again.
 BASH_FILES = ["a=b.md", "c:d.md", "-dash.md"]
 BASH_CASES = [
     ("hookhost add a=", ["a=b.md"]),
@@ -144,21 +144,21 @@ HELP = {name: help_of(name) for name, _ in rows_of(help_of(), "Commands")}
 
 
 def options_of(name):
-    """The options of a command, with `=` behind a long one that takes a value."""
+    """The options of a command, with `=` after a long one that takes a value."""
     for shown, _ in rows_of(HELP[name], "Options"):
         for option in re.findall(r"--?[A-Za-z][a-z-]*", shown):
             yield option + "=" if "<" in shown and option.startswith("--") else option
 
 
 def cases():
-    """The lines whose answers are the same in all shells: those of CASES, and those that the help tells."""
+    """The lines whose answers are the same in all shells: those of CASES, and those that come from the help."""
     yield from CASES
     yield "hookhost ", sorted(HELP)
     for name in HELP:
         yield f"hookhost {name} -", sorted(options_of(name))
 
 
-# ---- the files. Here and below each try is yielded as whether it holds, and what is wrong where it doesn't.
+# ---- the files. Here and below each check is yielded as whether it holds, and what is wrong if it doesn't.
 
 def tried_files():
     """Whether the files are as share/make.py makes them, and whether it finds a line more in each, with a program and without."""
@@ -176,7 +176,7 @@ def tried_files():
 
 
 def tried_readings(readings, wrong_line):
-    """Whether each tool that is installed reads its file without a word, and says something where a wrong line follows."""
+    """Whether each installed tool reads its file without a message, and says something if a wrong line follows."""
     for (tool, *words), name in readings:
         if not shutil.which(tool):
             print(f"share: {tool} isn't installed here and reads nothing")
@@ -201,7 +201,7 @@ def pieces_of(line):
 
 
 def told_by_bash(lines, folder, name="hookhost"):
-    """What bash proposes for each line, as the words that may come of it: it doesn't repeat what it has parted from a word."""
+    """What bash proposes for each line, as the words that result from it: it doesn't repeat what it has parted from a word."""
     function = "_" + name.replace("-", "_")
     script = [f"source {shlex.quote(os.path.join(SHARE, name + '.bash'))}", f"complete -p {name}"]
     for line in lines:
@@ -232,7 +232,7 @@ def lay(folder, paths):
 
 
 def tried_completions(folder):
-    """Whether the shells propose what the rows say. Fish puts a slash behind a folder, and no `=` behind an option."""
+    """Whether the shells propose what the rows say. Fish puts a slash after a folder, and no `=` after an option."""
     lay(folder, FILES)
     for name, rows in [("hookhost", list(cases())), ("hookhost-reads", READS_CASES)] if shutil.which("fish") else []:
         for (line, wanted), found in zip(rows, told_by_fish([line for line, _ in rows], folder, name), strict=True):
@@ -247,14 +247,14 @@ def tried_completions(folder):
 # ---- the program
 
 def is_usage(*words):
-    """Whether a command is a fault of usage, or asks for help, by its exit status in an empty folder."""
+    """Whether a command is a usage error, or asks for help, by its exit status in an empty folder."""
     with tempfile.TemporaryDirectory() as folder:
         return played([PROGRAM, *words], folder)[0] == 2
 
 
 def required_of(name, option="no option"):
-    """Words that a command asks for, as its usage tells them outside brackets. Of those in parentheses one is enough: the option
-    itself, and else the first."""
+    """The required words of a command, as its usage shows them outside brackets. Of those in parentheses one is enough: the
+    option itself, otherwise the first."""
     told = re.sub(r"\[[^]]*\]", "", HELP[name][1].removeprefix("Usage: hookhost "))
     told = re.sub(r"\(([^)]*)\)", lambda it: "" if f" {option}" in it[1] else it[1].split(" | ")[0], told)
     return ["1" if word.startswith("<") else word for word in told.split()[1:]]
@@ -302,12 +302,12 @@ def tried_stages(folder):
 # ---- the manual page
 
 def plain(text):
-    """A text without blanks, line ends, and the marks of what stands for a value."""
+    """A text without blanks, line ends, and the marks of placeholders."""
     return re.sub(r"[\s<>]", "", text)
 
 
 def told_by_help():
-    """What the page has to say: each text of the help, but for the program's usage."""
+    """What the page has to say: each text of the help, except the program's usage."""
     about, _, *texts = help_of()
     yield about[1:]
     yield from (text.removeprefix("Exit status:") for text in texts if not text.startswith(("Commands:", "Options:")))

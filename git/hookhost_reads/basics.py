@@ -1,4 +1,4 @@
-"""What the other modules share: why nothing can be told, names as they are printed and as patterns, and commands."""
+"""What the other modules share: the error that ends a run, names as they are printed and as patterns, and commands."""
 import os
 import subprocess
 
@@ -13,7 +13,7 @@ ESCAPES = {7: "\\a", 8: "\\b", 9: "\\t", 10: "\\n", 11: "\\v", 12: "\\f", 13: "\
 
 
 def shown(path):
-    """The path, in double quotes with the escapes of C where it has blanks, quotes, or bytes that can't be printed."""
+    """The path, in double quotes with the escapes of C if it has blanks, quotes, or bytes that can't be printed."""
     out = ""
     for letter in path:
         if letter.isprintable() and letter not in '"\\':
@@ -24,17 +24,17 @@ def shown(path):
 
 
 def as_pattern(path):
-    """The path as a pattern that finds these letters alone."""
+    """The path as a pattern that finds just these characters."""
     return "".join("\\" + letter if letter in r"\.+*?()|[]{}^$" else letter if letter.isprintable() else f"\\x{{{ord(letter):x}}}" for letter in path)
 
 
 def extension(path):
-    """The end of a file's name, from its last point on; none of a name that begins with its only point."""
+    """The end of a file's name, from its last dot on; empty for a name that begins with its only dot."""
     return os.path.splitext(os.path.basename(path))[1]
 
 
 def below(folder, path):
-    """The path from the folder on, or nothing if it doesn't lie there."""
+    """The path relative to the folder, or None if it isn't below it."""
     return path[len(folder) + 1:] if path.startswith(folder + "/") else None
 
 

@@ -1,4 +1,4 @@
-"""What the configuration says of its hooks."""
+"""The hooks of the configuration: their languages, and their x_reads."""
 import re
 
 from hookhost_reads.basics import CONFIGURATION, Refused, done
@@ -9,7 +9,7 @@ DASHES = re.compile(r"[ ]*(?:-[ ]+)*")
 
 
 def tables_of(text):
-    """The tables of a configuration that stand in its lines or flows, as their keys and the texts of their values."""
+    """The tables in the lines and flows of a configuration, as their keys and the texts of their values."""
     open_tables, flows, at = [], [], 0
     is_line = True
     while at < len(text):
@@ -56,7 +56,7 @@ def end_of_line(text, at):
 
 
 def value_at(text, at, is_flow):
-    """The text that stands there as a value, and where it ends; nothing of what is no text of one line."""
+    """The text of the value at this place, and where it ends. None in place of a text that isn't on one line."""
     if text[at:at + 1] in ("{", "[", "\n", "", "#", "|", ">", "&", "*", "!"):
         return None, at
     if quoted := QUOTED.match(text, at):
@@ -77,7 +77,7 @@ def of_double_quotes(held):
 
 
 def x_reads_of(text, name):
-    """What the hooks of this id or alias have as x_reads: a pattern, the empty text for none, or nothing if it can't be read."""
+    """The x_reads of the hooks of this id or alias: a pattern, an empty text if there is none, or None if it can't be read."""
     tables = [table for table in tables_of(text) if name in (table.get("id"), table.get("alias"))]
     found = {"" if "x_reads" not in table or table["x_reads"] == "^$" else table["x_reads"] for table in tables}
     return found.pop() if len(found) == 1 else None

@@ -7,15 +7,15 @@ from hookhost_reads.basics import Refused, as_pattern, extension, shown
 from hookhost_reads.staged import is_taken
 from hookhost_reads.strace import STARTS
 
-# Where more items than these may be in a command's key, it is first asked whether any path at all is.
+# If more items than these may be in a command's key, it is first tried whether every path is.
 FEW_ITEMS = 8
-# Paths in all of which no pattern is likely to be found but one that is found in every path.
+# Paths that hardly any pattern finds all of, except one that finds every path.
 ODD_PATHS = ("@0@", "@1@.@1@", "@2@/@2@.@2@")
 
 
 @dataclass(frozen=True)
 class Item:
-    """Something that an answer may follow from: a path that is changed or added to ask for it, how it is told, and its pattern."""
+    """Something that a result may depend on: a path that is changed or added to try it, its text in the report, and its pattern."""
 
     path: str
     kind: str
@@ -24,13 +24,13 @@ class Item:
 
 
 def items_of(command, world):
-    """What a command's answer may follow from, other than the files that its words name, in the order in which it is told."""
+    """What a command's result may depend on, other than the files that its words name, in the order of the report."""
     handed = {word.removeprefix("./") for word in command.words} & world.known
     opened, asked, made = (set(filter(None, map(world.inside, paths))) for paths in (command.opened, command.looked, command.made))
     opened, looked = opened & world.known, asked & world.known
     found = [Item(path, "reads", shown(path), as_pattern(path)) for path in sorted(opened - handed)]
     found += [Item(path, "looks at", shown(path), as_pattern(path)) for path in sorted(looked - opened - handed)]
-    # A folder is there as long as one of its files is.
+    # A folder exists as long as one of its files does.
     listed = set(map(world.inside, command.listed))
     for folder in sorted((asked & world.folders) - listed - {path[:at.start()] for path in handed | opened | looked for at in re.finditer("/", path)}):
         first = next(path for path in world.staged.paths if path.startswith(folder + "/"))
@@ -51,7 +51,7 @@ def items_of(command, world):
 
 
 def absent_items(absent, made, world):
-    """The files that a command has looked for in vain. Of those below a folder that isn't there the first stands for all."""
+    """The files that a command looked for and didn't find. Of those below a missing folder only the first is given."""
     seen = {}
     for path in sorted(absent):
         parts = path.split("/")
@@ -69,7 +69,7 @@ def absent_items(absent, made, world):
 
 
 class Prober:
-    """Asks hookhost which items are in the keys of a hook's commands, in a store where each command does nothing."""
+    """Finds out from hookhost which items are in the keys of a hook's commands, in a store where each command does nothing."""
 
     def __init__(self, world, name, commands, words):
         self.world, self.name, self.words, self.commands = world, name, words, {command.words for command in commands}
@@ -92,7 +92,7 @@ class Prober:
         return count
 
     def traced(self):
-        """The commands that are started now, as strace tells."""
+        """The commands that are started now, as strace shows."""
         found = set()
         for selection in self.world.selections:
             with self.store.trace(self.name, selection, STARTS, *self.words, env=self.env) as (_, _, _, commands):
@@ -105,7 +105,7 @@ class Prober:
         count = self.cached()
         if count in (0, self.most):
             return set() if count else self.commands
-        # It is some of them, and each is cached now.
+        # Some of them are started, and all are cached now.
         self.store.change(paths)
         return self.traced()
 
@@ -179,7 +179,7 @@ def stubs(world, commands):
 
 
 def scripts(world, commands):
-    """The scripts of the tree that a command starts by the program of their first line: that line is all that they have."""
+    """The scripts of the tree that a command starts by the program of their first line, cut to that line."""
     cut = {}
     for path in {word for command in commands for word in command.words[1:4]} & world.known:
         with open(os.path.join(world.staged.folder, path), "rb") as file:

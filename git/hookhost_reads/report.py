@@ -1,4 +1,4 @@
-"""What is told of a hook."""
+"""What is printed of a hook."""
 import os
 import re
 
@@ -20,7 +20,7 @@ def is_system(path):
 
 
 def outside_of(commands, world):
-    """The files outside the tree that commands read and didn't make, where they are many by folders."""
+    """The files outside the tree that commands read and didn't make; if they are many, by folders."""
     found = set()
     for command in commands:
         for path in command.opened.keys() - command.made:
@@ -61,7 +61,7 @@ def pattern_of(items, old):
 
 
 def without_found(items, patterns):
-    """The patterns without those of one path that another one finds too."""
+    """The patterns without those of single paths that another pattern finds too."""
     paths = {item.pattern: item.path for item in items if not item.pattern.endswith(".*") and "[^/]*" not in item.pattern}
     wide = [re.compile(it) for it in patterns if it not in paths and "\\x{" not in it]
     return [it for it in patterns if it not in paths or not any(each.fullmatch(paths[it]) for each in wide)]
@@ -79,10 +79,10 @@ def tell(head, lines):
 
 
 def report(world, name, is_cautious):
-    """Tells of the hooks of a name, and answers whether something is missing."""
+    """Prints what is found of the hooks of a name, and returns whether something is missing."""
     commands, verdicts, said = traced(world, name)
     if not commands and world.languages.get(name, set()) & {"system", "script"} and not verdicts <= {"Skipped"}:
-        said = said or ["strace tells of no command"]
+        said = said or ["strace shows no command"]
     if said:
         print(f"{name}: can't be tried: {'; '.join(said)}")
         return True
@@ -112,7 +112,7 @@ def report(world, name, is_cautious):
 
 
 def tell_x_reads(world, name, commands, items, missing, is_cautious):
-    """Tells the pattern. A hook that gets its first one loses what a cautious run has it see, so all of that is in it."""
+    """Prints the pattern. A hook that gets its first one no longer sees all files in a cautious run, so the pattern has all that it reads."""
     old = x_reads_of(world.configuration, name)
     if is_cautious and old == "":
         plain = Prober(world, name, commands, []).missing(items)

@@ -12,7 +12,7 @@ MOST_BYTES, MOST_PATH = 16 * 1024 * 1024, 4096
 
 @dataclass
 class Staged:
-    """The staged files: the folder in which they lie, their paths, which are executable, and which a commit would change. And the names
+    """The staged files: the folder with their copies, their paths, which are executable, and which a commit would change. Also the names
     of hookhost.link that none of them has."""
 
     folder: str

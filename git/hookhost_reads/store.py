@@ -1,4 +1,4 @@
-"""Runs of hooks in a store of our own."""
+"""Runs of hooks in stores of this script's own."""
 import contextlib
 import os
 import select
@@ -10,7 +10,7 @@ import time
 from hookhost_reads.basics import Refused, done
 from hookhost_reads.strace import LINE, Trace, path_of
 
-# How long a process that goes on after its command is waited for, in seconds.
+# How long a process is waited for that goes on after its command, in seconds.
 PATIENCE = 5
 
 
@@ -20,7 +20,7 @@ def list_of(paths):
 
 
 class Store:
-    """A store with the staged files, and runs of hooks there, of which strace tells what they start."""
+    """A store with the staged files, and runs of hooks there, with or without strace."""
 
     def __init__(self, world, name, contents):
         self.world, self.folder, self.base, self.touched, self.made, self.count = world, os.path.join(world.place, name), contents, set(), set(), 0
@@ -53,7 +53,7 @@ class Store:
             raise Refused(f"hookhost {words[0]} says: {answer.stderr.decode(errors='replace').strip()}")
 
     def change(self, paths):
-        """Stages these paths with bytes that they never had, the new ones too, and all others as they were."""
+        """Stages these paths, new ones too, with bytes that they never had, and all others as they were."""
         self.count += 1
         known = self.world.known
         self.call("rm", given=sorted(self.made - set(paths)))
@@ -72,13 +72,13 @@ class Store:
         return [self.world.program, "run-files", "--verbose", *words, "--only=" + name, "--paths-from=-"]
 
     def run(self, name, selection, *words, env=None):
-        """Runs the hooks of a name, and answers the exit status and what was printed."""
+        """Runs the hooks of a name, and returns the exit status and what was printed."""
         answer = done(self.words_of_run(name, *words), cwd=self.folder, env=self.world.env | (env or {}), input=list_of(selection))
         return answer.returncode, answer.stdout.decode(errors="replace"), answer.stderr.decode(errors="replace")
 
     @contextlib.contextmanager
     def trace(self, name, selection, calls, *words, env=None):
-        """The same, with the commands that strace has told of."""
+        """The same, with the commands that strace has seen."""
         strace = [*self.world.strace, "-I", "2", "-f", "-ff", "-qq", "-y", "-ttt", "-s", "200000", "-e", "signal=none", "-e", "trace=" + calls]
         with tempfile.TemporaryDirectory(dir=self.world.place, prefix="trace.") as traces, contextlib.ExitStack() as files:
             given, printed, said = (files.enter_context(tempfile.TemporaryFile()) for _ in range(3))
@@ -114,7 +114,7 @@ class Store:
 
 
 def children_of(pid):
-    """The numbers of a process's children. Once the program has ended, its strace has none, though others go on."""
+    """The numbers of a process's children. Once the program has ended, its strace has none, though other processes may go on."""
     with open(f"/proc/{pid}/task/{pid}/children", encoding="ascii") as file:
         return [int(number) for number in file.read().split()]
 

@@ -1,4 +1,4 @@
-"""What strace tells of the commands that a run of hookhost starts."""
+"""What strace shows of the commands that a run of hookhost starts."""
 import os
 import re
 import shutil
@@ -16,14 +16,14 @@ TEXT = re.compile(r'"((?:[^"\\]|\\.)*)"')
 ESCAPED = re.compile(rb"\\(?:([0-7]{1,3})|x([0-9a-f]{2})|(.))", re.DOTALL)
 LETTERS = {b"a": b"\a", b"b": b"\b", b"f": b"\f", b"n": b"\n", b"r": b"\r", b"t": b"\t", b"v": b"\v"}
 ABSENT = ("ENOENT", "ENOTDIR", "ELOOP")
-# Calls on two paths of which the second one is made.
+# Calls on two paths that make the second one.
 RENAMES = ("rename", "renameat", "renameat2", "link", "linkat", "symlink", "symlinkat")
 
 
 def strace_words():
     """The words of a strace that works here."""
     if shutil.which("strace") is None:
-        raise Refused("there is no strace, which tells what commands read: it is a package of that name")
+        raise Refused("there is no strace, which shows what commands read: install the package of that name")
     said = b""
     for words in (["strace", "--seccomp-bpf"], ["strace"]):
         tried = done([*words, "-f", "-qq", "-y", "-o", "/dev/null", "-e", "trace=execve", "true"])
@@ -31,7 +31,7 @@ def strace_words():
             return words
         said = tried.stderr
     lines = said.decode(errors="replace").strip().split("\n")
-    raise Refused(f"strace can't trace here, which a container or its settings may forbid: {lines[0]}")
+    raise Refused(f"strace can't trace here; a container or its settings may forbid it: {lines[0]}")
 
 
 def unescaped(text):
@@ -67,12 +67,12 @@ class Command:
 
 
 class Trace:
-    """The commands that a traced hookhost has started, of the files that strace has written, one a process."""
+    """The commands that a traced hookhost has started, read from the files of strace, one for each process."""
 
     def __init__(self, folder, main, scratch):
         self.folder, self.scratch, self.commands, self.seen = folder, scratch, [], set()
         self.read(main, scratch, None, is_main=True)
-        # A process of which nobody has told the number, as in a namespace of its own, may be any command's.
+        # A process whose number no other one shows, as in a namespace of its own, may belong to any command.
         for name in sorted(os.listdir(folder)):
             if name[2:] not in self.seen:
                 lost = Command((), count=0)
@@ -90,16 +90,16 @@ class Trace:
             return
 
     def read(self, number, cwd, command, *, is_main=False):
-        """Reads what a process did, and then what those did that it has started; each is main's, or belongs to a command."""
+        """Reads what a process did, and then the processes that it has started. Each is hookhost's own, or belongs to a command."""
         self.seen.add(number)
         begun = []
         is_first, is_git = True, False
         for at, call, rest, result, real, error in self.lines(number):
-            # strace tells it of calls that name a folder. So it corrects what came of a chdir through a link.
+            # strace shows the current folder in calls that name one. This corrects it after a chdir through a link.
             if it := CURRENT.search(rest):
                 cwd = unescaped(it[1])
             if call in ("execve", "execveat") and result == "0" and command is None:
-                # What main becomes by its first is hookhost; what it has started becomes a command.
+                # The first execve of the main process starts hookhost; those of its children start commands.
                 if is_main and is_first:
                     is_first = False
                     continue
@@ -115,7 +115,7 @@ class Trace:
             elif command is not None:
                 if call in ("execve", "execveat") and result == "0":
                     is_git = os.path.basename(path_of(rest, cwd) or "") == "git"
-                # Where Git looks for a repository nothing of the tree is looked for.
+                # Where Git looks for a repository, it doesn't look for files of the tree.
                 if not is_git or error not in ABSENT:
                     note(command, at, call, rest, cwd, result, real, error)
         for child, child_cwd, child_command, is_thread in begun:
@@ -124,7 +124,7 @@ class Trace:
 
 
 def words_of(rest):
-    """The words of a started program, of the arguments of execve."""
+    """The words of a started program, from the arguments of execve."""
     listed = re.search(r', \[((?:"(?:[^"\\]|\\.)*"(?:, )?)*)\]', rest)
     return tuple(unescaped(it[1]) for it in TEXT.finditer(listed[1])) if listed else ()
 
@@ -135,7 +135,7 @@ def place_of(rest):
 
 
 def path_of(rest, cwd):
-    """The path that a call names, from where it counts."""
+    """The full path that a call names."""
     place = PLACE.match(rest)
     begin = place.end() + 2 if place and place.end() and rest[place.end():place.end() + 2] == ", " else 0
     text = TEXT.match(rest, begin)
@@ -146,7 +146,7 @@ def path_of(rest, cwd):
 
 
 def last_path(rest, cwd):
-    """The second path of a call on two."""
+    """The second path of a call on two paths."""
     folder, path = None, None
     for it in re.finditer(PLACE.pattern + r'(?=, ")|' + TEXT.pattern, rest):
         if it[0].startswith('"'):
@@ -157,7 +157,7 @@ def last_path(rest, cwd):
 
 
 def note(command, at, call, rest, cwd, result, real, error):
-    """Notes what a call says of files."""
+    """Records what a call shows of files."""
     is_done = error is None and result != "?"
     if call in ("getdents", "getdents64"):
         folder = place_of(rest)

@@ -1,4 +1,4 @@
-"""What stays the same for all hooks, and what the commands of one did."""
+"""What is the same for all hooks, and what the commands of one did."""
 import os
 import re
 
@@ -10,7 +10,7 @@ from hookhost_reads.strace import TRACED, Command, strace_words
 
 
 class World:
-    """All that stays the same for all hooks."""
+    """All that is the same for all hooks."""
 
     def __init__(self, place, program, options):
         self.place, self.program, self.strace = place, program, strace_words()
@@ -26,10 +26,10 @@ class World:
         self.folders = {path[:at.start()] for path in self.known for at in re.finditer("/", path)}
         self.env = {key: value for key, value in os.environ.items() if key not in ("GIT_DIR", "GIT_INDEX_FILE", "GIT_WORK_TREE", "GIT_PREFIX", "HOOKHOST_GIT_CALLS")}
         ceiling = os.environ.get("GIT_CEILING_DIRECTORIES")
-        # node may hand reads to the kernel in a way that strace doesn't see.
         if self.staged.is_git:
             self.env.pop("HOOKHOST_LINKS", None)
             self.env |= {"PRE_COMMIT": "1", "HOOKHOST_TOP": self.staged.top} | ({"HOOKHOST_LINKS": ":".join(self.staged.links)} if self.staged.links else {})
+        # With io_uring node may read files in a way that strace doesn't see.
         self.env |= {"HOOKHOST_SCRATCH": self.scratch, "UV_USE_IO_URING": "0",
                      "GIT_CEILING_DIRECTORIES": os.path.join(place, "runs") + (":" + ceiling if ceiling else "")}
         self.languages = languages_of(self.program, self.staged, self.env)
@@ -39,14 +39,14 @@ class World:
             self.configuration = file.read()
 
     def store(self, contents):
-        """A store with the staged files, of which these have other contents. It is made once."""
+        """A store with the staged files, some of them with these other contents. It is made once."""
         key = tuple(sorted(contents.items()))
         if key not in self.stores:
             self.stores[key] = Store(self, f"files.{len(self.stores)}", contents)
         return self.stores[key]
 
     def inside(self, full):
-        """The path within the folder of hooks, or within the one next to it that a run may take, empty for that itself; else nothing."""
+        """The path within the folder of hooks, or within the one next to it that a run may use: empty for the folder itself, None outside."""
         it = self.in_scratch.fullmatch(full)
         return it and it[1]
 
@@ -68,7 +68,7 @@ class World:
 
 
 def traced(world, name):
-    """What the commands of the hooks of a name did, how these ended, and what couldn't be started."""
+    """What the commands of the hooks of a name did, how the hooks ended, and what couldn't be started."""
     commands, verdicts, said = {}, set(), []
     for selection in world.selections:
         with world.store({}).trace(name, selection, TRACED, "--fresh") as (status, printed, errors, found):

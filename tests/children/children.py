@@ -1,19 +1,18 @@
 #!/usr/bin/env python3
-"""Runs real children by the built program child_trial: hostile ones, and what they leave for the next.
+"""Checks real children of the built program child_trial: hostile ones, and what they leave for the next.
 
 Usage: tests/children/children.py [-v] [--settled | --reads] [--in FOLDER] [PROGRAM]   (default: crates/child_trial/out/child_trial)
 
   -v            the seconds of each case
-  --settled     only the cases of files that nobody has changed for as long as the system takes to write them to the disk,
-                which take that long: some minutes
+  --settled     only the cases of files that nobody has changed for as long as the system takes to write them to the disk;
+                they take that long: some minutes
   --reads       only the cases of what is read
   --in FOLDER   plays below this folder, as on another file system
 
-Each case has a folder of its own, in which the children's folder is h/scratch. As root, what hangs on modes is played as
-nobody too. What the next child sees is told by the next child itself, and compared with a folder that is made anew.
+Each case has a folder of its own, in which the children's folder is h/scratch. As root, what depends on modes is tried as nobody too. The
+next child itself reports what it sees, which is compared with a newly made folder.
 
-Each case is played twice: by children of which only those files are read that they can have changed, and by children of
-which all files are. Both have to tell the same.
+Each case is run twice: once only those files are read that children can have changed, and once all files are. Both have to give the same.
 """
 import os
 import re
@@ -42,7 +41,7 @@ def cases_of(module):
 
 
 CASES = [case for module in (children_ends, children_files, children_folder, children_beside, children_reads, children_limits) for case in cases_of(module)]
-# What hangs on when a process is at work, or on how much is read.
+# What depends on when a process is at work, or on how much is read.
 UNLIKE = [children_beside.a_killed_program_leaves_no_harm, children_reads.a_rewrite_right_behind_a_look_is_seen, children_reads.a_rewrite_around_a_look_is_seen, children_limits.a_signal_to_the_group_ends_a_child_too]
 SETTLED = [children_reads.files_that_have_settled_are_read_once]
 READING = [
@@ -61,14 +60,14 @@ READING = [
 
 
 def chosen():
-    """The cases that are asked for."""
+    """The cases that the command line names."""
     if "--settled" in WORDS:
         return SETTLED
     return READING if "--reads" in WORDS else [case for case in CASES if case not in SETTLED]
 
 
 def played(case, reads):
-    """What the children of a case were told, each by its words and its outcome, without the names of folders."""
+    """What the children of the case were given, each by its words and its outcome, without the names of folders."""
     Trial.reads, Trial.told = READS[reads], []
     start = time.monotonic()
     try:

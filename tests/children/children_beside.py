@@ -35,7 +35,7 @@ def each_program_has_a_folder_of_its_own():
 
 
 def killed_beside(trial, text):
-    """The number of a child that goes on when its program is killed, beside that of others."""
+    """The number of a child that goes on when its program is killed, while the children of others are there too."""
     path = Path(trial.top, "number")
     path.unlink(missing_ok=True)
     trial.process.stdin.write(f"run {digits('sh')} {digits('-c')} {digits(f'echo $$ > {trial.top}/number; {text}')}\n".encode())
@@ -56,7 +56,7 @@ def end_outlived(child):
         time.sleep(0.001)
 
 
-# What a child does before its program is killed, and what behind it. The second is known by its standard input, so it has its
+# What a child does before its program is killed, and what after it. The second is known by its standard input, so it has its
 # folder's name to itself: a shell takes `cd` by that.
 OUTLIVING = [
     ("exec < /dev/null", "echo late > a.txt; echo late > new; rm -r d", "scratch"),

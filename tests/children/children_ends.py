@@ -75,7 +75,7 @@ def outputs_may_be_closed_early():
     equal(trial.sh("(sleep 0.4; echo late) & echo now"), (0, b"now\nlate\n", {}), "a grandchild that holds the pipe")
 
 
-# ---- runs of hooks, whose answers are remembered
+# ---- runs of hooks, whose answers are cached
 
 def a_command_that_failed_is_started_anew_by_a_fresh_run_alone():
     trial = Trial({"a.txt": b"x\n"})

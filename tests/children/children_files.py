@@ -1,4 +1,4 @@
-"""What children of tests/children/children.py leave of their files, which is read back, and doesn't reach the next one."""
+"""What children of tests/children/children.py do to their files: it is read back, and doesn't reach the next child."""
 import os
 import re
 import tempfile
@@ -135,9 +135,8 @@ def what_holds_the_folder_may_be_no_link():
         trial.end()
 
 
-# A process that goes on when its child has ended, and puts one thing after another in the place of a file and of a folder:
-# files, fifos and links, each in one step. It begins once there is a file go in the first folder, and at a file stop it ends and
-# makes done.1.
+# A process that goes on when its child has ended. It replaces a file and a folder by a series of files, fifos and links, each in one
+# step. It begins once there is a file go in the first folder, and at a file stop it ends and makes done.1.
 SWAPS = r"""
 #define _GNU_SOURCE
 #include <errno.h>
@@ -249,7 +248,7 @@ def path_of(length, first="p"):
     return path
 
 
-# What a child does with the file of a path, whatever the path's length: it goes to the file's folder by one step after another.
+# What a child does with the file of a path of any length: it goes to the file's folder step by step.
 AT_PATH = "import os, sys\n*folders, name = sys.argv[2].split('/')\nfor f in folders: os.chdir(f)\n"
 
 

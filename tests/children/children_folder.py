@@ -210,8 +210,8 @@ def a_hundred_losses_in_a_row_harm_nothing():
     runs.end()
 
 
-# A process that goes on when its child has ended, and changes the scratch folder for another one and back, until there is a file
-# stop in the first folder.
+# A process that goes on when its child has ended. It swaps the scratch folder for another one and back, until there is a file stop in the
+# first folder.
 EXCHANGES = r"""
 #define _GNU_SOURCE
 #include <fcntl.h>
@@ -243,7 +243,7 @@ int main(int count, char **words) {
 
 
 def a_folder_that_is_changed_for_another_tells_no_file_as_removed():
-    """All the time, from before the first file is laid: each child finds the files of its tree, and loses none of them."""
+    """All the time, from before the first file is written: each child finds the files of its tree, and loses none of them."""
     exchanges = built("exchanges", EXCHANGES)
     for slowly in ([], ["slowly"]):
         trial = Trial(TREE)

@@ -31,7 +31,7 @@ def children_begin_with_no_signal_blocked():
         trial = Trial(TREE, **ignoring(*numbers))
         told = trial.run("grep", "-E", "^Sig(Blk|Ign)", "/proc/self/status")
         found = [int(line.split()[1], 16) for line in told[1].decode().splitlines()]
-        # What is ignored stays ignored, as behind nohup, but for the signal of a pipe that nobody reads.
+        # What is ignored stays ignored, as under nohup, except the signal of a pipe that nobody reads.
         equal(found[0], 0, f"what is blocked in a child where {numbers} are ignored")
         equal(found[1] & mask_of([1, 2, 3, 13, 15, 17]), mask_of(number for number in numbers if number != signal.SIGPIPE), f"what is ignored in a child where {numbers} are")
         equal(trial.sh("yes | head -n 1; kill -TERM $$"), "Signal", "a child that ends itself by a signal that was blocked")
@@ -40,7 +40,8 @@ def children_begin_with_no_signal_blocked():
 
 
 def ignored_children_are_a_fault():
-    """Where whoever starts the program ignores SIGCHLD the system keeps no child's end for it: a fault of each, as of Git's hooks."""
+    """If the program is started with SIGCHLD ignored, the system keeps no child's exit status for it. That is a fault of each child, as
+    of Git's hooks."""
     trial = Trial({"a.txt": b"x\n"}, **ignoring(signal.SIGCHLD))
     for text in ("true", "exit 3", "echo y > a.txt", "kill -9 $$"):
         equal(trial.sh(text), "WaitFailed", f"{text} where the ends of children are ignored")
@@ -78,8 +79,8 @@ LIMITED = "cat a.txt; echo z > a.txt; rm d/c.txt"
 
 
 def under_limit(text, user=None, **how):
-    """How children and a run of hooks end under a limit: by what they say themselves, or by a fault that isn't remembered. A program
-    without the limit finds all as it would have."""
+    """How children and a run of hooks end under a limit: by their own output, or by a fault that isn't cached. A program without the
+    limit then finds all as it would have."""
     config, passed = configuration("sh -c 'echo >> ../../starts'"), of_hook("Passed")
     trial = Trial(user=user, **how)
     try:
@@ -99,7 +100,7 @@ def under_limit(text, user=None, **how):
     except (Wrong, BrokenPipeError) as wrong:
         if isinstance(wrong, Wrong) and "the program ends" not in str(wrong):
             raise
-        # Want of memory, or of what the system needs to start it. Where there is no room for its stack the system ends it.
+        # Lack of memory, or of what the system needs to start it. If there is no room for its stack, the system ends it.
         check(trial.process.wait(60) in (3, 127, -signal.SIGSEGV), f"the program ends with {trial.process.returncode} under {text}")
         end = "the program's end"
     trial = Trial({"a.txt": b"x\n", "d/c.txt": b"y\n"}, user=user, keep=trial.top)

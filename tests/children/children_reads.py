@@ -1,4 +1,4 @@
-"""What of their files is read for children of tests/children/children.py: what none can have changed isn't."""
+"""Which files are read for children of tests/children/children.py: those that no child can have changed aren't."""
 import os
 import random
 import shutil
@@ -12,9 +12,9 @@ from children_trial import BASE, FILLED, KNOWN, MIB, TELLING, TREE, Trial, are_f
 
 # ---- what is read
 
-# A process that writes through memory, which the system calls a shared mapping of the file. It reads there first. `end`:
-# it writes one letter and ends. `stay`: another process has the file mapped and goes on when this one ends: it has written
-# the first letter, and writes each further one once there is a file go.N beside the folder, behind which it makes done.N.
+# A process that writes through memory, which the system calls a shared mapping of the file. It reads there first. With `end` it writes
+# one letter and ends. With `stay` another process has the file mapped, and goes on when this one ends. It has written the first letter.
+# It writes each further one once there is a file go.N next to the folder, and then makes done.N.
 MAPS = r"""
 #include <fcntl.h>
 #include <stdio.h>
@@ -236,7 +236,7 @@ def a_process_left_behind_that_writes_is_seen():
 
 
 def tries(most):
-    """How often a race is played: less where all is read, so that nothing hangs on a moment."""
+    """How often a race is played: less if all is read, so that nothing depends on a moment."""
     return most if TELLING and Trial.reads == {} else most // 20
 
 
@@ -247,7 +247,7 @@ def a_rewrite_right_behind_a_look_is_seen():
         path = f"z/{turn % KNOWN}"
         place = Path(trial.top, "h/scratch", path)
         times = place.stat()
-        # Between two children, as soon as the first is told, with its old time of writing.
+        # Between two children, as soon as the first is reported, with its old time of writing.
         with open(place, "r+b") as file:
             file.write(b"y")
         os.utime(place, ns=(times.st_atime_ns, times.st_mtime_ns))
@@ -265,8 +265,8 @@ def latest(told, turn):
 
 
 def race(trial, path, told, most):
-    """A child that writes a file twice at once, and leaves a process that writes it once more within so many microseconds. The next
-    child sees what was told of it. Notes whether the last write was."""
+    """A child that writes a file twice at once, and leaves a process that writes it once more within so many microseconds. The next child
+    sees what was reported of it. Notes whether the last write was."""
     busy = f"{trial.top}/busy"
     letters = "".join(random.sample("abcdefgh", 3))
     outcome = trial.outcome(built("races", RACES), path, letters, str(random.randrange(most)), busy)
@@ -314,14 +314,14 @@ def what_no_child_can_have_changed_is_not_read():
             check(read >= all_bytes, f"only {read} bytes are read of {words!r}")
     trial.sees_the_tree("what is known")
     trial.end()
-    # What another program wrote just before may still be in its hands.
+    # What another program wrote just before may still be in use by it.
     trial = Trial(tree, keep=trial.top)
     for _ in range(2):
         check(trial.reads_of("true") >= 2 * all_bytes, "files that were changed just before the program are read at each look")
 
 
 def whole_seconds_tell_nothing():
-    """On a file system whose times are whole seconds, where one can be made."""
+    """Files are played on a file system whose times are whole seconds, if one can be made."""
     if os.getuid() != 0:
         print("children: only root can mount a file system, so no whole seconds were played")
         return

@@ -14,7 +14,7 @@ from pathlib import Path
 from places import program
 
 HERE = Path(__file__).resolve().parent
-# Everything lies here, a copy of the program too, which nobody may run where the repository is closed to all but its owner.
+# Everything lies here. So does a copy of the program, since the repository may be closed to all but its owner.
 WORDS = sys.argv[1:] if Path(sys.argv[0]).name == "children.py" else []
 PLACE = WORDS[WORDS.index("--in") + 1] if "--in" in WORDS else None
 BASE = tempfile.mkdtemp(prefix="children-", dir=PLACE)
@@ -25,9 +25,9 @@ PROGRAM = shutil.copy(GIVEN[0] if GIVEN else program("child_trial"), Path(BASE, 
 os.chmod(PROGRAM, 0o755)
 # The signals whose default is to end a process.
 DEADLY = [1, 2, 3, 4, 5, 6, 7, 8, 9, 10, 11, 12, 13, 14, 15, 16, 24, 25, 26, 27, 29, 30, 31, *range(34, 65)]
-# A signal that is ignored here is in each child too: a shell in the background ignores some, and nohup another. The one of
-# a pipe that nobody reads stays ignored here, and subprocess turns it on in each child: a program that is refused memory
-# may end before its input is written.
+# A signal that is ignored here is in each child too: a shell in the background ignores some, and nohup another. The one of a pipe that
+# nobody reads stays ignored here, and subprocess turns it on in each child. A program that is refused memory may end before its input is
+# written.
 for number in DEADLY:
     if number not in (signal.SIGKILL, signal.SIGPIPE):
         signal.signal(number, signal.SIG_DFL)
@@ -62,7 +62,7 @@ def digits(data):
 class Trial:
     """A child_trial in a new folder, with a tree."""
 
-    # What the programs are told to read, and the words and outcomes of all children, in their order.
+    # What the programs are given to read, and the words and outcomes of all children, in their order.
     reads = READS["what may have changed"]
     told = []
 
@@ -106,7 +106,7 @@ class Trial:
         self.ask("remove", digits(path))
 
     def run(self, *words):
-        """What became of a child: a fault's name, or (status, output, changes)."""
+        """The outcome of a child: a fault's name, or (status, output, changes)."""
         outcome = self.outcome(*words)
         Trial.told.append((words, outcome))
         return outcome
@@ -133,7 +133,7 @@ class Trial:
         return self.run("sh", "-c", text)
 
     def sees_the_tree(self, after):
-        """That the next child finds what it would in a folder made anew, and that it leaves it so."""
+        """Checks that the next child finds what it would in a newly made folder, and that it leaves it so."""
         wanted = Trial(self.tree, user=NOBODY if self.is_nobody() else None, programs=self.programs)
         equal(self.sh(SEEN), wanted.sh(SEEN), f"what the child after {after!r} sees")
         wanted.end()
@@ -162,7 +162,7 @@ def users():
 
 
 def beside(trial):
-    """What lies where the folder does."""
+    """The names in the folder that holds the scratch folder."""
     return sorted(os.listdir(f"{trial.top}/h"))
 
 
@@ -171,7 +171,8 @@ def configuration(entry, more=""):
 
 
 def runs_are(trial, text, *runs):
-    """That runs of the hooks say this, one after another, with this in all: outcomes, faults among them, and remembered answers."""
+    """Checks that runs of the hooks print this, one after another, with these counts in all: outcomes, faults among them, and cached
+    answers."""
     for number, (how, said, counts) in enumerate(runs):
         equal(trial.ask("hooks", digits(text), digits(how)), said, f"what run {number} of {text!r} says")
         equal(trial.ask("counts"), counts, f"the counts behind run {number} of {text!r}")
@@ -181,7 +182,7 @@ def of_hook(verdict, *lines):
     return f"{verdict.lower()}\nT{'.' * 72}{verdict}\n" + "".join(f"- {each}\n" for each in lines)
 
 
-# Files that are known once a child has run: behind them others are written, so that the clock of the file system goes on
+# Files that are known once a child has run: after them others are written, so that the clock of the file system goes on
 # before the first child.
 KNOWN = 300
 FILLED = TREE | {f"z/{i}": b"z" * 400 for i in range(KNOWN)}
@@ -197,7 +198,7 @@ def built(name, text):
 
 
 def known_trial(user=None, **how):
-    """A trial whose files are known, where they can be: two children have run."""
+    """A trial whose files are known, if they can be: two children have run."""
     trial = Trial(FILLED, user=user, **how)
     for _ in range(2):
         equal(trial.run("true"), (0, b"", {}), "a child that changes nothing")
@@ -226,7 +227,7 @@ def kind_of(place):
 
 
 def are_fine(place):
-    """Whether times of files are told finer than in thousandths of a second. One alone may be a whole number of these."""
+    """Whether times of files are given finer than in thousandths of a second. One alone may be a whole number of these."""
     made = [Path(place, f"fine-{number}") for number in range(3)]
     for path in made:
         path.touch()
@@ -234,5 +235,5 @@ def are_fine(place):
     return any(path.stat().st_ctime_ns % 1_000_000 for path in made)
 
 
-# Whether times of files tell what was changed, where all is played.
+# Whether times of files show what was changed, in the place in which all is played.
 TELLING = kind_of(BASE) == "ext4" and are_fine(BASE)

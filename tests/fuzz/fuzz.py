@@ -1,15 +1,15 @@
 #!/usr/bin/env python3
-"""Plays hostile inputs with the built program: configurations, files of stores, messages, paths, hooks, and limits of what
-is remembered.
+"""Checks the built program on hostile inputs: configurations, files of stores, messages, paths, hooks, and limits of what
+is cached.
 
 Usage: tests/fuzz/fuzz.py [--seconds N] [--seed N] [--case N] [--program FILE] [--trial FILE]
        (default: 60 seconds, seed 1, all cases that there is time for, and the built programs)
 
-Each answer has to be one that docs/REFERENCE.md says (tests/fuzz/fuzz_answers.py): no crash, no hang, no other line; and a command
-that is refused has to leave each file, and what `status`, `log`, `fixes` and `memory` show, as it was. Where more is known of an
-answer, as which fault a path has, it has to be that one.
+Each answer has to be one that docs/REFERENCE.md allows (tests/fuzz/fuzz_answers.py): no crash, no hang, no other line. A command that is
+refused has to leave each file, and what `status`, `log`, `fixes` and `memory` show, as it was. If more is known of an answer, such as
+which fault a path has, it has to be that one.
 
-A case has a number, from 0 on, which says its kind, and its inputs hang on that and on the seed alone. A case that fails prints
+A case has a number, from 0 on. The number gives its kind, and its inputs depend only on the number and the seed. A case that fails prints
 both. With `--case` it is played alone, prints all that it did, and leaves a copy of its folder as its last command found it.
 """
 import argparse
@@ -47,9 +47,9 @@ from host_program import PROGRAM, Wrong
 
 if WORDS.trial:
     fuzz_configurations.TRIALS["run_trial"] = os.path.abspath(WORDS.trial)
-# Folders are made here where there is room for large files: on the disk each command waits for it.
+# Folders are made in a place with room for large files: on the disk each command waits for it.
 IN_MEMORY, ROOM = "/dev/shm", 1 << 30
-# Cases that fail are told up to here: more tell no more.
+# At most this many failed cases are printed: more would add no information.
 MOST_TOLD = 10
 KINDS = [plays_configurations, plays_stores, plays_messages, plays_paths, plays_hooks, plays_limits]
 
@@ -69,7 +69,7 @@ class Bases:
 
 
 def remove(folder):
-    """Removes the folder of a case, in which a hook may have taken away what a folder is to be read with."""
+    """Removes the folder of a case. A hook may have removed the permissions by which a folder is read."""
     subprocess.run(["chmod", "-R", "u+rwx", folder], stderr=subprocess.DEVNULL)
     shutil.rmtree(folder, ignore_errors=True)
 
@@ -85,7 +85,7 @@ def play(bases, number):
     except Wrong as error:
         return case, str(error)
     except Exception as error:
-        # An answer that nobody thought of isn't to end the cases behind it.
+        # An answer that nobody thought of must not end the cases after it.
         return case, f"{type(error).__name__}: {error}"
     finally:
         remove(case.folder)
@@ -104,7 +104,7 @@ def tell(case, number, wrong):
 
 
 def numbers():
-    """The numbers of the cases that there is time for, or that of the one that is asked for."""
+    """The numbers of the cases that there is time for, or that of the one that is named."""
     if WORDS.case is not None:
         yield WORDS.case
         return
@@ -116,14 +116,14 @@ def numbers():
 
 
 def place():
-    """Where folders are made, or none for the system's own place."""
+    """The folder in which folders are made, or none for the system's own place."""
     return IN_MEMORY if os.path.isdir(IN_MEMORY) and shutil.disk_usage(IN_MEMORY).free >= ROOM else None
 
 
 def main():
-    # A gate that is ended leaves no folder behind.
+    # A gate that is ended leaves no folder.
     signal.signal(signal.SIGTERM, lambda number, _: sys.exit(128 + number))
-    # Who starts this in the background may have it ignore some that hooks send themselves.
+    # The shell that starts this in the background may have it ignore some signals that hooks send themselves.
     signal.signal(signal.SIGINT, signal.default_int_handler)
     for number in (signal.SIGQUIT, signal.SIGHUP):
         signal.signal(number, signal.SIG_DFL)

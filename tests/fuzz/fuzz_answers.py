@@ -1,4 +1,4 @@
-"""What docs/REFERENCE.md says that a command may answer, for tests/fuzz/fuzz.py: the exit statuses, and each refusal by number and name."""
+"""What docs/REFERENCE.md allows a command to answer, for tests/fuzz/fuzz.py: the exit statuses, and each refusal by number and name."""
 import collections
 import re
 from pathlib import Path
@@ -45,14 +45,14 @@ TRY_FAULTS = numbered(next(tables(section_of("Refusals"), "number", "name", "whe
 CONFIG_FAULTS = numbered(next(tables(section_of("Refusals"), "number", "kind", "when", "what to do")))
 YAML_FAULTS = numbered(next(tables(section_of("Refusals"), "number", "kind", "when")))
 STORE_FAULTS = numbered(next(tables(section_of("The store"), "number", "name", "when", "what to do")))
-# The line of a report for each fault of a child, and what tells one.
+# The line of a report for each fault of a child, and the pattern that identifies one.
 CHILD_FAULTS = {row[0]: row[1].encode() + b"\n" for row in next(tables(section_of("The report"), "fault", "its line"))}
 MOST_PATH_BYTES, MOST_OUTPUT_BYTES, MOST_CONFIGURATION_BYTES = map(most_bytes, ["path", "output of a child", "configuration"])
 INNER = {"BadPath": PATH_FAULTS, "BadConfig": CONFIG_FAULTS, "Store": STORE_FAULTS}
 
 
 def refusals_of_commands():
-    """What stands behind `refused: `, by the command; that of opening and that of the command are one set."""
+    """What comes after `refused: `, by the command; that of opening and that of the command are one set."""
     found = {"": {}, "try": {}, "check": {}}
     for name, number in TRY_FAULTS.items():
         found[""][f"{number} {name}"] = found["try"][f"{number} {name}"] = name
@@ -89,9 +89,9 @@ DONE = {
     "commit": REPORT + rb"commit [1-9]\d*\n", "cat": rb".*", "log": rb"(?:[1-9]\d* [^\n]*\n)*", "show": rb"(?:.*\n)?\n(?:[^\n]+\n)*",
     "memory": rb"remembered: \d+\n", "forget": rb"forgotten: \d+\n",
 }
-# What those print that may end with 1.
+# The output of the commands that may end with 1.
 FAILED = {"": REPORT, "try": REPORT, "run": REPORT, "run-files": REPORT, "commit": REPORT, "explain": rb"[^\n]*:\d+: [^\n]+\n.*"}
-# The lines that tell of a commit that isn't there, and of bytes that aren't.
+# The lines that report a commit that isn't there, and bytes that aren't.
 MISSING = {"show": rb"no commit \d+", "cat": rb"no commit \d+|no [^\n]* in commit \d+|no fixed bytes of [^\n]*"}
 AT = rb'hookhost: at [^\x00-\x1f\x7f]*\n'
 STOPPED_BEHIND_A_COMMIT = rb"(?:hookhost: [^\n]*\n)?"
@@ -99,7 +99,7 @@ STOPPED_BEHIND_A_COMMIT = rb"(?:hookhost: [^\n]*\n)?"
 
 def is_unusable(words, told):
     """Whether a command of these words may say that this can't be used: a word, a value of one, or what it reads anyway. With
-    `add` it may stand in a list, or below a folder."""
+    `add` it may be in a list, or below a folder."""
     command, values = command_of(words), [word.encode() if isinstance(word, str) else word for word in words[1:]]
     if command in ("check", "explain", "try", ""):
         known = [CONFIGURATION.encode()] if command in ("check", "explain") and not values else []
@@ -138,13 +138,13 @@ def command_of(words):
     return word if isinstance(word, str) else word.decode(errors="replace")
 
 
-# What stands behind a report of which a hook's command met a fault: what was in the way of files, and what could not be started.
+# What comes after a report of which a hook's command met a fault: what was in the way of files, and what could not be started.
 TROUBLES = rb"(?:hookhost: (?!refused|cannot )[^\n]+: [^\n]+\n)?(?:hookhost: cannot start [^\n]*: [^\n]+\n)?"
 RUNNING = ("", "try", "run", "run-files", "commit")
 
 
 def wrong_answer(words, answer):
-    """How an answer is none that the reference says of these words, or None."""
+    """What makes an answer one that the reference doesn't allow for these words, or None."""
     command = command_of(words)
     if answer.status not in STATUSES:
         return f"it ends with {answer.status}"

@@ -10,9 +10,9 @@ from fuzz_play import LIMIT, environment, text_of
 from host_program import check
 from places import program
 
-# Where another program for tests is to be taken than the built one.
+# Another program for tests can be given in place of the built one.
 TRIALS = {}
-# What hooks of made configurations may start: nothing that writes, waits or ends anything else.
+# What hooks of made configurations may start: nothing that writes, waits or ends other processes.
 HARMLESS = ("true", "false", "cat", "echo", "wc")
 # A text with one of these may name another program, or a file without an end, and is read but not run.
 UNSAFE = (b"bin", b"/dev", b"/proc", b"/lib", b"/etc", b"\\x", b"\\u", b"#!", b"~")
@@ -42,7 +42,7 @@ class Texts:
 
 
 def played(crate, call, texts):
-    """What a program for tests answers to a call on each text, or none where it isn't built."""
+    """What a program for tests answers to a call on each text, or none if it isn't built."""
     path = TRIALS.get(crate) or program(crate)
     if not os.path.exists(path):
         return [None] * len(texts)
@@ -54,7 +54,7 @@ def played(crate, call, texts):
 
 
 def read_by_the_trials(texts):
-    """How run_trial reads each text: the number of the fault's kind, or 0 and how many hooks there are. Where yaml_trial reads
+    """How run_trial reads each text: the number of the fault's kind, or 0 and how many hooks there are. If yaml_trial reads
     no node, that is the fault, and no other text has it."""
     read = [answer and reading(text, answer) for text, answer in zip(texts, played("run_trial", "read_config", texts))]
     for text, found, answer in zip(texts, read, played("yaml_trial", "read_yaml", texts)):
@@ -74,7 +74,7 @@ def reading(text, answer):
 
 
 def read_by_the_program(case):
-    """How `check` and `explain` read the configuration of the folder, as run_trial tells it."""
+    """How `check` and `explain` read the configuration of the folder, as run_trial gives it."""
     told, why = case.run("check"), case.run("explain")
     is_taken = told.status == 0
     check((told.status, why.status) in ((0, 0), (3, 1)), f"check answers {text_of(told)} and explain {text_of(why)}")
@@ -92,7 +92,7 @@ def made_skip(chance):
 
 
 def run_made(case, text, number, count, tools):
-    """The configuration that stands in the folder, through `try` and staged through `run`, which have to say the same."""
+    """The configuration that is in the folder, through `try` and staged through `run`, which have to say the same."""
     env = environment(tools)
     case.does("add", CONFIGURATION)
     if number:

@@ -1,4 +1,4 @@
-"""Cases of tests/fuzz/fuzz.py: hooks that print any bytes, end anyhow, and do anything to their files."""
+"""Cases of tests/fuzz/fuzz.py: hooks that print any bytes, end in any way, and do anything to their files."""
 from fuzz_answers import CHILD_FAULTS, CONFIGURATION, MOST_OUTPUT_BYTES, Answer, refusal
 from fuzz_play import entries_of, text_of
 from host_program import check, line
@@ -13,7 +13,7 @@ DEEDS = [
     "truncate -s 3G {0}", "mkdir .git; echo > .git/COMMIT_EDITMSG", "touch \"$(printf '\\377\\n')\"",
     "i=0; while [ $i -lt 40 ]; do mkdir x{0}$i; i=$((i+1)); done 2> /dev/null", "printf 'print(1)' > {0}; chmod 700 {0}",
 ]
-# What stands last, since a later deed would write through a link, or wait for a fifo.
+# What comes last, since a later deed would write through a link, or wait for a fifo.
 LAST_DEEDS = [
     "rm -rf {0}; mkfifo {0}", "rm -rf {0}; ln -s ../../outside {0}", "rm -rf {0}; ln -s . {0}", "rm -rf {0}; ln -s {0} {0}",
     "rm -rf {0}; ln -s none {0}", "rm -rf {0}; ln -s /etc {0}", "rm -rf d; ln -s ../../outside-folder d", "ln -s /dev/zero new",
@@ -22,7 +22,7 @@ BLANKS = bytes(range(9, 14)) + b" "
 
 
 class Hook:
-    """A hook of a script, and what is known of what it says."""
+    """A hook of a script, and what is known of its output."""
 
     def __init__(self, chance, number):
         self.number, self.is_verbose = number, chance.random() < 0.5
@@ -36,7 +36,7 @@ class Hook:
         self.is_to_errors = chance.random() < 0.3
 
     def script(self):
-        """The output comes first, since a deed may take away what it is read from."""
+        """The output comes first, since a deed may remove the file that it is read from."""
         to = " >&2" if self.is_to_errors else ""
         lines = ["exec 2> /dev/null"] if self.deeds and not self.is_to_errors else []
         lines.append(f"cat said{self.number}{to}")
@@ -47,12 +47,12 @@ class Hook:
         return "\n".join(lines).encode() + b"\n"
 
     def line(self):
-        # A script may be taken away by another hook before it, so it stands outside of the files.
+        # A script may be removed by another hook before it, so it is outside of the files.
         keys = f"entry: sh ../../script{self.number}, pass_filenames: false, verbose: {str(self.is_verbose).lower()}"
         return f"  - {{id: h{self.number}, name: Hook {self.number}, language: system, {keys}}}\n"
 
     def told(self):
-        """Its text in the report, where it does nothing to files."""
+        """Its text in the report, if it does nothing to files."""
         fault = CHILD_FAULTS["a signal ended it"] if self.signal else CHILD_FAULTS["it wrote over 1 MiB"] if self.more else b""
         has_failed = bool(fault or self.status)
         text = line(f"Hook {self.number}", "Failed" if has_failed else "Passed")
@@ -102,7 +102,7 @@ def outside_of(case):
 
 
 def plays_hooks(case, bases):
-    """Hooks that print anything, end anyhow, and do anything to their files. What they answer is the same each time."""
+    """Hooks that print anything, end in any way, and do anything to their files. What they answer is the same each time."""
     hooks = [Hook(case.chance, number) for number in range(case.chance.choice([1, 1, 2, 4]))]
     lay_hooks(case, hooks)
     outside = outside_of(case)
@@ -114,7 +114,7 @@ def plays_hooks(case, bases):
     fixes = case.does("fixes")
     for words in (["run", "--all-files"], ["run", "--all-files", "--fresh"]):
         if case.chance.random() < 0.3:
-            # What goes is asked for again, and answers as before.
+            # What is dropped is started again, and answers as before.
             case.does("memory", f"--limit={case.chance.choice([1, 1, 2, 3, 100])}")
         again = case.run(*words)
         check(again == first, f"{words!r} says {text_of(again)}, and the first run said {text_of(first)}")

@@ -36,7 +36,7 @@ PATH_PIECES = [
 # ---- configurations
 
 def bytes_in(row):
-    """The texts of a row of a table, however they lie within one another."""
+    """The texts of a row of a table, at any depth within one another."""
     for each in row:
         if isinstance(each, (list, tuple)):
             yield from bytes_in(each)
@@ -45,7 +45,7 @@ def bytes_in(row):
 
 
 def laid_in_sessions():
-    """The files that sessions lay."""
+    """The files that sessions write."""
     folder = os.path.join(TOP, "tests", "sessions")
     for name in sorted(name for name in os.listdir(folder) if name.endswith(".txt")):
         with open(os.path.join(folder, name), encoding="utf-8") as file:
@@ -53,7 +53,7 @@ def laid_in_sessions():
 
 
 def configurations():
-    """The texts that stand in tables and sessions, each once, those that are no configuration too."""
+    """The texts that are in tables and sessions, each once, those that are no configuration too."""
     found = [text for text, _ in [*yaml_texts.read_rows(), *yaml_texts.refused_rows()]]
     found += [text for name in TABLES for row in row_tables.table_of(name).ROWS for text in bytes_in(row[1:-1]) if b"repos" in text]
     texts = [text.encode() if isinstance(text, str) else text for text in [*found, *laid_in_sessions()]]
@@ -173,7 +173,7 @@ def exchange_word(chance, data, others):
 
 
 WORD = rb"[^ \r\n,:{}\[\]]+"
-# Those that leave the layout mostly as it is, so that more is read behind it, and all.
+# Those that leave the layout mostly as it is, so that more is read after it, and all.
 SOFT_MAKERS = [drop_line, swap_lines, double_line, exchange_key, exchange_key, exchange_word, exchange_word]
 MAKERS = [flip, cut, end_early, double, join, cross, put, put, put_random, indent, *SOFT_MAKERS]
 
@@ -189,5 +189,5 @@ def made_of(chance, others):
 
 
 def joined(chance, pieces, most):
-    """Some of these pieces side by side."""
+    """Some of these pieces next to one another."""
     return b"".join(chance.choice(pieces) for _ in range(chance.randint(0, most)))

@@ -1,4 +1,4 @@
-"""Cases of tests/fuzz/fuzz.py: words that limit how many answers are remembered, and runs in between."""
+"""Cases of tests/fuzz/fuzz.py: values that limit how many answers are cached, and runs in between."""
 import re
 import shutil
 
@@ -15,13 +15,14 @@ VALUES = [
     "NaN", "\u0663", "\uff12", "\u00b2", "\u4e00", "4294967297", "18446744073709551617", "9" * 400, "=1", "1=1", "1 2",
     "1;2", "--limit=1",
 ]
-# Runs say the same each time, whatever is remembered.
+# Runs print the same each time, with any results cached.
 RUNS = [["run", "--all-files"], ["run", "--all-files", "--fresh"], ["run-files", "a.txt"], ["run", "mend"]]
 OTHERS = [["forget"], ["status"]]
 
 
 def limit_in(value):
-    """The limit that a value tells, or none: decimal digits, which a plus may precede, of a number from 1 to 100,000."""
+    """The limit that a value gives, or none. A value is decimal digits, with or without a plus before them, of a number from 1 to
+    100,000."""
     text = "" if is_no_text(value) else value if isinstance(value, str) else value.decode()
     number = int(text) if re.fullmatch(r"\+?[0-9]+", text) else 0
     return number if 1 <= number <= MOST_ANSWERS else None
@@ -37,15 +38,15 @@ def drawn_value(chance):
 
 
 def words_of(chance, value):
-    """The words of a limit: its value is in one word with the option, or stands behind it, as none may that begins with a
-    dash."""
+    """The words of a limit. Its value is in one word with the option, or comes after it. A value that begins with a dash may not come
+    after it."""
     held = value if isinstance(value, bytes) else value.encode()
     is_apart = held and not held.startswith(b"-") and chance.random() < 0.4
     return ["memory", "--limit", held] if is_apart else ["memory", b"--limit=" + held]
 
 
 def plays_limits(case, bases):
-    """Values of `--limit` of any kind, on a repository that remembers answers."""
+    """Values of `--limit` of any kind, on a repository with cached results."""
     shutil.rmtree(case.folder)
     shutil.copytree(bases.told, case.folder)
     limit, first = FIRST_LIMIT, {tuple(words): case.run(*words) for words in RUNS}
@@ -59,7 +60,7 @@ def plays_limits(case, bases):
 
 
 def limits(case, value, count, limit):
-    """Plays a value where so many answers are remembered. Answers the limit then."""
+    """Plays a value on a repository with so many cached results. Answers the limit then."""
     words, asked = words_of(case.chance, value), limit_in(value)
     if asked is not None:
         case.has(words, Answer(0, f"remembered: {min(count, asked)}\n".encode(), b""))

@@ -25,7 +25,7 @@ MESSAGE_HOOK = """repos:
 
 
 def shows_the_commit(case, number, message):
-    """That the commit with this number has this cleaned message."""
+    """Checks that the commit with this number has this cleaned message."""
     shown = case.does("show", str(number))
     check(shown == message + b"\n" + f"{CONFIGURATION}\na\nmade\n".encode(), f"the commit with the message {text_of(message)} is shown as {text_of(shown)}")
     first = case.does("log").split(b"\n")[0]
@@ -44,8 +44,8 @@ def takes_a_message(case, number, words, message, printed):
 
 
 def plays_messages(case, bases):
-    """Messages of `-m`, and those that a hook writes over them. A word of the hook names the file that it copies, since it would
-    be answered as remembered otherwise."""
+    """Messages of `-m`, and those that a hook writes over them. A word of the hook names the file that it copies. Otherwise a cached
+    result would answer it."""
     stage = case.chance.choice(["commit-msg", "prepare-commit-msg"])
     entry, number = case.chance.choice(["cp made", "sh -c 'cat $0 > $1' made", "sh -c 'rm $1; cp $0 $1' made"]), 1
     case.does("init")

@@ -1,4 +1,4 @@
-"""Cases of tests/fuzz/fuzz.py: paths of any bytes, as words and in lists, beside the rules of docs/REFERENCE.md."""
+"""Cases of tests/fuzz/fuzz.py: paths of any bytes, as words and in lists, compared with the rules of docs/REFERENCE.md."""
 import os
 
 import fuzz_inputs
@@ -14,7 +14,7 @@ def parts(path):
     return path.split(b"/")
 
 
-# What tells each fault of a path, in no order: that is the table's.
+# What identifies each fault of a path, in no order: the order is in the table.
 FAULTY = {
     "Empty": lambda path: path == b"",
     "TooLong": lambda path: len(path) > MOST_PATH_BYTES,
@@ -33,7 +33,7 @@ def fault_of(path):
 
 
 def made_path(chance, known):
-    """A path of pieces, one that is known, or one beside the limit of a path."""
+    """A path of pieces, one that is known, or one close to the limit of a path."""
     if known and chance.random() < 0.3:
         return chance.choice(known)
     if chance.random() < 0.06:
@@ -44,7 +44,7 @@ def made_path(chance, known):
 
 
 def lay(case, path):
-    """Writes a file at the path, where the system takes it and it lies in the folder, but for the program's own."""
+    """Writes a file at the path, if the system takes it and it lies in the folder, but isn't one of the program's own."""
     if b".." in parts(path) or path.startswith(b"/") or os.path.normpath(path).startswith((b".hookhost", b"..")):
         return False
     try:
@@ -88,7 +88,7 @@ def adds(case, path, staged):
 
 
 def reads_staged(case, staged):
-    """Puts in what is staged by now, where no model says it: in a repository without commits, whose paths end no line."""
+    """Adds what is staged by now, if no model says it: in a repository without commits, whose paths end no line."""
     names = [name[2:] for name in case.does("status").split(b"\n") if name]
     for each in {*staged} - {*names}:
         del staged[each]
@@ -114,7 +114,7 @@ def removes(case, path, staged):
     if is_no_text(path):
         case.has(words, NO_TEXT)
     elif path.rstrip(b"/") != path or path == b".":
-        # A word of a folder, however many slashes stand behind it.
+        # A word of a folder, with any number of slashes after it.
         case.run(*words)
         reads_staged(case, staged)
     elif path in staged or below:
@@ -128,7 +128,7 @@ def removes(case, path, staged):
 
 
 def runs_files(case, paths, staged):
-    """All paths have to be staged, and the first that isn't is told."""
+    """All paths have to be staged, and the first that isn't is reported."""
     words = ["run-files", "--", *paths]
     wrong = next((path for path in paths if fault_of(path) is not None or path not in staged), None)
     if any(map(is_no_text, paths)):

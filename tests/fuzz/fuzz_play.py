@@ -10,14 +10,14 @@ from host_program import LOCK, PROGRAM, STORE, check, write
 
 # What is answered to a word that isn't UTF-8.
 NO_TEXT = Answer(2, b"", b"error: a word is not UTF-8\n")
-# A command that takes longer hangs: the slowest here takes a few seconds on a machine that does other work too.
+# A command that takes longer counts as hanging: the slowest here takes a few seconds on a machine that does other work too.
 LIMIT = 30
 SHOWING = ["status", "log", "fixes", "memory"]
-# The commands that change nothing, but for `memory` with a limit.
+# The commands that change nothing, except `memory` with a limit.
 LOOKING = (*SHOWING, "cat", "show", "check", "explain")
-# How often what the repository shows is looked at behind a change, to be compared behind the refusals that follow.
+# How often what the repository shows is looked at after a change, to be compared after the refusals that follow.
 LOOKS = 0.3
-# The commands that may remember answers of hooks, though they are refused behind them.
+# The commands that may cache results of hooks though they are refused after them.
 RUNNING = ["run", "run-files", "commit"]
 # What any command may change: the lock, SQLite's log, and the folder of the commands of hooks.
 MAY_CHANGE = (os.fsencode(LOCK), os.fsencode(STORE) + b"-wal")
@@ -26,12 +26,12 @@ SHOWN_BYTES = 1500
 
 
 def environment(path=None):
-    """That of a command, whose hooks find their programs in this folder alone, where one is named."""
+    """The environment of a command. If a folder is named, its hooks find their programs in that folder alone."""
     return {key: held for key, held in os.environ.items() if key != "SKIP"} | ({"PATH": path} if path else {})
 
 
 def answer_of(words, folder, given=b"", env=None):
-    """What the program answers in the folder. What hangs is ended with all that it has started."""
+    """What the program answers in the folder. A program that hangs is ended with all that it has started."""
     with subprocess.Popen([PROGRAM, *words], cwd=folder, env=env or environment(), start_new_session=True,
                           stdin=subprocess.PIPE, stdout=subprocess.PIPE, stderr=subprocess.PIPE) as child:
         try:
@@ -44,7 +44,7 @@ def answer_of(words, folder, given=b"", env=None):
 
 
 def entry_at(path):
-    """What stands at a path, without a look behind a link or into a fifo."""
+    """What is at a path, without following a link or into a fifo."""
     if os.path.islink(path):
         return "link", os.readlink(path)
     if os.path.isdir(path):
@@ -56,7 +56,7 @@ def entry_at(path):
 
 
 def entries_of(folder):
-    """All that stands below a folder by its path, but for what any command may change."""
+    """All that is below a folder by its path, except what any command may change."""
     top, found = os.fsencode(folder), {}
     for at, folders, names in os.walk(top):
         within = os.path.relpath(at, top)
@@ -89,12 +89,12 @@ class Case:
     def __init__(self, folder, chance, kept=None):
         self.folder, self.chance, self.kept = folder, chance, kept
         self.steps, self.commands, self.refused = [], 0, 0
-        # What lay in the folder behind the last change, and what the repository showed then, where it was looked at.
+        # What was in the folder after the last change, and what the repository showed then, if it was looked at.
         self.entries, self.shown, self.is_unsure = None, None, False
         self.looks = random.Random(chance.random())
 
     def note(self, *step):
-        """Keeps what was done, to be printed where the case fails."""
+        """Keeps what was done, to be printed if the case fails."""
         self.steps.append(step)
 
     def write(self, path, held):
@@ -104,12 +104,12 @@ class Case:
         write(*((os.fsencode(self.folder), path) if isinstance(path, bytes) else (self.folder, path)), held)
 
     def changes(self):
-        """What the folder holds and shows is no longer known. What it showed behind refused commands is looked at before."""
+        """What the folder holds and shows is no longer known. What it showed after refused commands is looked at before."""
         self.ends()
         self.entries = self.shown = None
 
     def run(self, *words, given=b"", env=None):
-        """What a command answers, which has to be an answer, and to leave all as it was where it is a refusal."""
+        """What a command answers. It has to be an allowed answer, and a refusal has to leave all as it was."""
         command, looks = command_of(words), is_looking(words)
         if not looks:
             self.ends()
@@ -139,8 +139,8 @@ class Case:
         return shown
 
     def is_left(self, command, answer):
-        """That a refused command has left all files as they were. Behind hooks the store may have other answers; what it shows
-        else is looked at later, but where each command is looked at."""
+        """Checks that a refused command has left all files as they were. After hooks the store may have other answers. What else it shows
+        is looked at later, or at once if each command is looked at."""
         self.refused += 1
         after, is_of_hooks = entries_of(self.folder), command in RUNNING
         changed = sorted(path for path in {*self.entries, *after} if self.entries.get(path) != after.get(path))
@@ -152,8 +152,8 @@ class Case:
             self.entries = self.shown = None
 
     def ends(self):
-        """That the refused commands since the last change have left what the repository shows. Hooks before a refusal may have
-        answered, which is remembered."""
+        """Checks that the refused commands since the last change have left what the repository shows. Hooks before a refusal may have
+        answered, which is cached."""
         if not self.is_unsure:
             return
         self.is_unsure, after = False, self.showing()
@@ -180,7 +180,7 @@ class Case:
         return answer.out
 
     def keep(self):
-        """Keeps the folder as the next command finds it, without the folder of hooks, in which a fifo may stand."""
+        """Keeps the folder as the next command finds it, without the folder of hooks, in which a fifo may be."""
         shutil.rmtree(self.kept, ignore_errors=True)
         shutil.copytree(self.folder, self.kept, symlinks=True, ignore=shutil.ignore_patterns("scratch*"))
 

@@ -42,7 +42,7 @@ SCHEMAS = [
     "PRAGMA writable_schema = 1; DELETE FROM sqlite_schema WHERE name LIKE 'sqlite_autoindex%'",
 ]
 PAGE = 4096
-# What any command says of a store that isn't opened.
+# What any command prints for a store that isn't opened.
 UNUSABLE = Answer(3, b"", f"hookhost: cannot use {STORE}\n".encode())
 SHUT = [UNUSABLE, *(Answer(3, b"", f"hookhost: refused: {each}\n".encode()) for each in REFUSALS_OF_OPENING)]
 
@@ -115,7 +115,7 @@ def change_of_rows(chance, database):
 
 
 def damage_rows(chance, path):
-    """Changes the rows or the tables of a store. Answers the statements, each with what sqlite3 said of it."""
+    """Changes the rows or the tables of a store. Answers the statements, each with what sqlite3 printed for it."""
     done = []
     database = sqlite3.connect(path, isolation_level=None)
     database.execute("PRAGMA ignore_check_constraints = 1")
@@ -201,7 +201,7 @@ def damage(case):
 
 
 def plays_stores(case, bases):
-    """A store whose file another program damaged. As it is refused when it is opened, so it is for each command."""
+    """A store whose file another program damaged. It is refused by each command as it is when it is opened."""
     shutil.rmtree(case.folder)
     shutil.copytree(bases.told, case.folder)
     damage(case)

@@ -1,11 +1,12 @@
 #!/usr/bin/env python3
-"""Plays git/hookhost-git as the hook of real repositories of Git.
+"""Checks git/hookhost-git as the hook of real repositories of Git.
 
 Usage: tests/git/git_bridge.py [PROGRAM [PART [PLAYS [FIRST]]]]   (default: crates/hookhost/out/hookhost, all parts, 200 plays from 1 on)
 
 PART is `cases`, `plays`, `kills`, or a part of a case's name.
-First what docs/GIT.md promises, case by case (tests/git/git_bridge_cases.py, .._fixes.py, .._runs.py, .._calls.py, .._served.py, .._keeping.py, .._share.py, .._tools.py, .._links.py, .._partial.py and .._state.py), and what
-README.md shows (tests/git/git_bridge_readme.py). Then random repositories beside copies of them in which pre-commit is the hook
+First come the promises of docs/GIT.md, case by case (tests/git/git_bridge_cases.py, .._fixes.py, .._runs.py, .._calls.py,
+.._served.py, .._keeping.py, .._share.py, .._tools.py, .._links.py, .._partial.py and .._state.py), and what README.md shows
+(tests/git/git_bridge_readme.py). Then come random repositories that are compared with copies in which pre-commit is the hook
 (tests/git/git_bridge_plays.py), and kills (tests/git/git_bridge_kills.py).
 """
 import os

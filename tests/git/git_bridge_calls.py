@@ -1,5 +1,5 @@
-"""What hooks of hookhost-git find of Git and of their environment: which calls have a repository made for them, which are refused,
-and which are Git's own; for tests/git/git_bridge.py. What a repository says is looked at in tests/git/git_bridge_served.py."""
+"""What hooks of hookhost-git find of Git and of their environment, for tests/git/git_bridge.py. Some calls have a repository made for
+them, some are refused, and some are Git's own. What a repository says is looked at in tests/git/git_bridge_served.py."""
 import os
 import shutil
 
@@ -8,7 +8,7 @@ from git_bridge_repository import Repository, check, content, made, not_made, qu
 # Calls for which there is no repository, and so are refused in the folder of hooks: those that name the empty `.git`, or none.
 REFUSED = ["git --git-dir=.git log", "git --git-dir .git log", "git --bare log", "env GIT_DIR=.git git grep x", "env GIT_DIR= git grep x", "git --git-dir=.git 'line\nfeed'", "xargs git --git-dir=.git grep secret",
            "git-grep --git-dir=.git x; git --git-dir=.git grep x"]
-# Calls that have a repository made for them, where there is none yet, with which they say what they say in the working tree.
+# Calls that have a repository made for them if there is none yet. With it they print what they print in the working tree.
 SERVED = [
     "git grep -q secret", "git grep -q secret -- --no-index", "git grep --untracked -h a", "git-grep -q secret", "git ls-files", "git-ls-files a", "git status", "git diff a b", "git diff --cached --check",
     "git diff -- --no-index", "git log", "git rev-parse --show-prefix", "git check-attr -a a", "git check-ignore a", "git apply a", "git blame -s a", "git hash-object a", "echo a | git hash-object --stdin",
@@ -47,7 +47,7 @@ def called(git, words):
     calls, env = os.path.join(git.home(), "lists/git_calls"), {"HOOKHOST_TOP": git.folder, "GIT_CEILING_DIRECTORIES": os.path.dirname(os.path.dirname(git.scratch()))}
     git.write(calls, "")
     answers = []
-    # A colon would part the folder in a PATH, so there it goes by another name.
+    # A colon would part the folder in a PATH, so there it has another name.
     short = git.folder.replace(":", ";") + ".bin"
     if not os.path.islink(short):
         os.symlink(os.path.join(git.home(), "bin"), short)
@@ -59,7 +59,7 @@ def called(git, words):
 
 
 def calls_of_git(top, env):
-    """Of a repository whose path has a blank, quotes and a colon, so that Git itself would find the Git folder above."""
+    """Compares calls of a repository whose path has a blank, quotes and a colon. With it Git itself would find the Git folder above."""
     for name in ("git", "it's a:b \"c\""):
         git = repository(top, env, "id: a, name: A, language: fail, entry: a, files: '^a$'", name=name)
         git.git("config", "--global", "user.name", "x")
@@ -110,7 +110,7 @@ def a_hook_that_fixes_and_calls_git(top, env):
 
 
 def a_call_that_cannot_be_written_down(top, env):
-    """Then the file that should hold it is taken away, which says the same."""
+    """If the file that should hold it is removed, the result is the same."""
     git = repository(top, env, "id: gone, name: Gone, language: system, " + shell('rm "$HOOKHOST_GIT_CALLS"'))
     git.add("a.txt", "a\n")
     refused(git.bridge("run"), f"calls Git, {CALLS_GIT}")
@@ -120,7 +120,7 @@ def a_call_that_cannot_be_written_down(top, env):
 
 
 def a_git_of_another_path(top, env):
-    """What a Git tells that isn't that of hooks, by its full path or a PATH of the hook's own."""
+    """What a Git prints that isn't that of hooks, by its full path or a PATH of the hook's own."""
     real = shutil.which("git", path=env["PATH"])
     takes = [f"{real} --version", f"{real} init --quiet new && cd new && {real} status", f"{real} config --global nope; true", "git init --quiet x && cd x && ! git show nope"]
     serves = [f"{real} ls-files --error-unmatch a.sh", "PATH=/usr/bin:/bin; git ls-files --error-unmatch a.sh", f"test \"$({real} rev-parse --show-toplevel)\" = \"$PWD\"", f"cd sub; {real} grep -q word",
@@ -132,7 +132,7 @@ def a_git_of_another_path(top, env):
         git.add("a.sh", text + "\n")
         same(f"{text!r} passes", git.bridge("run").status, 0)
         check(git.store("memory").out != "remembered: 0\n", f"nothing is remembered of {text!r}")
-    # What a killed run has remembered, and hasn't looked at.
+    # What a killed run has cached, and hasn't looked at.
     for name in ("git_trace", "git_calls"):
         git.add("a.sh", takes[0] + "\n")
         same("run", git.bridge("run").status, 0)
@@ -165,7 +165,7 @@ def a_git_of_another_path(top, env):
 
 
 def the_git_of_hooks_is_never_the_real_one(top, env):
-    """Neither by a PATH of a hook, nor by a hook that commits elsewhere."""
+    """It isn't by the PATH of hooks, nor in a hook that commits elsewhere."""
     git = repository(top, env, "id: a, name: A, language: fail, entry: a, files: '^a$'")
     same("run", git.bridge("run").status, 0)
     path = os.path.join(git.home(), "bin") + ":" + env["PATH"]
@@ -180,7 +180,7 @@ def the_git_of_hooks_is_never_the_real_one(top, env):
 
 
 def a_path_with_a_colon(top, env):
-    """In which no PATH can name the git of hooks, so that it is given another name as long as a run takes."""
+    """No PATH can name the git of hooks then, so it is given another name as long as a run takes."""
     temporary = os.path.join(top, "temporary")
     os.mkdir(temporary)
     git = repository(top, env | {"TMPDIR": temporary}, NO_SECRETS, name="a:b")

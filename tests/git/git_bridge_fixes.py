@@ -1,5 +1,5 @@
-"""What hookhost-git does with what hooks fixed: which working files it writes and takes away, and that no text of another program
-is lost by it; for tests/git/git_bridge.py."""
+"""What hookhost-git does with the fixes of hooks, for tests/git/git_bridge.py: which working files it writes and removes, and that no
+text of another program is lost by it."""
 import os
 import shutil
 
@@ -7,8 +7,9 @@ from git_bridge_repository import BLANKS, BRIDGE, CONFIGURATION, Repository, Wro
 
 MOST_REMOVED = 10
 TIDY = "id: tidy, name: Tidy, language: system, entry: rm -f --, files: 'tmp$', require_serial: true"
-# What the script starts to fix a file, each found in a folder of its own first, where a script stands that counts from the call of
-# `hookhost fixes` on, and writes a line into a working file before one of them. Without links none leads to another folder, or none at all.
+# What the script starts to fix a file. Each is found first in a folder of its own, in which a script counts from the call of `hookhost
+# fixes` on. That script writes a line into a working file before one of them. If LINKS says so, no link to another folder can be made, or
+# none at all.
 COMMANDS = ["cat", "chmod", "cmp", "cp", "find", "ln", "mv", "rm", "hookhost"]
 TYPING = """#!/bin/sh
 if [ "{name}:$1" = hookhost:fixes ]; then : > "$TYPE_COUNT"; fi
@@ -57,7 +58,7 @@ def unstaged_changes_stay(top, env):
     same("the files", git.working_files(), before | {"b.txt": (0o644, b"x\n")})
     lines = answer.lines()
     same("the lines", [line.partition(", which")[0] for line in lines], ["left as it is: a's.txt", "fixed: b.txt"] + [f"left as it is: {path}" for path in ("gone.txt", "in/c.txt", "linked.txt")])
-    words = lines[0].partition("; fixed it is: ")[2]
+    words = lines[0].partition("; its fix: ")[2]
     same("what the line says", git.run("sh", "-c", words, cwd="out").out, "x\n")
 
 
@@ -96,17 +97,17 @@ def many_removed_files_stay(top, env):
     answer = git.commit()
     not_made(answer)
     lines = answer.lines()
-    same("what is told", lines[0], f"not removed: {len(names) - 1} files that hooks removed, since one run takes at most {MOST_REMOVED} away")
+    same("what is told", lines[0], f"not removed: {len(names) - 1} files that hooks removed, since one run removes at most {MOST_REMOVED}")
     same("what else is fixed", lines[2:], ["fixed: a.txt"])
     same("the files", git.working_files(), before | {"a.txt": (0o644, b"x\n")})
     git.write("changed.tmp", "x\nmore\n")
-    words = lines[1].removeprefix("those of them that still are what is staged are taken away by: ")
+    words = lines[1].removeprefix("to remove those that are still as they are staged: ")
     answer = git.run("sh", "-c", words)
     same("what the line says", answer.status, 0)
     same("what is left", sorted(path for path in git.working_files() if path.endswith("tmp")), ["changed.tmp"])
     check("left as it is: changed.tmp, which isn't what is staged" in answer.err, f"{answer!r}")
     refused(git.bridge("remove"), "there is nothing to remove")
-    # What a run has written down, the next one forgets.
+    # What a run has written down, the next one removes.
     for path in names:
         git.add(path, "x\n")
     git.git("add", "a.txt")
@@ -127,7 +128,7 @@ def diff_of_fixes(top, env):
     same("run", answer.status, 1)
     shown = answer.out.partition("All changes made by hooks:\n")[2]
     same("the diff", [line for line in shown.split("\n") if line[:1] in "+-"], ["--- a/a's.txt", "+++ b/a's.txt", "-x ", "+x", "--- a/b.tmp", "+++ /dev/null", "-b", ""])
-    # What was fixed already is shown again; where nothing is fixed or nothing fails nothing is.
+    # What was fixed already is shown again. If nothing is fixed or nothing fails, nothing is.
     same("again", git.bridge("run", "--show-diff-on-failure").out.partition("All changes made by hooks:\n")[2], shown)
     same("without it", git.bridge("run").out.count("All changes"), 0)
     git.git("add", "--all")

@@ -1,5 +1,5 @@
-"""What hooks of hookhost-git that call Git leave: the repository as it was, nothing remembered, and no litter; for
-tests/git/git_bridge.py."""
+"""What hooks of hookhost-git that call Git leave, for tests/git/git_bridge.py: the repository as it was, nothing cached, and no left-over
+files."""
 import os
 import signal
 import subprocess
@@ -7,7 +7,7 @@ import time
 
 from git_bridge_repository import BRIDGE, Repository, check, content, made, not_made, quoted, refused, repository, same, shell
 
-# What hooks do that write, each in the folder where hooks run.
+# What hooks do that write, each in the folder in which hooks run.
 HOSTILE = [
     "git commit --quiet --allow-empty -m evil", "git commit --quiet --amend -m evil", "git config user.name evil", "git config --unset-all user.name", "git config core.hooksPath /nowhere", "git add --all .",
     "git rm --quiet --cached a.txt", "git gc --quiet --prune=now", "git repack -a -d -q", "git prune --expire=now", "git stash", "git stash clear", "git checkout --quiet -f other", "git checkout --quiet -b evil",
@@ -20,7 +20,7 @@ HOSTILE = [
 
 
 def everything(git):
-    """All files of the repository but those of the bridge and what a commit writes, byte for byte."""
+    """All files of the repository except those of the bridge and what a commit writes, byte for byte."""
     found = {}
     top = os.path.join(git.folder, ".git")
     for folder, folders, names in os.walk(top):
@@ -50,7 +50,7 @@ def hostile_hooks(top, env):
     same("run", git.bridge("run", env={"EVIL": "git status"}).status, 0)
     git.git("write-tree")
     before, files = everything(git), git.working_files()
-    # By these Git would write into the repository whatever it finds.
+    # With these Git would write into this repository, even if it finds another.
     variables = {"GIT_OBJECT_DIRECTORY": os.path.join(git.folder, ".git/objects"), "GIT_COMMON_DIR": os.path.join(git.folder, ".git")}
     for words, more in [(words, {}) for words in HOSTILE] + [(words, variables) for words in HOSTILE[:12]]:
         answer = git.bridge("run", env=more | {"EVIL": words})
@@ -91,7 +91,7 @@ def an_answer_that_follows_from_git(top, env):
 
 
 def what_is_remembered_without_git(top, env):
-    """Once no hook calls Git any more, answers are kept as before, and none of a run that was killed."""
+    """Once no hook calls Git any more, results are cached as before, and none of a run that was killed."""
     git = repository(top, env, "id: asks, name: Asks, language: system, " + shell('sh "$1"') + ", files: 'sh$'")
     git.add("a.sh", "git ls-files\n")
     same("run", (git.bridge("run").status, git.store("memory").out), (0, "remembered: 0\n"))
@@ -116,7 +116,7 @@ def fixes_of_a_hook_that_calls_git(top, env):
 
 
 def hooks_behind_one_that_writes(top, env):
-    """They find the repository as if it hadn't, and so does a command that is handed further files."""
+    """They find the repository as if it hadn't, and so does a command that is given further files."""
     looks = "test \"$(git diff --cached --name-only)\" = a.txt && ! git config a.b && test \"$(git log -1 --format=%s)\" = \"The configuration\" && test \"$(git ls-files -v a.txt)\" = 'H a.txt' && git diff --quiet"
     for number, words in enumerate(("git commit --quiet -m evil", "git config a.b c", "git update-index --assume-unchanged a.txt", "echo x > b; git add b; rm b", "git stash --quiet; git stash pop --quiet --index", "git rm -q --cached a.txt",
                                     "rm -rf \"$(git rev-parse --git-dir)\"", "rm \"$(git rev-parse --git-dir)/index\"", "git status")):
@@ -128,7 +128,7 @@ def hooks_behind_one_that_writes(top, env):
 
 
 def two_commits_at_once(top, env):
-    """Of two working trees, each of which finds its own repository; and in one, where the second is kept out."""
+    """Two commits run in two working trees, each of which finds its own repository. In one working tree the second run is kept out."""
     line = "sleep 0.5; test \"$(git branch --show-current)\" = \"$BRANCH\" && test \"$(git rev-parse --show-toplevel)\" = \"$PWD\" && git diff --cached --quiet -- other"
     git = repository(top, env, f"id: asks, name: Asks, language: system, {shell(line)}, pass_filenames: false")
     git.git("worktree", "add", "--quiet", "-b", "second", os.path.join(top, "second"))
@@ -171,7 +171,7 @@ def a_kill_while_a_hook_calls_git(top, env):
 
 
 def a_repository_that_cannot_be_made(top, env):
-    """Then what calls Git is refused, as if there were none."""
+    """A hook that calls Git is then refused, as if there were no repository for it."""
     git = repository(top, env, "id: asks, name: Asks, language: system, " + shell("! git grep -q '[s]ecret'") + ", files: 'txt$'")
     git.add("a.txt", "a\n")
     same("run", git.bridge("run").status, 0)
@@ -184,7 +184,7 @@ def a_repository_that_cannot_be_made(top, env):
 
 
 def pre_commits_own_hooks(top, env):
-    """What hooks of pre-commit-hooks ask of Git, each where it passes and where it fails."""
+    """What hooks of pre-commit-hooks ask of Git, each when it passes and when it fails."""
     in_merge = 'test -f "$(git rev-parse --git-dir)/MERGE_MSG" && { test -f "$(git rev-parse --git-dir)/MERGE_HEAD" || test -d "$(git rev-parse --git-dir)/rebase-merge"; }'
     added = "git diff --staged --name-only --diff-filter=A"
     asks = {

@@ -1,7 +1,7 @@
 """Kills of hookhost-git, for tests/git/git_bridge.py: before each command that its script starts, in turn, and at random moments.
 
-After each kill the working files are whole: each is as it was, or as hooks fixed it. The next run then prints, and leaves, what
-it does in a copy of the repository in which nothing was killed, and nothing that the killed one began lies about.
+After each kill the working files are whole: each is as it was, or as hooks fixed it. The next run then prints and leaves what it does in
+a copy of the repository without kills. Nothing that the killed run began is left.
 """
 import os
 import random
@@ -12,7 +12,7 @@ import time
 
 from git_bridge_repository import BLANKS, BRIDGE, Repository, Wrong, check, content, names_hook, same, shell
 
-# What the script starts. Each is found in a folder of its own first, where a script stands that counts.
+# What the script starts. For each a script that counts is found first, in a folder of its own.
 COMMANDS = ["awk", "cat", "chmod", "cmp", "cp", "find", "flock", "git", "ln", "mkdir", "mv", "readlink", "rm", "sed", "stat", "tr", "wc", "hookhost"]
 COUNTING = """#!/bin/sh
 echo x >> "$KILL_COUNT"
@@ -61,7 +61,7 @@ def change(git, rng):
             os.chmod(where, os.stat(where).st_mode ^ 0o111)
         elif kind == "remove":
             os.remove(where)
-    # Not what a killed run may have left beside a working file.
+    # Not what a killed run may have left next to a working file.
     git.git("add", "--all", "--", ".", f":(exclude,glob)**/{STRAY}*")
 
 
@@ -71,7 +71,7 @@ def copied(git, folder):
 
 
 class Whole:
-    """What a run that nothing disturbs prints and leaves in a copy of a repository, whose store is made anew."""
+    """What a run that nothing disturbs prints and leaves in a copy of a repository, whose store is newly made."""
 
     def __init__(self, git):
         copy = copied(git, git.folder + ".whole")
@@ -94,7 +94,7 @@ def run_again(git):
 
 
 def look_at(git, before, whole):
-    """That the working files after a kill are those before or the fixed ones, but for one that was being written beside."""
+    """Checks that the working files after a kill are those before or the fixed ones, except one that was being written next to it."""
     for path, held in git.working_files().items():
         if not os.path.basename(path).startswith(STRAY):
             check(held in (before.get(path), whole.files.get(path)), f"after a kill {path} is {held!r}, and was {before.get(path)!r}")
@@ -149,7 +149,8 @@ def killed_while_a_hook_calls_git(top, env):
 
 
 def killed_before_commands(top, env, distance, *hooks):
-    """In every second run no link leads from one folder to another, so that files are written beside working files."""
+    """Kills the script before each command. In every second run no hard link can be made from one folder to another, so files are written
+    next to working files."""
     counting = counting_commands(top, env)
     first = make(os.path.join(top, "first"), env, random.Random(1), *hooks)
     before, whole, over = first.working_files(), Whole(first), set()

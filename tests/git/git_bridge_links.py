@@ -1,4 +1,4 @@
-"""What hooks find behind the links of hookhost.link, and what of it drops cached results; for tests/git/git_bridge.py."""
+"""What hooks find through the links of hookhost.link, and which changes there drop cached results; for tests/git/git_bridge.py."""
 import os
 import subprocess
 import sys
@@ -12,7 +12,7 @@ VENV, MODULES = ".venv/bin/lint", "node_modules/.bin/eslint"
 # What can't be linked, as Git has it and as the line shows it.
 BAD_NAMES = [("", ""), ("/", "/"), ("a/b", "a/b"), ("a//", "a//"), ("/etc", "/etc"), ("..", ".."), (".", "."), (".git", ".git"), (".git/", ".git/"), (".hookhost", ".hookhost"),
              ("a:b", "a:b"), ("a\nb", "a?b"), ("a\tb", "a?b"), (b"\xff", "\udcff"), ("x" * 256, "x" * 256)]
-# Names that a file of patterns would take for something else.
+# Names that a file of patterns would read as something different.
 HARD_NAMES = ["my [env]*?", "#hash", "!bang", "tail ", "back\\slash", "'quoted\" ü"]
 # What a hook may ask of what is ignored.
 ASKED = """
@@ -45,7 +45,7 @@ def runs(name, entry, keys="pass_filenames: false, always_run: true"):
 
 
 def behind(git):
-    """What lies behind the links, by its paths."""
+    """What the links lead to, by its paths."""
     return {path: held for path, held in git.working_files().items() if path.startswith((".venv", "node_modules", "elsewhere"))}
 
 
@@ -57,7 +57,7 @@ def tools_behind_links(top, env):
     git = repository(top, env, runs("lint", VENV), runs("eslint", "./" + MODULES))
     installed(git, VENV, MODULES, log=log)
     not_made(git.commit(), "- fault: could not be started")
-    # A list of the user's own isn't taken: what is cached knows nothing of it.
+    # A list of the user's own isn't taken: cached results don't depend on it.
     not_made(git.commit(env={"HOOKHOST_LINKS": ".venv:node_modules"}), "- fault: could not be started")
     same("starts without links", starts(log), 0)
     linked(git, ".venv/", "node_modules")
@@ -74,7 +74,7 @@ def tools_behind_links(top, env):
 
 
 def a_real_environment(top, env):
-    """Of Python, whose packages the hook imports, though neither they nor it are staged."""
+    """A virtual environment of Python, whose packages the hook imports, though neither they nor it are staged."""
     git = repository(top, env, runs("module", ".venv/bin/python -m mylint", "files: 'txt$'"))
     done = subprocess.run([sys.executable, "-m", "venv", "--without-pip", os.path.join(git.folder, ".venv")], env=env, capture_output=True, timeout=300)
     if done.returncode:
@@ -107,7 +107,7 @@ def staged_names_win(top, env):
     git.add(".gitignore", "nothing\n")
     git.add(".venv", "staged\n")
     git.add("node_modules/mine", "mine\n")
-    # A link that is staged isn't handed to hooks, so its name is free.
+    # A link that is staged isn't given to hooks, so its name is free.
     os.symlink("elsewhere", os.path.join(git.folder, "vendor"))
     git.git("add", "vendor")
     linked(git, ".venv", "node_modules", "vendor", "nowhere")
@@ -115,7 +115,7 @@ def staged_names_win(top, env):
     answer = git.bridge("run")
     same("the run", (answer.status, answer.lines()), (0, ["left out: 1 link"]))
     same("what it shows", answer.out.splitlines()[3:-1], ["staged", "mine", "mine", f"{git.folder}/vendor", "elsewhere"])
-    # What the tree has no more is linked, which no key tells.
+    # What the tree no longer has is linked, which no key shows.
     git.git("rm", "--quiet", "--cached", "--force", ".venv", "node_modules/mine")
     answer = git.bridge("run")
     check(answer.lines()[0].startswith(f"{DROPPED}.venv is linked now; node_modules is linked now"), f"{answer!r}")
@@ -123,7 +123,7 @@ def staged_names_win(top, env):
 
 
 def a_link_that_is_replaced(top, env):
-    """By a hook, which harms nothing behind it. The next hook finds the link again."""
+    """A hook replaces the link, which harms no file that the link leads to. The next hook finds the link again."""
     git = repository(top, env)
     installed(git, VENV, MODULES)
     git.write("elsewhere/kept", "kept\n")
@@ -182,7 +182,7 @@ def what_is_installed_changes(top, env):
     bench.starts_at("what is compiled", starts(bench.log))
     for folder in (".venv/bin", "node_modules/.bin"):
         bench.changed("one more command", f"{at}/{folder} changed", lambda folder=folder: git.write(f"{folder}/other", "", 0o755))
-    bench.changed("one more folder of packages", f"the folders of packages of {at}/.venv are others", lambda: os.makedirs(os.path.join(at, ".venv/lib/python3.12/site-packages")))
+    bench.changed("one more folder of packages", f"the folders of packages of {at}/.venv changed", lambda: os.makedirs(os.path.join(at, ".venv/lib/python3.12/site-packages")))
     for name in (".yarn-integrity", ".modules.yaml"):
         bench.changed("another installer", f"{at}/node_modules changed; {at}/node_modules/{name} is there now", lambda name=name: git.write(f"node_modules/{name}", "x\n"))
     bench.changed("no program any more", f"{VENV} is gone", lambda: os.chmod(os.path.join(at, VENV), 0o644))
@@ -202,7 +202,7 @@ def the_list_of_names_changes(top, env):
         git.git("config", "--unset-all", "hookhost.link")
         linked(git, *names)
         bench.starts_at(f"the same names: {names!r}", starts(bench.log))
-    # The hook doesn't see this file, and doesn't find the link any more.
+    # The hook doesn't see this file, and no longer finds the link.
     bench.changed("a name that the tree has", "target is no longer linked", lambda: git.add("target/x", "x\n"))
     bench.changed("a name that the tree has no more", "target is linked now", lambda: git.git("rm", "--quiet", "--cached", "target/x"))
     git.git("config", "--unset-all", "hookhost.link")
@@ -216,7 +216,7 @@ def the_list_of_names_changes(top, env):
 
 
 def git_says_nothing_of_links(top, env):
-    """What it says in the working tree, where a pattern for folders has these ignored."""
+    """What it prints in the working tree, in which a pattern for folders ignores these."""
     git = repository(top, env, Asked.HOOK)
     git.add(".gitignore", ".venv/\nnode_modules/\n")
     git.write(".git/info/exclude", "excluded.log")
@@ -269,7 +269,7 @@ def names_that_cannot_be_linked(top, env):
         linked(git, ".venv", name)
         for answer in (git.bridge("run"), git.bridge("run", "--all-files", "--fresh")):
             same(f"the line of {name!r}", (answer.status, answer.out, answer.lines()), (3, "", [
-                f"hookhost.link can't be '{shown}': it names what lies at the top of the working tree, as .venv, by a name of UTF-8 without slashes, colons and control characters, other than .git and .hookhost"]))
+                f"hookhost.link can't be '{shown}': it has to be the name of something at the top of the working tree, as .venv; it is UTF-8 without slashes, colons and control characters, and not .git or .hookhost"]))
         not_made(git.commit(), "hookhost.link can't be")
         same(f"what is known after {name!r}", state(), before)
     git.git("config", "--unset-all", "hookhost.link")

@@ -1,5 +1,6 @@
-"""Partial clones with hookhost-git as their hook: what they lack of the files that hooks may read is fetched at once, and where it
-can't be a line says so. For tests/git/git_bridge.py."""
+"""Partial clones with hookhost-git as their hook, for tests/git/git_bridge.py. What they lack of the files that hooks may read is fetched
+at once. If it can't be, a line says so.
+"""
 import glob
 import os
 import time
@@ -32,7 +33,7 @@ def cloned(top, env, *options, name="git"):
 
 
 def lacks(git):
-    """The objects of the index that the repository lacks."""
+    """The objects of the index that are missing in the repository."""
     return [line for line in git.git("rev-list", "--objects", "--missing=print", git.git("write-tree", "--missing-ok").strip()).splitlines() if line.startswith("?")]
 
 
@@ -47,7 +48,7 @@ def what_hooks_may_read_is_fetched_at_once(top, env):
     answer = git.bridge("run", "--all-files")
     names = sorted([CONFIGURATION, *(f"sub/{number}.txt" for number in range(6)), "sub/again.txt"])
     same("the run", (answer.status, names_in(answer), answer.lines()[0]), (0, names, FETCHED.format(7, "origin")))
-    # The link and the name that isn't taken are none that hooks get.
+    # Hooks don't get the link and the name that isn't taken.
     same("what is lacking then, and how often it was fetched", (len(lacks(git)), packs(git)), (2, 2))
     same("references", git.git("for-each-ref", "--format=%(refname)").split(), ["refs/heads/main", "refs/remotes/origin/HEAD", "refs/remotes/origin/main"])
     check(not os.path.exists(os.path.join(git.folder, ".git/FETCH_HEAD")), "the fetch is written down")
@@ -70,7 +71,7 @@ def a_sparse_working_tree_lacks_files(top, env):
 
 
 def a_repository_that_is_away(top, env):
-    """Then nothing is changed, and what is there already serves."""
+    """If the remote repository is away, nothing is changed, and what is there already serves."""
     git, whole = cloned(top, env, "--no-checkout"), cloned(top, env, name="whole")
     # What reads the configuration fetches it.
     for clone in (git, whole):

@@ -1,11 +1,11 @@
-"""Random repositories of Git with hookhost-git as the hook, beside copies of them with pre-commit as the hook; for
+"""Compares random repositories of Git with hookhost-git as the hook with copies of them with pre-commit as the hook, for
 tests/git/git_bridge.py.
 
-In a play a repository gets commits, perhaps a merge that is under way, and changes that are staged or not, or in part. Then it
-is copied, and the same commit is tried in both, and where it is refused tried once more with all staged. The same must be:
-whether the commit is made, the commit with its tree, what is staged, the working files, and of which hook the report says that
-it passed, failed or was skipped. Where they differ, a reason has to hold, which is tested: the difference must be just what the
-reason says. A play ends with its first difference.
+In a play a repository gets commits, perhaps a merge that is under way, and changes that are staged, or not, or in part. Then it is
+copied, and the same commit is tried in both. If it is refused, it is tried once more with all staged. The same must be: whether the
+commit is made, the commit with its tree, what is staged, and the working files. The reports must call the same hooks passed, failed or
+skipped. If they differ, a reason has to hold, which is tested: the difference must be just what the reason says. A play ends with its
+first difference.
 """
 import collections
 import os
@@ -62,7 +62,7 @@ def random_text(rng):
 
 
 def edited(rng, held):
-    """A text with a line more at the beginning, in the midst or at the end, or another text."""
+    """A text with a line more at the beginning, in the middle or at the end, or another text."""
     lines = held.decode().splitlines(keepends=True)
     if not lines or rng.random() < 0.3:
         return random_text(rng)
@@ -219,7 +219,7 @@ class Pair:
         self.ours, self.theirs, self.reasons = ours, theirs, reasons
 
     def attempt(self, words, env):
-        """Tries the commit in both, and answers whether it was made in both, or none where they differ for a reason."""
+        """Tries the commit in both, and answers whether it was made in both, or none if they differ for a reason."""
         self.words, before, self.unstaged_conflicts = words, self.ours.working_files(), unstaged_conflicts(self.ours)
         ours, theirs = self.ours.commit(*words, env=env), self.theirs.commit(*words, env=env)
         self.told = f"git commit {words!r} with {env!r}\nhere {ours!r}\npre-commit {theirs!r}"
@@ -260,7 +260,7 @@ class Pair:
         return None
 
     def reason_of_files(self, before, theirs):
-        """Why the working files differ, or none where they don't."""
+        """Why the working files differ, or none if they don't."""
         here, there = self.ours.working_files(), self.theirs.working_files()
         reasons = [self.reason_of_file(path, before.get(path), here.get(path), there.get(path), theirs)
                    for path in sorted({*here, *there}) if here.get(path) != there.get(path)]
@@ -299,7 +299,7 @@ def unstaged_conflicts(git):
 
 
 def results(answer):
-    """The lines of the report that say what became of a hook."""
+    """The lines of the report that give the outcome of a hook."""
     return [line for line in answer.text.splitlines() if line.endswith(("Passed", "Failed", "Skipped"))]
 
 
@@ -308,7 +308,7 @@ def failed(answer):
 
 
 def differs_behind_removal(ours, theirs):
-    """Whether both reports are the same up to a hook that removes files, and behind it hooks got a removed file there."""
+    """Whether both reports are the same up to a hook that removes files, and after it hooks got a removed file there."""
     at = next((at for at, line in enumerate(theirs) if line.startswith("tidy.") and line.endswith("Failed")), None)
     return at is not None and ours != theirs and ours[:at + 1] == theirs[:at + 1] and all(
         here == there or "(no files to check)" in here for here, there in zip(ours[at + 1:], theirs[at + 1:]))
@@ -352,7 +352,7 @@ def play(top, env, seed, template, reasons):
 
 
 def leaves_nothing(git):
-    """That nothing lies about, and that a run brings the store to the state of the index."""
+    """Checks that no left-over file is there, and that a run brings the store to the state of the index."""
     same("the folder of the store", os.listdir(os.path.join(git.home(), "files")), [".hookhost"])
     if git.git("ls-files", CONFIGURATION) and git.bridge("run").status in (0, 1):
         rows = [row.partition("\t") for row in git.git("ls-files", "--stage", "-z").split("\0")[:-1]]

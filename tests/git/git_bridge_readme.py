@@ -1,4 +1,4 @@
-"""README.md's session with Git, for tests/git/git_bridge.py: what it shows is what is printed."""
+"""README.md's session with Git, for tests/git/git_bridge.py: the program prints what it shows."""
 import os
 import subprocess
 

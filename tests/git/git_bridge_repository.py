@@ -10,7 +10,7 @@ from places import TOP, program
 PROGRAM = os.path.abspath(sys.argv[1] if len(sys.argv) > 1 else program("hookhost"))
 BRIDGE = os.path.join(TOP, "git/hookhost-git")
 CONFIGURATION = ".pre-commit-config.yaml"
-# A command of many hooks takes minutes on a machine that does much else.
+# A command of many hooks takes minutes on a busy machine.
 LIMIT = 900
 MOST_BYTES = 16 * 1024 * 1024
 
@@ -29,7 +29,7 @@ def same(what, found, wanted):
 
 
 def environment(home):
-    """An environment in which Git and pre-commit know nothing of this machine's user, and each commit has the same time."""
+    """An environment in which Git and pre-commit read nothing of this machine's user, and each commit has the same time."""
     env = {key: value for key, value in os.environ.items() if not key.startswith(("GIT_", "PRE_COMMIT")) and key not in ("SKIP", "HOOKHOST", "XDG_CONFIG_HOME")}
     env |= {"HOME": home, "PRE_COMMIT_HOME": os.path.join(home, "pre-commit"), "GIT_CONFIG_NOSYSTEM": "1", "HOOKHOST": PROGRAM, "HOOKHOST_TMP": home}
     env |= {"GIT_AUTHOR_DATE": "2026-11-27 08:00:00 +0000", "GIT_COMMITTER_DATE": "2026-11-27 08:00:00 +0000"}
@@ -85,7 +85,7 @@ class Repository:
         return self
 
     def commit(self, *words, **how):
-        """Tries a commit, and answers it beside whether it was made."""
+        """Tries a commit, and returns it with whether it was made."""
         before = self.head()
         answer = self.run("git", "commit", "--quiet", *(words or ("-m", "m")), **how)
         answer.is_made = self.head() != before
@@ -219,7 +219,7 @@ def not_made(answer, *parts):
 
 
 def holds_index(git):
-    """That the store holds the plain files of the index, as Git writes them."""
+    """Checks that the store holds the plain files of the index, as Git writes them."""
     rows = [row.partition("\t") for row in git.git("ls-files", "--stage", "-z").split("\0")[:-1]]
     wanted = {path: git.git("cat-file", "--filters", f":{path}") for head, _, path in rows if head.startswith("100")}
     same("the store", git.store_holds(), wanted)

@@ -1,4 +1,4 @@
-"""The words of `hookhost-git run`, what is cached, and what is told of configurations; for tests/git/git_bridge.py."""
+"""The words of `hookhost-git run`, what is cached, and what is reported of configurations; for tests/git/git_bridge.py."""
 import os
 import re
 
@@ -106,14 +106,14 @@ def a_failure_is_not_cached(top, env):
         same("starts", starts(log), 3)
     same("run --fresh", git.bridge("run", "--fresh").status, 0)
     same("starts", starts(log), 4)
-    # Another store remembers nothing.
+    # Another store has no cached results.
     git.forget()
     same("run", git.bridge("run").status, 0)
     same("starts", starts(log), 5)
 
 
 def a_hook_counts_each_file_as_read(top, env):
-    """But where its configuration says what its command reads, or that this isn't wanted."""
+    """Unless its configuration says what its command reads, or that this isn't wanted."""
     log, said = os.path.join(top, "log"), os.path.join(top, "said")
     git = repository(top, env, starts_hook(log, "files: '^a'", "! grep -q BAD settings"), starts_hook(said, "files: '^a', x_reads: '^nothing$'", name="said"))
     git.add("a.txt", "a\n")
@@ -184,7 +184,7 @@ def a_large_store_is_made_anew(top, env):
     check(os.path.getsize(store) > first + MOST_GROWTH, "the store hasn't grown")
     git.git("rm", "--quiet", "--cached", "large")
     answer = git.bridge("run", "--verbose")
-    same("the next run", (answer.status, answer.lines()), (0, [f"the store has grown by more than {MOST_GROWTH} bytes, and is made anew"]))
+    same("the next run", (answer.status, answer.lines()), (0, [f"the store has grown by more than {MOST_GROWTH} bytes, so a new one is made"]))
     check(os.path.getsize(store) < 2 * first and int(content(size)) == os.path.getsize(store), "the store isn't made anew")
     same("one more", git.bridge("run", "--verbose").lines(), [])
     for text in ("", "x\n", "-1\n"):
@@ -215,7 +215,7 @@ def a_refused_configuration_is_explained(top, env):
     git.add(CONFIGURATION, "repos:\n- repo: local\n  hooks:\n  - {id: a, name: A, language: pyhton, entry: a}\n")
     wanted = git.run(PROGRAM, "explain").out
     check(wanted.startswith(f"{CONFIGURATION}:4: hook 1 (`a`): `language` is the text `pyhton`"), wanted)
-    # The staged one is told.
+    # The staged one is reported.
     git.write(CONFIGURATION, "")
     for answer in (git.bridge("run"), git.commit()):
         refused(answer, "hookhost: refused: 8 BadConfig ", wanted, "hookhost refused, so nothing was checked", status=answer.status)
@@ -247,7 +247,7 @@ def install_lists_stages(top, env):
             os.makedirs(os.path.join(git.folder, folder), exist_ok=True)
             answer = git.bridge("install", cwd=folder)
             same(f"install with {text!r}", (answer.status, answer.out, answer.err), (0, installed + out, told))
-    # Where none lies there, the staged one is told.
+    # If none lies there, the staged one is reported.
     git.add(CONFIGURATION, configuration(BLANKS))
     os.remove(os.path.join(git.folder, CONFIGURATION))
     same("the staged one", git.bridge("install").out, installed + "runs: pre-commit (1 hook)\n")

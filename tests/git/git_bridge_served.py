@@ -1,5 +1,5 @@
-"""What Git says in hooks of hookhost-git, compared with a hook of Git's own in the working tree, before the same commit;
-for tests/git/git_bridge.py."""
+"""What Git prints in hooks of hookhost-git, compared with a hook of Git's own in the working tree, before the same commit; for
+tests/git/git_bridge.py."""
 import os
 
 from git_bridge_repository import Repository, check, content, made, not_made, quoted, same, shell
@@ -85,7 +85,7 @@ git --work-tree=. diff --name-only
 git-diff --cached --name-only
 git nope
 """
-# Beside a commit of paths the working tree has more than the commit.
+# With a commit of paths the working tree has more than the commit.
 OF_THE_INDEX = "ls-files --stage|diff --cached|diff-index --cached|write-tree|git rev-parse|git log|git branch|config|grep --cached|ls-tree|merge-base"
 
 
@@ -122,7 +122,7 @@ class Asked:
 
 
 def compare(asked, git, *words, leaves=(), **how):
-    """Compares all that Git says, but for calls with one of the words of `leaves`."""
+    """Compares all that Git prints, except for calls with one of the words of `leaves`."""
     wanted, found = asked.of_git(git, *words, **how), asked.of_ours(git, *words, **how)
     same("the calls", list(found), list(wanted))
     for call, answer in wanted.items():
@@ -155,7 +155,7 @@ def filled(git):
 
 
 def staged(git):
-    """Changes that are staged, and nothing else in the working tree."""
+    """Changes that are staged, and no others in the working tree."""
     git.add("a.txt", "needle\nmore  \n")
     git.add("new.txt", "needle\n", 0o755)
     git.add("sub/deep/odd name ü \"q\" \\ '.txt", "needle\n")
@@ -226,7 +226,7 @@ def git_in_a_commit_of_paths(top, env):
 
 
 def git_of_other_repositories(top, env):
-    """Of SHA-256, with objects elsewhere, without history, without objects, of a working tree and of a submodule."""
+    """Repositories of SHA-256, with objects elsewhere, without history, without objects, of a working tree and of a submodule."""
     plain(os.path.join(top, "sha256"), env, "--object-format=sha256")
     compare(Asked(top, env), Repository(os.path.join(top, "sha256/git"), env))
     origin = plain(top, env)
@@ -293,7 +293,7 @@ def git_with_files_that_are_left_out(top, env):
 
 
 def git_in_other_places(top, env):
-    """Where the folder of hooks is named by a link, or lies below the Git folder."""
+    """The folder of hooks is named by a link, or lies below the Git folder."""
     os.makedirs(os.path.join(top, "place"))
     os.symlink("place", os.path.join(top, "link"))
     folders = os.path.join(top, "place", f"hookhost-{os.getuid()}"), os.path.join(top, "git/.git/hookhost/files/.hookhost")

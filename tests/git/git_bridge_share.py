@@ -1,5 +1,5 @@
-"""The manual page and the completions of hookhost-git in share/, for tests/git/git_bridge.py: they name what the help names, tools
-that are installed read them without a word, and shells propose what the script takes."""
+"""The manual page and the completions of hookhost-git in share/, for tests/git/git_bridge.py. They name what the help names. Installed
+tools read them without a warning, and shells propose what the script takes."""
 import os
 import re
 import shlex

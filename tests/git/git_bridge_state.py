@@ -1,5 +1,5 @@
-"""Git's state as a part of what hooks of hookhost-git read: by the name `.git-state` in `x_reads` their answers are cached though they
-call Git, and what changes that state starts them again; for tests/git/git_bridge.py."""
+"""Git's state as a part of what hooks of hookhost-git read, for tests/git/git_bridge.py. With the name `.git-state` in `x_reads` their
+results are cached though they call Git. What changes that state starts them again."""
 import os
 import shutil
 import signal
@@ -41,7 +41,7 @@ class Desk:
         return starts(self.named), starts(self.other)
 
     def runs(self, what, named, other, *words, status=0, **how):
-        """That after a run the hooks were started so often in all."""
+        """Checks how often the hooks were started in all after a run."""
         answer = self.git.bridge("run", *(words or ("--files", "a.txt")), **how)
         same(f"{what}: the run", (answer.status, answer.lines()), (status, []))
         same(f"{what}: starts", self.starts(), (named, other))
@@ -79,7 +79,7 @@ def a_hook_that_names_the_state_is_cached(top, env):
 
 
 def what_is_another_state(top, env):
-    """After each change the hook is started once more, and the other one isn't."""
+    """Changes that make another state: after each the hook is started once more, and the other hook isn't."""
     desk = Desk(top, env)
     git = desk.git
     desk.runs("at first", 1, 1)
@@ -238,7 +238,7 @@ def calls_that_say_more(top, env):
 
 
 def a_state_that_changes_meanwhile(top, env):
-    """By another program, while hooks run: what they found isn't what their keys have."""
+    """Another program changes the state while hooks run: what they found isn't what their keys have."""
     desk = Desk(top, env, "git branch --list; env -i PATH=/usr/bin:/bin git -C \"$HOOKHOST_TOP\" branch --force meanwhile \"$(cat \"$HOOKHOST_TOP/.git/refs/heads/main\")\"")
     desk.runs("at first", 1, 1)
     same("what is remembered", remembered(desk.git), "0")
@@ -247,7 +247,7 @@ def a_state_that_changes_meanwhile(top, env):
 
 
 def a_kill_in_a_run(top, env):
-    """What a killed run has remembered is forgotten, since it hasn't seen whether the state stayed."""
+    """What a killed run has cached is dropped, since the run hasn't seen whether the state stayed."""
     desk = Desk(top, env, "git log --oneline -1; test ! -e \"$HOOKHOST_WAIT\" || sleep 60")
     git, wait = desk.git, os.path.join(top, "wait")
     desk.runs("at first", 1, 1, env={"HOOKHOST_WAIT": wait})
@@ -265,7 +265,7 @@ def a_kill_in_a_run(top, env):
 
 
 def kills_before_commands(top, env):
-    """After each the next run finds the state as it is, and answers nothing by that of before."""
+    """Kills before each command: after each the next run finds the state as it is, and answers nothing by the earlier state."""
     counting = counting_commands(top, env)
     first = Desk(top, env, "test \"$(git branch --show-current)\" != main", name="first")
     for at in range(1, MOST_COMMANDS, DISTANCE):
@@ -290,7 +290,7 @@ def kills_before_commands(top, env):
 
 
 def a_tree_that_has_its_own(top, env):
-    """Then that file is one as any other, also as a folder, and what calls Git isn't cached."""
+    """The tree has a file of that name. It is then a file as any other, also as a folder, and what calls Git isn't cached."""
     desk = Desk(top, env)
     git = desk.git
     git.configure(*desk.hooks("git log --oneline -1"), names_hook(READS_NOTHING))

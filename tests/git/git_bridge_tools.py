@@ -1,5 +1,5 @@
-"""When hookhost-git drops what is cached, since a tool, its interpreter, its packages, a variable, or what the command of
-hookhost.versions prints is another; and that it keeps it else. For tests/git/git_bridge.py."""
+"""When hookhost-git drops cached results, for tests/git/git_bridge.py. It drops them after a change of a tool, its interpreter, its
+packages, a variable, or the output of the command of hookhost.versions. Otherwise it keeps them."""
 import os
 import re
 import time
@@ -8,7 +8,7 @@ from git_bridge_repository import content, made, not_made, quoted, refused, repo
 from git_bridge_runs import starts, starts_hook
 
 DROPPED = "what was cached is dropped, since tools or settings changed: "
-UNTOLD = "nothing is cached, and what was is dropped: the command of hookhost.versions "
+UNTOLD = "nothing is cached, and cached results are dropped: the command of hookhost.versions "
 # A minute, in which the command of hookhost.versions isn't asked again, and how long it may take.
 MINUTE, LONGEST = 60, 10
 
@@ -31,7 +31,7 @@ class Bench:
         return path
 
     def starts_at(self, what, count, lines=(), **how):
-        """That a run says these lines, after which so many commands were started in all, and that the next one starts none."""
+        """Checks that a run prints these lines, how many commands were started in all after it, and that the next run starts none."""
         answer = self.git.bridge("run", **how)
         same(f"{what}: the run", (answer.status, answer.lines()), (0, list(lines)))
         same(f"{what}: commands that were started", starts(self.log), count)
@@ -39,7 +39,7 @@ class Bench:
         same(f"{what}: the next run", (answer.status, answer.lines(), starts(self.log)), (0, [], count))
 
     def changed(self, what, line, change, **how):
-        """That after a change everything is started once, with a line, and before it nothing is."""
+        """Checks that after a change everything is started once, with a line, and before it nothing is."""
         before = starts(self.log)
         same(f"{what}: before", (self.git.bridge("run").lines(), starts(self.log)), ([], before))
         change()
@@ -119,12 +119,12 @@ def a_tool_that_changes(top, env):
     bench.changed("not a program any more", "mylint is gone", lambda: os.chmod(path, 0o644))
     bench.changed("a program again", f"mylint is there now, {path}", lambda: os.chmod(path, 0o755))
     bench.changed("a tool that is installed", f"missing is there now, {bench.tools}/missing", lambda: bench.tool("missing"))
-    # Shells have words for these, which the script knows too.
+    # Shells have words for these, which the script has too.
     for name in ("install", "printf"):
         bench.changed("a tool with the name of a word", f"{name} is {bench.tools}/{name} now, and was /usr/bin/{name}", lambda name=name: bench.tool(name))
     for name in ("LANG", "LC_ALL", "LC_TIME", "PYTHONPATH"):
-        bench.changed("a variable", f"the variable {name} is another", lambda: None, env={name: "C"})
-        bench.starts_at("the variable is as it was", starts(bench.log) + 1, [f"{DROPPED}the variable {name} is another"])
+        bench.changed("a variable", f"the variable {name} changed", lambda: None, env={name: "C"})
+        bench.starts_at("the variable is as it was", starts(bench.log) + 1, [f"{DROPPED}the variable {name} changed"])
 
     def change_all():
         for place in [path, *own]:
@@ -135,7 +135,7 @@ def a_tool_that_changes(top, env):
 
 
 def interpreters(top, env):
-    """Of scripts that words name, on the PATH and in the tree, one after another."""
+    """Interpreters of scripts that words name, on the PATH and in the tree, one after another."""
     rows = [("path", "#!{} -E"), ("tree", "#! {}"), ("script", "#!/usr/bin/env {}"), ("chain", "#!/usr/bin/env -S {} -E -s"), ("chain in the tree", "#!\t{}\r")]
     for number, (kind, line) in enumerate(rows):
         bench = Bench(top, env, "tools/lint" if kind == "tree" else "mylint", name=f"git{number}")
@@ -181,7 +181,7 @@ def a_script_names_another_interpreter(top, env):
 
 
 def packages(top, env):
-    """Of Python, in a virtual environment and elsewhere, and of node."""
+    """Packages of Python, in a virtual environment and elsewhere, and of node."""
     bench = Bench(top, env, "$HOOKHOST_TOP/.venv/bin/black pip $HOOKHOST_TOP/../elsewhere/bin/python3 eslint shim")
     venv, elsewhere, shims = (os.path.join(*parts) for parts in ((bench.git.folder, ".venv"), (top, "elsewhere"), (bench.home, ".pyenv")))
     base = bench.tool("python3.11", "", os.path.join(top, "base", "bin"))
@@ -203,7 +203,7 @@ def packages(top, env):
     for name, folder in packages_of.items():
         bench.changed(f"a package of {name}", f"{folder} changed", lambda folder=folder: os.mkdir(os.path.join(folder, "black-24.dist-info")))
     bench.changed("the environment", f"{venv}/pyvenv.cfg changed", lambda: bench.git.write(os.path.join(venv, "pyvenv.cfg"), "home = /usr/local/bin\n"))
-    bench.changed("one more folder of packages", f"the folders of packages of {python} are others", lambda: os.makedirs(os.path.join(venv, "lib/python3.12/site-packages")))
+    bench.changed("one more folder of packages", f"the folders of packages of {python} changed", lambda: os.makedirs(os.path.join(venv, "lib/python3.12/site-packages")))
     bench.changed("the version of shims", f"{shims}/version is there now", lambda: bench.git.write(os.path.join(shims, "version"), "3.11.7\n"))
     for name in (".package-lock.json", ".yarn-integrity", ".modules.yaml"):
         path = os.path.join(bench.git.folder, "node_modules", name)
@@ -216,7 +216,7 @@ def packages(top, env):
 
 
 def a_stricter_tool_is_asked(top, env):
-    """Of a commit whose files have passed before."""
+    """The stricter tool is run in a commit whose files have passed before."""
     tools = os.path.join(top, "tools")
     git = repository(top, env | {"PATH": f"{tools}:{env['PATH']}"}, "id: lint, name: Lint, language: system, entry: mylint, files: 'txt$'")
     git.write(os.path.join(tools, "mylint"), "#!/usr/bin/env strict\n", 0o755)
@@ -229,7 +229,7 @@ def a_stricter_tool_is_asked(top, env):
 
 
 def what_is_known_of_tools(top, env):
-    """Where it can't be read, everything is forgotten, without a word of what changed."""
+    """The stored states of tools: if they can't be read, everything is dropped, without a line on what changed."""
     bench = Bench(top, env, "mylint")
     bench.tool("mylint")
     bench.starts_at("at first", 1)
@@ -239,7 +239,7 @@ def what_is_known_of_tools(top, env):
         bench.starts_at(f"{held[:20]!r}", number + 2)
     os.remove(path)
     bench.starts_at("without it", 6)
-    # Without a program that tells, nothing is known, and nothing passes.
+    # Without a program that gives the states, nothing is known, and the run is refused.
     bench.tool("stat", "#!/bin/sh\nexit 1\n", bench.first)
     refused(bench.git.bridge("run"), "cannot look at the programs that the configuration names")
 

@@ -1,5 +1,5 @@
 #!/usr/bin/env python3
-"""Plays what a developer does at a terminal in a repository of Git with hookhost's hook: commits, fixes, refusals, settings.
+"""Checks what a developer does at a terminal in a repository of Git with hookhost's hook: commits, fixes, refusals, settings.
 
 Usage: tests/git/git_sessions.py [PROGRAM [PART]]   (default: crates/hookhost/out/hookhost, all sessions)
 
@@ -41,7 +41,7 @@ class Desk:
         return status, SHOWN.sub("", text)
 
     def type_for_colors(self, *words, **variables):
-        """The same with the colors, and with all else that a terminal doesn't print."""
+        """The same with the colors, and with all that a terminal doesn't print."""
         child, end = pty.fork()
         if child == 0:
             os.chdir(self.git.folder)
@@ -167,7 +167,7 @@ def many_files_are_not_removed(desk):
     status, text = desk.run("--all-files")
     same("status", status, 1)
     same("files that are left", len(os.listdir(os.path.join(desk.git.folder, "dir"))), 12)
-    command = [line.partition("taken away by: ")[2] for line in text.splitlines() if "taken away by: " in line]
+    command = [line.partition("as they are staged: ")[2] for line in text.splitlines() if "as they are staged: " in line]
     check(len(command) == 1, f"no command removes them: {text!r}")
     desk.git.write("dir/a b3'.txt", "edited meanwhile\n")
     subprocess.run(["sh", "-c", command[0]], check=True, env=desk.git.env, cwd="/", capture_output=True)
@@ -220,7 +220,7 @@ def a_hook_that_names_no_repository_is_refused(desk):
     desk.git.add("a.txt", "secret\n")
     answer = desk.commit()
     not_made(answer, "secrets", "git --git-dir=.git grep -q secret")
-    # At the terminal a hook's line stands as soon as the hook has ended, and then the last word is that nothing counts.
+    # At the terminal a hook's line is there as soon as the hook has ended, and then the last word is that nothing counts.
     same("the line of the hook that is refused", re.findall("^secrets\\.+(?!Failed)[A-Z].*$", answer[1], re.MULTILINE), [])
     says(answer[1].strip().splitlines()[-1], "hookhost-git: so nothing counts as checked")
     elsewhere = desk.git.run(BRIDGE, "run")
@@ -323,7 +323,7 @@ def a_run_takes_names_and_options(desk):
 
 
 def lines_are_shown_as_hooks_end(desk):
-    """At a terminal, each once, and the report is the same as elsewhere."""
+    """At a terminal each line is shown once, and the report is the same as elsewhere."""
     shown = '"${HOOKHOST_GIT_CALLS%/*}/shown"'
     hooks = [system("first", shell("echo said by the first"), "verbose: true"), system("second", shell(f"grep -q 'said by the first' {shown} && grep -q '^first.*Passed' {shown} && ! grep -q '^second' {shown}"))]
     desk.starts_with(*hooks, system("third", shell("echo said by the third; exit 1")))
@@ -336,11 +336,11 @@ def lines_are_shown_as_hooks_end(desk):
         same("the lines of hooks", re.findall("^(first|second|third)\\.+(Passed|Failed)$", text, re.MULTILINE), [("first", "Passed"), ("second", "Passed"), ("third", "Failed")])
         for part in ("said by the first", "said by the third", "- hook id: first", "- hook id: third", "- exit code: 1"):
             same(f"how often {part!r} is printed in {text!r}", text.count(part), 1)
-    # With standard output elsewhere the report stands there, whole. The second hook's answer is cached by now.
+    # With standard output elsewhere the report is there, whole. The second hook's answer is cached by now.
     status, text = desk.type("sh", "-c", f"{quoted(BRIDGE)} run > report")
     same("the report in a file", (status, desk.git.read("report").decode()), (1, plain.out.replace("Failed\n- hook id: second\n- exit code: 1\n", "Passed\n")))
     check("said by" not in text, f"it is at the terminal too: {text!r}")
-    # What follows from all hooks stands at the end.
+    # What follows from all hooks is at the end.
     desk.git.configure(*hooks)
     status, text = desk.run("--verbose")
     same("the last line", (status, text.rstrip().splitlines()[-1][:-1], text.count("- hook id: second")), (0, "answered from the cache: ", 1))
@@ -399,7 +399,7 @@ def a_diff_is_shown_on_failure(desk):
     ends(desk.run("--show-diff-on-failure"), 1, "fixed: a.txt", "-a  ", "+a")
 
 
-# ---- what is told
+# ---- what is said
 
 
 def no_hint_leads_out_of_git(desk):

@@ -1,10 +1,11 @@
 #!/usr/bin/env python3
-"""Plays git/hookhost-reads: what it tells of hooks that read more than their keys have, and that its x_reads mends that.
+"""Tests git/hookhost-reads: what it prints of hooks that read more than their keys have, and that its x_reads corrects that.
 
-Usage: tests/git/hookhost_reads.py [PROGRAM [PART]]   (default: crates/hookhost/out/hookhost, and all cases; else those with PART in their names)
+Usage: tests/git/hookhost_reads.py [PROGRAM [PART]]   (default: crates/hookhost/out/hookhost, and all cases)
 
-Tools of Debian run over the tree of hookhost_reads_tools.py: without x_reads, then with what was printed, and then as known
-tools, of which no row may lack what its tool reads. The other cases run hooks of a line of shell.
+With PART only the cases with PART in their names are run. Tools of Debian run over the tree of hookhost_reads_tools.py. They run without
+x_reads, then with what was printed, and then as known tools, whose rows must have all that the tool reads. The other cases run hooks of a
+line of shell.
 """
 import os
 import shutil
@@ -45,7 +46,7 @@ class Desk:
         return self.git.run(SCRIPT, *words, **how)
 
     def told(self, *words, status, **how):
-        """What is printed of each hook, by its id: the lines, without what stands before them."""
+        """What is printed of each hook, by its id: the lines, without what comes before them."""
         answer = self.reads(*words, **how)
         same(f"status of {words!r}, with {answer!r}", answer.status, status)
         found, last = {}, None
@@ -67,7 +68,7 @@ def hook(name, line, keys="files: '^a$'"):
 
 
 def pattern_in(lines):
-    """The pattern that is printed, as it stands there."""
+    """The pattern that is printed, as it is written there."""
     found = [line.removeprefix("x_reads: ") for line in lines if line.startswith("x_reads: ")]
     same("patterns", len(found), 1)
     return found[0]
@@ -98,7 +99,7 @@ def known_tools_have_what_they_read_in_their_keys(desk):
     names = known_names()
     lacking = [name for name in names if shutil.which(name) is None]
     unknown = [name for name in names if name not in lacking and name not in KNOWN]
-    # Whoever has more tools than the gate installs has them told, and not refused.
+    # More tools than the gate installs are printed, and not refused.
     if unknown:
         print(f"hookhost_reads: installed, and without a case: {', '.join(unknown)}", flush=True)
     hooks = hooks_of({name: words for name, words in KNOWN.items() if name not in lacking})
@@ -153,7 +154,7 @@ def what_is_told_is_answered_from_the_cache(desk):
     desk.git.git("config", "hookhost.cautious", "false")
 
     def starts():
-        """How the hook ends, once the file is edited that it isn't handed."""
+        """How the hook ends, once the file that it isn't given is edited."""
         desk.git.add("rules", "a\n")
         same("with the same", desk.git.bridge("run", "--files", "a").status, 0)
         desk.git.add("rules", "b\n")
@@ -215,7 +216,7 @@ def files_outside_are_told(desk):
 
 
 def what_links_lead_to_is_found(desk):
-    """And is none of the tree: no key lacks it."""
+    """The file that a link leads to isn't a file of the tree: no key lacks it."""
     desk.lay({"a": "a\n", "rules": "r\n", ".gitignore": ".venv/\n"}, "id: lint, name: lint, language: system, entry: .venv/bin/lint, files: '^a$'")
     desk.git.write(".venv/bin/lint", "#!/bin/sh\ncat .venv/words; test -e .venv/absent || cat rules\n", 0o755)
     desk.git.write(".venv/words", "w\n")
@@ -287,7 +288,7 @@ def a_hook_that_calls_git_is_told(desk):
     same("told", desk.told("--files", "a", status=0), {"git": [ALL_IN, "calls Git"]})
 
 
-# ---- where it works
+# ---- the places in which it works
 
 
 def nothing_is_changed(desk):
@@ -365,7 +366,7 @@ def what_keeps_it_from_working_is_told(desk):
     with open(os.path.join(tools, "strace"), "w", encoding="utf-8") as file:
         file.write("#!/bin/sh\necho 'strace: ptrace(PTRACE_TRACEME, ...): Operation not permitted' >&2\nexit 1\n")
     os.chmod(os.path.join(tools, "strace"), 0o755)
-    refused("strace can't trace here, which a container or its settings may forbid: strace: ptrace(PTRACE_TRACEME, ...): Operation not permitted", PATH=tools)
+    refused("strace can't trace here; a container or its settings may forbid it: strace: ptrace(PTRACE_TRACEME, ...): Operation not permitted", PATH=tools)
     refused("there is no hookhost", HOOKHOST=desk.home)
     refused("neither a repository of hookhost (.hookhost) nor a working tree of Git", cwd=desk.home, GIT_CEILING_DIRECTORIES=os.path.dirname(desk.home))
     refused("not staged: b", "--files", "b")

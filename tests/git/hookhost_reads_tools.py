@@ -23,13 +23,13 @@ TREE = {
     ".perlcriticrc": "severity = 5\n", ".perltidyrc": "-l=100\n", "app/a.pl": "use strict;\nuse warnings;\nprint 1;\n",
 }
 
-# The hooks of the first case: their words, and the files that they are handed.
+# The hooks of the first case: their words, and the files that they are given.
 TELLING = {
     "mypy": ("mypy", "main.py"), "flake8": ("flake8", "main.py"), "isort": ("isort --check-only", "main.py"), "yamllint": ("yamllint", "a.yaml"),
     "shellcheck": ("shellcheck -x", "run.sh"), "codespell": ("codespell", "a.md"), "eslint": ("eslint --format unix", "a.js"),
     "clang-format": ("clang-format --dry-run --Werror", "a.c"), "jq": ("jq --exit-status --from-file app/rule.jq", "a.json"), "xmllint": ("xmllint --noout --valid", "a.xml"),
 }
-# What is told of each. What a tool looks for in vain stands here only of those of which it is little.
+# What is printed of each. Files that a tool looks for and doesn't find are listed only if they are few.
 TOLD = {
     "mypy": ["reads: app/__init__.py", "reads: app/values.py", "reads: mypy.ini", "lists: app, where a new file *.py isn't in the key", "lists: ."],
     "flake8": ["reads: setup.cfg", r"x_reads: '^setup\.cfg$'"],
@@ -54,7 +54,7 @@ KNOWN = {
     "printf": ("printf a", "a.md"), "pycodestyle": ("pycodestyle", "main.py"), "pydocstyle": ("pydocstyle", "main.py"), "pyflakes3": ("pyflakes3", "main.py"),
     "pylint": ("pylint --score=n", "main.py"), "pyupgrade": ("pyupgrade --py38-plus", "main.py"), "sed": ("sed -n p", "a.md"), "shellcheck": ("shellcheck -x", "run.sh"), "tidy": ("tidy -q -e", "a.xml"),
     "true": ("'true'", "a.md"), "tsc": ("tsc", "main.ts"), "yamllint": ("yamllint", "a.yaml"),
-    # Of these not all are installed where the tests run.
+    # Not all of these are installed on the machine of the tests.
     "autoflake": ("autoflake --check", "main.py"), "autopep8": ("autopep8 --diff", "main.py"), "checkbashisms": ("checkbashisms", "run.sh"),
     "docformatter": ("docformatter --check", "main.py"), "dos2unix": ("dos2unix --quiet", "a.md"), "flawfinder": ("flawfinder --quiet", "a.c"), "gofmt": ("gofmt -l", "a.md"),
     "proselint": ("proselint", "a.md"), "rubocop": ("rubocop", "a.md"), "shfmt": ("shfmt -d", "run.sh"), "unix2dos": ("unix2dos --quiet", "a.md"), "yapf3": ("yapf3 --diff", "main.py"),
@@ -71,7 +71,7 @@ def known_names():
 
 
 def hooks_of(rows):
-    """The hooks of a table by their ids, each handed the file with that end."""
+    """The hooks of a table by their ids, each given the file with that end."""
     return {name: f"id: '{name}', name: '{name}', language: system, entry: {quoted_entry(words)}, files: '/{re.escape(end)}$'" for name, (words, end) in rows.items()}
 
 

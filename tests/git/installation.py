@@ -1,13 +1,13 @@
 #!/usr/bin/env python3
-"""Plays share/install, which puts hookhost where a Unix looks for it, share/package, which makes a package of Debian of it, and
-share/stamp, by which both tell how it was built (tests/git/installation_stamps.py).
+"""Tests share/install, share/package and share/stamp. share/install puts hookhost into the folders in which a Unix looks for it, and
+share/package makes a package of Debian from it. By share/stamp both say how it was built (tests/git/installation_stamps.py).
 
 Usage: tests/git/installation.py [PROGRAM [PART [ROOT]]]   (default: crates/hookhost/out/hookhost, all cases)
 
-PART is a part of a case's name. Each case has a copy of what share/install and share/package read, a home and a prefix of its
-own, all with blanks and quotes in their names. The package is installed in a bare Debian, made of this machine's packages
-(tests/git/installation_root.py), where README.md's session with Git is played. ROOT is a folder with another bare Debian and Git,
-as `debootstrap --variant=minbase --include=git bookworm ROOT` makes one, and is played in its place. That needs root.
+PART is a part of a case's name. Each case has a copy of what share/install and share/package read, and a home and a prefix of its own.
+All their names have blanks and quotes. The package is installed in a bare Debian, made from this machine's packages
+(tests/git/installation_root.py), and README.md's session with Git is run there. ROOT is a folder with another bare Debian and Git, which
+is used in its place. `debootstrap --variant=minbase --include=git bookworm ROOT` makes one. That needs root.
 """
 import gzip
 import hashlib
@@ -29,7 +29,7 @@ from installation_root import Root
 from installation_stamps import CASES as CASES_OF_STAMPS, lay_sources, line_up
 
 PART, ROOT = (sys.argv + ["", "", ""])[2:4]
-# What is put below the prefix: its mode, and what it is a copy of.
+# The files that are put below the prefix: the mode of each, and what it is a copy of.
 PLACES = {
     "bin/hookhost": (0o755, "crates/hookhost/out/hookhost"),
     "bin/hookhost-git": (0o755, "git/hookhost-git"),
@@ -50,7 +50,7 @@ PLACES = {
 }
 LIST = "share/hookhost/installed"
 BASH_COMPLETION = "/usr/share/bash-completion/bash_completion"
-# Variables that would say where the program is, where shells look, or when a package was made.
+# Variables that name the program, the folders of shells, or the time of a package.
 UNSET = ["HOOKHOST", "XDG_DATA_HOME", "XDG_DATA_DIRS", "SOURCE_DATE_EPOCH"]
 # Words that share/install, share/package and share/stamp don't take.
 NO_WORDS = {
@@ -60,7 +60,7 @@ NO_WORDS = {
 }
 # The time of all commits of tests/git/git_bridge_repository.py, in seconds and as a version has it.
 COMMITTED, SHOWN = 1795766400, "20261127080000"
-# A program in the place of hookhost, where a case looks at names alone: the real one takes long to pack.
+# A program in place of hookhost, for cases that look at names alone: the real one takes long to pack.
 SHORT = "#!/bin/sh\necho hookhost 0.1.0\n"
 
 
@@ -85,7 +85,7 @@ class Desk:
         return Answer(done)
 
     def install(self, *words, status=0, **how):
-        """What share/install says, for the prefix where no words are given."""
+        """What share/install prints, for the prefix if no words are given."""
         answer = self.share("install", *(words or ("--prefix", self.prefix)), **how)
         check(answer.status == status, f"share/install {words!r} ends with {answer.status}: {answer!r}")
         return answer
@@ -247,7 +247,7 @@ def the_installed_programs_find_each_other(desk):
 
 
 def hookhost_reads_finds_its_modules(desk):
-    """By each of its paths, and without the bytes that Python keeps of modules that it has read."""
+    """The program is started by each of its paths, and leaves no bytes that Python keeps of modules that it has read."""
     desk.install()
     shutil.rmtree(os.path.join(desk.clone, "git"))
     before = snapshot(desk.prefix)
@@ -302,7 +302,7 @@ def what_was_changed_since_is_left(desk):
     os.remove(desk.at("share/man/man1/hookhost.1"))
     answer = desk.uninstall()
     left = [desk.at("bin/hookhost"), desk.at("bin/hookhost-git")]
-    same("files that are left", told(answer, "left as it is"), [f"{path}, which isn't what was put there" for path in left])
+    same("files that are left", told(answer, "left as it is"), [f"{path}, which was changed since" for path in left])
     same("what is left", sorted(snapshot(desk.prefix)), ["bin", "bin/hookhost", "bin/hookhost-git"])
     same("bytes", content(desk.at("bin/hookhost-git")), b"mine\n")
 
@@ -340,7 +340,7 @@ def links_are_replaced(desk):
     check(not os.path.lexists(os.path.join(desk.top, "nowhere")), "a link is followed")
 
 
-# ---- what goes wrong
+# ---- what fails
 
 
 def an_unbuilt_program_changes_nothing(desk):
@@ -381,7 +381,7 @@ def a_fault_changes_nothing(desk):
 
 
 def who_stops_reading_stops_nothing(desk):
-    """As `share/install | head -n 1` does. A second time there is an old file to be removed."""
+    """A pipe as in `share/install | head -n 1` stops nothing. A second time there is an old file to be removed."""
     for old in (False, True):
         if old:
             desk.write(desk.at("share/old"), "old\n")
@@ -432,7 +432,7 @@ def members_of_deb(desk, deb):
 
 
 def libc_of(program):
-    """The version of the C library that the program asks for, as readelf tells it."""
+    """The version of the C library that the program asks for, as readelf gives it."""
     shown = subprocess.run(["readelf", "--version-info", "--wide", program], check=True, capture_output=True, text=True, timeout=60).stdout
     return max(re.findall(r"Name: GLIBC_([0-9.]+)", shown), key=lambda it: [int(part) for part in it.split(".")])
 
@@ -515,7 +515,7 @@ def versions_follow_the_commit(desk):
 
 
 def install_without_git(root, package):
-    """Checks that dpkg doesn't install the package where the list of packages has no Git, and that it does once it has."""
+    """Checks that dpkg doesn't install the package if the list of packages has no Git, and that it does once it has."""
     path = root.path("var/lib/dpkg/status")
     stanzas = content(path).decode().split("\n\n")
     git = [stanza for stanza in stanzas if re.search(r"^Package: git$", stanza, re.MULTILINE)]

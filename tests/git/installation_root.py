@@ -1,8 +1,8 @@
-"""A bare Debian in a folder, made of this machine's own packages, for tests/git/installation.py.
+"""Makes a bare Debian in a folder from this machine's own packages, for tests/git/installation.py.
 
-It has the files of the packages that Debian marks as essential, of those that are named, and of all that these depend on, as
-they are installed here, and a list of packages in which no other stands. So it has neither the kit nor what else is installed,
-and needs no network. What packages do when they are installed isn't done again, but for what a shell and Git need of it.
+It has the files of the packages that Debian marks as essential, of the named ones, and of all that these depend on, as they are installed
+here. Its list of packages has no others. So it has neither the kit nor the other installed packages, and needs no network. What packages
+do when they are installed isn't done again, except for what a shell and Git need of it.
 """
 import os
 import re
@@ -15,7 +15,7 @@ from git_bridge_repository import check
 DATABASE = "var/lib/dpkg"
 FIELDS = "${db:Status-Status}\t${Package}\t${Essential}\t${Provides}\t${Pre-Depends}, ${Depends}\n"
 PATH = "/usr/sbin:/usr/bin:/sbin:/bin"
-# Mounts what a shell needs, in a list of mounts of its own, and goes into the folder.
+# Mounts what a shell needs, in a list of mounts of its own, and changes to the folder.
 ENTER = 'top=$1 at=$2; shift 2; mount -t proc proc "$top/proc" && mount --rbind /dev "$top/dev" || exit 125; exec chroot "$top" env -C "$at" "$@"'
 
 
@@ -87,7 +87,7 @@ class Root:
 
     def copy_files(self, packages):
         listed = told("dpkg-query", "--listfiles", *packages).decode().splitlines()
-        # Where `/bin` is a link, the files below it are those of `/usr/bin`.
+        # If `/bin` is a link, the files below it are those of `/usr/bin`.
         parted = [os.path.split(path) for path in listed if path.startswith("/") and path != "/."]
         found = {os.path.join(os.path.realpath(folder), name) for folder, name in parted}
         paths = sorted(filter(os.path.lexists, found), key=kind)

@@ -1,6 +1,6 @@
-"""What a program says of how it was built: cases of tests/git/installation.py, on share/stamp and on what share/install makes of it.
+"""What a program says of how it was built: cases of tests/git/installation.py, on share/stamp and on what share/install does with it.
 
-The form of a stamp stands in tests/shared/build_stamps.py, as docs/REFERENCE.md tells it.
+The form of a stamp is in tests/shared/build_stamps.py, as docs/REFERENCE.md describes it.
 """
 import os
 import re
@@ -12,7 +12,7 @@ from build_stamps import BYTES, PROVED, TRIAL, UNKNOWN, without_stamp
 from git_bridge_repository import Repository, check, content, same
 
 ID, OTHER_ID = "0123456789ab", "cdef01234567"
-# What share/stamp is told, and what the program says then.
+# What share/stamp is given, and what the program says then.
 STAMPS = [
     (["proved", ID], f"{PROVED}{ID}\n"),
     (["trial", ID], f"{TRIAL}{ID}\n"),
@@ -39,7 +39,7 @@ HOSTILE = [
     *(line_up((way + commit + "\n").encode()) for way in (PROVED, TRIAL) for commit in NO_COMMITS),
     *(line_up(line.encode()) for line in (f"{PROVED}{ID}", f"{PROVED}{ID}\n\n", f"{PROVED}{ID}\nmore\n", f"more\n{PROVED}{ID}\n", f"build: {ID}\n", f"build: PROVED, of commit {ID}\n",
                                           f"build: proved, of  commit {ID}\n", f" {PROVED}{ID}\n", f"{PROVED}{TRIAL}{ID}\n", "build: proved\n", "proved\n", "\x1b]0;title\x07\n")),
-    # Shorter than a stamp, so that what was there before it belongs to its bytes; longer; and filled with something else.
+    # Shorter than a stamp, so that what was there before it belongs to its bytes; longer; and filled with other bytes.
     line_up(f"{PROVED}{ID}\n".encode())[1:], f"{PROVED}{ID}\n".encode(), line_up(f"{PROVED}{ID}\n".encode()) + b"\0", line_up(f"{PROVED}{ID}\n".encode()) + b"\n",
     line_up(f"{PROVED}{ID}\n".encode(), b" "), line_up(f"{PROVED}{ID}\n".encode(), b"\0"), line_up(f"{PROVED}{ID}\n".encode(), b"b"), f"{PROVED}{'0' * 1000}\n".encode(),
 ]
@@ -66,7 +66,7 @@ def stamped(desk, *words, status=0, **how):
 
 
 def lay_sources(desk):
-    """Lays out the sources of a program without a stamp, older than this. It stands on the crate `low`, and not on `other`."""
+    """Lays out the sources of a program without a stamp, older than this. It uses the crate `low`, and not `other`."""
     put(desk.program, without_stamp(desk.program))
     desk.write(f"{desk.clone}/crates.txt", "# The crates.\nlow:\nother:\nhookhost: low regex\n")
     desk.write(f"{desk.clone}/HANDLES", "Handles allowed: none.\n")
@@ -117,7 +117,7 @@ def hostile_stamps_say_nothing(desk):
     for end in HOSTILE:
         put(desk.program, bare + end)
         same(f"what is said with {end!r} at the end", said(desk.program), UNKNOWN)
-        # What isn't a stamp isn't taken away by one.
+        # What isn't a stamp isn't removed by one.
         stamped(desk, desk.program, "trial", ID)
         check(content(desk.program) == bare + end + line_up(f"{TRIAL}{ID}\n".encode()), f"a stamp takes {end!r} away")
         same(f"what is said with {end!r} before a stamp", said(desk.program), f"{TRIAL}{ID}\n")

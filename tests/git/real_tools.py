@@ -1,17 +1,17 @@
 #!/usr/bin/env python3
-"""Runs tools of Debian as hooks, by hookhost and by pre-commit, over the same trees, and compares what each hook came to.
+"""Runs tools of Debian as hooks, by hookhost and by pre-commit, over the same trees, and compares how each hook ended.
 
-Usage: tests/git/real_tools.py [PROGRAM [PART]]   (default: crates/hookhost/out/hookhost, and all hooks; else those with PART in their ids)
+Usage: tests/git/real_tools.py [PROGRAM [PART]]   (default: crates/hookhost/out/hookhost, and all hooks; with PART those with it in their ids)
        tests/git/real_tools.py --lacking          (the packages that aren't installed)
 
-Each hook stands in a table, of real_tools_python.py and the modules beside it, with a tree at which it passes and one at
-which it fails. All hooks are run over both trees: by pre-commit, by `hookhost-git run --all-files`, in a commit, and by
-`hookhost run` in a checkout. Then each hook that reads more than it is handed, as settings, or a module, is run after an
-edit of that alone: one at which it fails, and one at which it passes. What was remembered stays.
+Each hook is in a table, of real_tools_python.py and the modules like it, with a tree at which it passes and one at which it fails. All
+hooks are run over both trees: by pre-commit, by `hookhost-git run --all-files`, in a commit, and by `hookhost run` in a checkout. Some
+hooks read more than the files that they are given, such as settings or a module. Each of these is run after an edit of that alone: one at
+which it fails, and one at which it passes. What was cached stays.
 
-Each hook has to come to what it comes to by pre-commit, but for DIFFERENCES, each with its reason and each of which has to
-occur. A hook that passes here and fails there is wrong whatever the reason. So is a hook that doesn't come, by pre-commit,
-to what the tables say. Nothing is installed: a tool that lacks is told by the name of its package.
+Each hook has to end as it does by pre-commit, except for DIFFERENCES, each with its reason and each of which has to occur. A hook that
+passes here and fails there is wrong, for any reason. So is a hook that ends, by pre-commit, in another way than the tables say. Nothing
+is installed: for a missing tool the name of its package is printed.
 """
 import concurrent.futures
 import os
@@ -50,7 +50,7 @@ class Group:
         self.name, self.cases, self.shared, self.ways = name, cases, shared, ways
 
     def steps(self):
-        """Each step's name, its tree, the ids of the hooks that are run, or none for all, and what each comes to by pre-commit."""
+        """Each step's name, its tree, the ids of the hooks that are run, or none for all, and how each ends by pre-commit."""
         tree = files_of(self.shared, self.cases)
         ids = [case.id for case in self.cases]
         yield "bad", files_of(self.shared, self.cases, bad=True), [], dict.fromkeys(ids, "Failed")
@@ -77,7 +77,7 @@ def played(way, group, home):
 
 
 class Tally:
-    """What agreed, and what didn't."""
+    """The cases that agreed, and those that didn't."""
 
     def __init__(self):
         self.passed, self.failed, self.used = 0, 0, set()
@@ -101,7 +101,7 @@ class Tally:
 
 
 def told(answer, name):
-    """What a report says of a hook, or all of it if it says nothing."""
+    """The part of a report on a hook, or the whole report if it has none."""
     lines = answer.text.split("\n")
     begin = next((at for at, line in enumerate(lines) if line.startswith(name + ".")), None)
     return "\n".join("    " + line for line in (lines[-12:] if begin is None else lines[begin:begin + 12]))
@@ -124,8 +124,8 @@ def compare(tally, group, answers):
 def groups(part):
     """The groups, of the hooks with the part in their ids.
 
-    Those that call Git aren't compared in a checkout, where Git finds the checkout above, of which nothing is staged below
-    the folder in which hooks run. docs/REFERENCE.md names that among what an answer may depend on without being seen.
+    Those that call Git aren't compared in a checkout: there Git finds the checkout above, of which nothing is staged below the folder in
+    which hooks run. docs/REFERENCE.md names that among what an answer may depend on without being seen.
     """
     settings = real_tools_python.SETTINGS | real_tools_searches.SETTINGS
     tools = real_tools_python.cases() + real_tools_texts.cases() + real_tools_code.cases() + real_tools_searches.cases()

@@ -1,4 +1,4 @@
-"""How tests/git/real_tools.py writes a hook down, beside the files at which it passes and at which it fails."""
+"""The form of a hook for tests/git/real_tools.py, with the files at which it passes and those at which it fails."""
 import dataclasses
 
 from git_bridge_repository import quoted_yaml, shell
@@ -10,7 +10,7 @@ class Script(str):
 
 @dataclasses.dataclass(frozen=True)
 class Edit:
-    """A change of files that the hook isn't handed: one at which the hook fails, and then one at which it passes."""
+    """A change of files that the hook isn't given: one at which the hook fails, and then one at which it passes."""
 
     what: str
     stricter: dict
@@ -19,10 +19,10 @@ class Edit:
 
 @dataclasses.dataclass(frozen=True)
 class Case:
-    """A hook. It passes over the files `good`, and fails where those of `bad` stand in their place; of these, None is no file.
+    """A hook. It passes over the files `good`, and fails if those of `bad` are in their place; of these, None is no file.
 
-    Paths are those within the case's own folder, which has the name of the case, and which the hook is given the files of.
-    One that begins with `/` begins at the top of the tree, where many tools have their settings.
+    Paths are those within the case's own folder. It has the name of the case, and the hook is given its files. A path that begins with
+    `/` begins at the top of the tree, in which many tools have their settings.
     """
 
     id: str
@@ -46,7 +46,7 @@ def from_top(path):
 
 
 def entry(words):
-    """The hook's command, which is handed the names of the files."""
+    """The hook's command, which is given the names of the files."""
     return "entry: " + quoted_yaml(words)
 
 
@@ -61,7 +61,7 @@ def whole_shell(line):
 
 
 def files_of(shared, cases, *, bad=False):
-    """The files that cases share and those of all cases, where all hooks pass, or where all of them fail."""
+    """The files that cases share and those of all cases: those with which all hooks pass, or those with which all of them fail."""
     tree = {from_top(path): text for path, text in shared.items()}
     for case in cases:
         for path, text in case.tree(case.good).items():

@@ -9,7 +9,7 @@ MAIN = '#!/bin/sh\n# shellcheck source=shellcheck_source/values.sh\n. ./shellche
 C = '#include "values.h"\nint main(void) {\n  int row[SIZE];\n  row[4] = 0;\n  return row[4];\n}\n'
 ESLINT = {"root": True, "env": {"node": True, "es6": True}, "rules": {"no-var": "off"}}
 TSC = {"compilerOptions": {"noEmit": True, "lib": ["es5"], "types": [], "strict": False}, "include": ["*.ts"]}
-# It looks for a word in the files of a case, by a rule that stands in a file of its own.
+# It looks for a word in the files of a case, by a rule that is in a file of its own.
 CHECK = '#!/bin/sh\n. "./{0}/rule.sh"\n! grep -rn --include=*.txt "$word" {0}\n'
 
 

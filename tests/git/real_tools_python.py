@@ -1,4 +1,4 @@
-"""Hooks by tools for Python, for tests/git/real_tools.py. Each file that passes is laid out as black lays it out."""
+"""Hooks by tools for Python, for tests/git/real_tools.py. Each file that passes has the format of black."""
 from real_tools_case import Case, Edit, entry, whole
 
 LINE = 'print("a line of more than twenty columns")\n'
@@ -26,12 +26,12 @@ def settings(path, old, stricter, laxer):
 
 
 def module(path, *, good, bad, better):
-    """A module that isn't handed to the hook, beside its edit."""
+    """A module that isn't given to the hook, and its edit."""
     return {path: good}, Edit(path, {path: bad}, {path: better})
 
 
 def with_module(name, keys, main, **how):
-    """A hook that is handed `main.py` alone, which imports what stands in `values.py`."""
+    """A hook that is given `main.py` alone, which imports what is in `values.py`."""
     files, edit = module(f"{name}_values.py", **how)
     return Case(name, keys + f", files: '^{name}/main'", files | {"main.py": main}, {f"{name}_values.py": how["bad"]}, (edit,))
 
@@ -115,7 +115,7 @@ sys.exit(any("walk_absolute_broken" in path.read_text() for path in FILES))
 
 
 def bare_cases():
-    """Hooks over a tree without settings, where tools look further up for the top of a project."""
+    """Hooks over a tree without settings. Their tools look further up for the top of a project."""
     unused = {"a.py": "import os\n\n" + LINE}
     quotes = {"a.py": LINE.replace('"', "'")}
     return [

@@ -9,7 +9,7 @@ from real_tools_case import Script
 # A line of a report, and a line by which the hook of Git refuses one that calls Git.
 VERDICT = re.compile(r"^([a-z0-9_]+)\.+(?:\(no files to check\))?(Passed|Failed|Skipped)$", re.MULTILINE)
 CALLS_GIT = re.compile(r"^hookhost-git: refused: the hook `([^`]*)` calls Git", re.MULTILINE)
-# What stays of a folder where another tree is laid out.
+# What stays in a folder when another tree is written there.
 STAYS = (".git", ".hookhost")
 
 
@@ -33,7 +33,7 @@ class Way:
         """What is done before the first tree."""
 
     def lay(self, tree):
-        """Takes away what lies there, caches of tools too, lays the tree out, and stages it."""
+        """Removes what lies there, caches of tools too, writes the tree, and stages it."""
         self.tree = tree
         for name in os.listdir(self.folder):
             if name not in STAYS:
@@ -60,7 +60,7 @@ class Way:
         raise NotImplementedError
 
     def answers(self, only):
-        """Each answer to the tree that is laid out, beside how it was asked for."""
+        """Each result for the tree that is written, with the way by which it was found."""
         return {self.name: self.run(only)}
 
 
@@ -72,7 +72,7 @@ class PreCommit(Way):
 
 
 class GitHook(Way):
-    """As the hook of Git: by hand, and in a commit, which changes all files, since the branch has none yet."""
+    """Runs hooks as the hook of Git: by hand, and in a commit, which changes all files, since the branch has none yet."""
 
     name = "hook of Git"
 
@@ -86,14 +86,14 @@ class GitHook(Way):
     def answers(self, only):
         found = {self.name: self.run(only)}
         if not only:
-            # What hooks have mended is taken back.
+            # What hooks have fixed is undone.
             self.git.git("checkout-index", "--all", "--force")
             found["commit"] = Answer(self.git.commit())
         return found
 
 
 class Checkout(Way):
-    """By hookhost's own repository in a checkout of Git."""
+    """Runs hooks by hookhost's own repository in a checkout of Git."""
 
     name = "checkout"
 

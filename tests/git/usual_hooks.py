@@ -1,13 +1,13 @@
 #!/usr/bin/env python3
-"""Plays the hooks that docs/FROM_PRE_COMMIT.md shows for most teams, as they stand there, by hookhost-git and by pre-commit.
+"""Runs the hooks that docs/FROM_PRE_COMMIT.md shows for most teams, as they are written there, by hookhost-git and by pre-commit.
 
 Usage: tests/git/usual_hooks.py [PROGRAM [PART]]   (default: crates/hookhost/out/hookhost, and each of blocks, trees, inputs and git)
-       tests/git/usual_hooks.py --lacking          (the packages that aren't installed, but for those of real_tools.py)
+       tests/git/usual_hooks.py --lacking          (the packages that aren't installed, without those of real_tools.py)
 
-Every block has to be taken by `hookhost check`, `hookhost explain` and pre-commit. Each hook whose tool is installed has to
-pass over a good tree and to fail over a bad one, and what it mends has to have the right bytes, by both. Those that
-pre-commit-hooks has are compared with what the original does (usual_hooks_originals.py) on inputs that are hard, each by a
-copy of the hook of its own; DIFFERENCES has what differs, with the reason, and each of them has to occur.
+Every block has to be taken by `hookhost check`, `hookhost explain` and pre-commit. Each hook whose tool is installed has to pass over a
+good tree and to fail over a bad one, and what it fixes has to have the right bytes, by both. The hooks of pre-commit-hooks are compared
+with the originals (usual_hooks_originals.py) on hard inputs, each by its own copy of the hook. DIFFERENCES has what differs, with the
+reason, and each of them has to occur.
 """
 import os
 import re
@@ -31,7 +31,7 @@ BEGINS = re.compile(r"^(?=  - id: )", re.MULTILINE)
 ENDS = re.compile(r"\.(?:\(no files to check\))?(Passed|Failed|Skipped)$", re.MULTILINE)
 CALLS_GIT = "no-commit-to-branch"
 WHOLE_TREE = "check-case-conflict"
-# Tools that Debian doesn't have: their hooks are just read, where nobody has installed them.
+# Tools that Debian doesn't have: their hooks are just read, if nobody has installed them.
 NOT_IN_DEBIAN = {"prettier", "ruff"}
 IN_MEMORY = "/dev/shm"
 WAYS = {"hookhost": (BRIDGE, "run"), "pre-commit": ("pre-commit", "run", "--color", "never")}
@@ -62,7 +62,7 @@ def lacking():
 
 
 class Tally:
-    """What is as it has to be, and what isn't."""
+    """The cases that are as they have to be, and those that aren't."""
 
     def __init__(self):
         self.passed, self.failed, self.used = 0, 0, set()
@@ -78,7 +78,7 @@ class Tally:
         print(f"WRONG: {text}" + (f"\n{answer.text[-2000:]}" if answer else ""))
 
     def as_original(self, hook, what, found, wanted):
-        """That a hook did what the original does, or one of the differences, which has to be one."""
+        """Checks that a hook did what the original does, or one of the differences, which has to be one."""
         key = (hook, what)
         if key not in DIFFERENCES:
             self.same(f"{hook}, {what}, as by the original", found, wanted)
@@ -93,7 +93,7 @@ def short(value):
 
 
 class Hook:
-    """A hook as it stands on the page."""
+    """A hook as it is written on the page."""
 
     def __init__(self, text):
         self.text = text
@@ -115,7 +115,7 @@ class Hook:
 
 
 class Place:
-    """A repository in which one tree after another is laid out, for one way to run hooks."""
+    """A repository in which one tree after another is written, for one way to run hooks."""
 
     def __init__(self, way, folder, env):
         self.way, self.git = way, Repository.made(os.path.join(folder, way), env)
@@ -175,11 +175,11 @@ def written(held):
     return held.encode() if isinstance(held, str) else held
 
 
-# ---- the blocks as they stand
+# ---- the blocks as they are written
 
 
 def check_blocks(tally, place):
-    """That each block is a configuration of its own, in which every key is known."""
+    """Checks that each block is a configuration of its own, in which every key is known."""
     for block in blocks():
         hooks = hooks_of(block)
         what = f"the block of {hooks[0].id}"
@@ -194,7 +194,7 @@ def check_blocks(tally, place):
 
 
 def check_good(tally, place, hooks):
-    """That all hooks pass over a good tree as they stand, over each other's files and their own configuration too."""
+    """Checks that all hooks pass over a good tree as they are written, over each other's files and their own configuration too."""
     chosen = [hook.text for hook in hooks.values() if hook.id != CALLS_GIT]
     place.lay(tree_of(lambda case: case.good), chosen)
     answer = place.run("--all-files")
@@ -203,9 +203,9 @@ def check_good(tally, place, hooks):
 
 
 def check_cached(tally, place, hooks):
-    """That over the same good tree no command starts, and after an edit of nothing that they read only those that see all."""
+    """Checks that over the same good tree no command starts, and after an edit of nothing that they read only those that see all."""
     known = [hook for hook in hooks.values() if hook.language == "system" and hook.id not in (CALLS_GIT, "ruff", "ruff-format")]
-    # What a hook of any file is handed has changed for check-added-large-files too.
+    # The set of files that a hook of any file is given has changed for check-added-large-files too.
     sees_all = {WHOLE_TREE, "check-added-large-files"}
     commands = len(known) + sum(hook.id.startswith("ruff") for hook in hooks.values())
     answer = place.run("--all-files", "--verbose")
@@ -217,7 +217,7 @@ def check_cached(tally, place, hooks):
 
 
 def check_bad(tally, place, hooks):
-    """That each hook fails over its bad files, and what it makes of them."""
+    """Checks that each hook fails over its bad files, and what it makes of them."""
     place.lay(tree_of(lambda case: case.good) | tree_of(lambda case: case.bad), [hook.within(folder_of(name)) for name, hook in hooks.items() if name != CALLS_GIT])
     answer = place.run("--all-files")
     for name in hooks:
@@ -237,8 +237,8 @@ def check_bad(tally, place, hooks):
 def copies_of(hook):
     """Copies of a small hook by their folders, with the inputs of each.
 
-    One copy gets all inputs if it mends, since its bytes tell of each. Else one gets all those at which the original passes,
-    and each other input has its own.
+    One copy gets all inputs if it fixes files, since its bytes show the result for each. Otherwise one gets all those at which the
+    original passes, and each other input has its own.
     """
     inputs = inputs_of(hook)
     if CASES[hook].mended:
@@ -249,7 +249,7 @@ def copies_of(hook):
 
 
 def check_hard(tally, places, hooks):
-    """That both ways come to the same, of each input, and to what the original comes to."""
+    """Checks that both ways give the same for each input, and what the original gives."""
     copies = {folder: (name, inputs) for name in ORIGINALS for folder, inputs in copies_of(name).items()}
     tree = {f"{folder}/{given.path}": given.held for folder, (_, inputs) in copies.items() for given in inputs}
     answers = {}
@@ -266,7 +266,7 @@ def check_hard(tally, places, hooks):
 
 
 def compare_original(tally, name, given, verdict, left):
-    """Compares with the original, which is handed the same files: none that is binary, where the hook asks for text."""
+    """Compares with the original, which is given the same files: no binary ones if the hook asks for text."""
     if verdict == "Skipped" or CASES[name].mended and b"\0" in given.held:
         tally.same(f"{name}, {given.what}, which it isn't handed", (left, b"\0" in given.held), (given.held, True))
         return
@@ -278,7 +278,7 @@ def compare_original(tally, name, given, verdict, left):
 
 
 def check_merge(tally, place, hooks):
-    """check-merge-conflict in a merge that is under way, where the original looks."""
+    """check-merge-conflict in a merge that is under way, which the original needs."""
     texts = {what: held for what, held in CONFLICTS.items() if b"\0" not in held}
     place.lay({"base": "a\n"}, [])
     for words in (("commit", "-qm", "a"), ("checkout", "-qb", "other"), ("commit", "-qm", "b", "--allow-empty"), ("checkout", "-qB", "third", "HEAD~"), ("commit", "-qm", "c", "--allow-empty")):
@@ -292,7 +292,7 @@ def check_merge(tally, place, hooks):
         tally.as_original("check-merge-conflict", f"{what}, in a merge", answer.verdicts.get(f"merged_{number}"), wanted)
 
 
-# ---- hooks that look at more than the files that they are handed
+# ---- hooks that look at more than the files that they are given
 
 
 def check_names(tally, places, hooks):
@@ -307,7 +307,7 @@ def check_names(tally, places, hooks):
 
 
 def check_committed(tally, place, hooks):
-    """What was there before a commit: large files and names in conflict."""
+    """Files that were there before a commit: large ones, and names in conflict."""
     place.lay({"large": LARGE * 600, "x": "a\n", "X": "a\n"}, [hooks["check-added-large-files"].named("large"), hooks[WHOLE_TREE].named("names")])
     place.git.git("commit", "--quiet", "--message", "All")
     large = LARGE * 601
@@ -349,7 +349,7 @@ def play_inputs(tally, folder, env, hooks):
 
 
 def play_git(tally, folder, env, hooks):
-    """The hooks that look at what Git knows, or that don't although the originals do."""
+    """The hooks that look at Git's list of files, or that don't although the originals do."""
     check_names(tally, [Place(way, os.path.join(folder, "names"), env) for way in WAYS], hooks)
     for way in WAYS:
         check_branches(tally, Place(way, os.path.join(folder, "branches"), env), hooks)

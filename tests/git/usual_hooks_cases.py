@@ -14,7 +14,7 @@ class Executable(bytes):
 
 @dataclasses.dataclass(frozen=True)
 class Case:
-    """The files at which a hook passes, those at which it fails, and what it makes of these if it mends them."""
+    """The files at which a hook passes, those at which it fails, and what it makes of these if it fixes them."""
 
     good: dict
     bad: dict
@@ -25,7 +25,7 @@ def mends(path, bad, good):
     return Case({path: good}, {path: bad}, {path: good})
 
 
-# Paths are those within the hook's own folder. Each Python file has a name of its own, since mypy is handed all of them.
+# Paths are those within the hook's own folder. Each Python file has a name of its own, since mypy is given all of them.
 CASES = {
     "trailing-whitespace": mends("a name.txt", "a \nb\t\n", "a\nb\n"),
     "trailing-whitespace-2": mends("a.txt", "a  \n", "a\n"),
@@ -238,7 +238,7 @@ INPUTS = {
 
 @dataclasses.dataclass(frozen=True)
 class Input:
-    """A file that a hook is handed."""
+    """A file that a hook is given."""
 
     what: str
     path: str

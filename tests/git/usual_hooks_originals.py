@@ -1,4 +1,4 @@
-"""What the hooks of pre-commit-hooks do, after its README, for tests/git/usual_hooks.py: Debian has no package of them.
+"""What the hooks of pre-commit-hooks do, according to its README, for tests/git/usual_hooks.py: Debian has no package of them.
 
 Each takes the bytes of a file and answers those that it leaves, or None if the hook fails and leaves them as they were.
 """
@@ -25,7 +25,7 @@ MOST_KILOBYTES = 500
 
 
 def trimmed_line(line, is_markdown):
-    """A line without the blanks at its end, but for two at the end of a line of Markdown that has more than blanks."""
+    """A line without the blanks at its end. Two are left at the end of a line of Markdown that has more than blanks."""
     end = b"\r\n" if line.endswith(b"\r\n") else b"\n" if line.endswith(b"\n") else b""
     body = line.removesuffix(end)
     keeps_two = is_markdown and body.endswith(b"  ") and not body.isspace()
@@ -41,7 +41,7 @@ def trailing_whitespace_markdown(held):
 
 
 def end_of_file_fixer(held):
-    """The bytes with one line end at their end, the first that is there; none where nothing but line ends is there."""
+    """The bytes with one line end at their end, the first that is there; none if nothing but line ends is there."""
     body = held.rstrip(b"\r\n")
     ends = held[len(body):]
     if not body:
@@ -107,7 +107,7 @@ def distinct(pairs):
 
 
 def taken_by(reader, fault):
-    """A check that fails where a reader raises the fault. Another fault fails it too, by the hook's own end."""
+    """A check that fails if a reader raises the fault. Another fault fails it too, by the hook's own end."""
     def check(held):
         try:
             reader(held)
@@ -173,7 +173,7 @@ def folders_of(paths):
 
 
 def case_conflict(paths, relevant):
-    """Whether check-case-conflict fails in a repository with these paths, handed those that are relevant."""
+    """Whether check-case-conflict fails in a repository with these paths, given those that are relevant."""
     relevant = set(relevant) | folders_of(relevant)
     others = (set(paths) | folders_of(paths)) - relevant
     lower = [path.lower() for path in relevant]

@@ -1,16 +1,16 @@
 #!/usr/bin/env python3
-"""Plays the commands on a repository with the built program: files with hard names, files and folders that can't be used,
-several programs at once, kills, limits to what is remembered, and how often the disk is waited for.
+"""Checks the commands on a repository with the built program. The cases are of files with hard names, files and folders that can't be used,
+several programs at once, kills, limits of the cache, and how often the disk is waited for.
 
 Usage: tests/host/host.py [--kills | --no-kills] [KILLS [PROGRAM [STORE_TRIAL]]]   (default: 30 kills of each command, and the built
 programs)
 
---kills plays the topics of kills alone, --no-kills the others: so they can be played side by side.
+--kills runs the topics of kills alone, --no-kills the others, so they can be run side by side.
 
-What one program alone prints stands in tests/sessions/. Here stands what no session can make: names that no text file
-keeps, another user, fifos, programs side by side. Each kill is a SIGKILL at a random moment of a command on a copy of a
-repository, which then has to be the one before the command or the one after it, and what its hooks had answered by then is
-remembered. The commits are made by store_trial. The cases stand in the modules tests/host/host_*.py, each of one topic.
+tests/sessions/ has what one program alone prints. Here is what no session can make: names that no text file can hold, another user,
+fifos, programs side by side. Each kill is a SIGKILL at a random moment of a command on a copy of a repository. The repository has to
+be the one before the command or the one after it, and the results of its hooks up to then are cached. The commits are made by
+store_trial. The cases are in the modules tests/host/host_*.py, each of one topic.
 """
 import os
 import subprocess

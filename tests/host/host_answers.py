@@ -1,4 +1,4 @@
-"""Cases of tests/host/host.py: what is remembered of many answers and of large ones."""
+"""Cases of tests/host/host.py: which of many answers and of large ones are cached."""
 import os
 import shutil
 import subprocess
@@ -9,7 +9,7 @@ from host_program import STORE, check, do, line, play, rows, run, staged_rows, w
 from host_state import book_in
 from kept_answers import SELECT_ROWS, TO_VERSION_1, KeptAnswer, digest, planting_all, row_of, use_of
 
-# How many answers are planted into the file of a store: as many as a store may have. And how many a new one remembers.
+# How many answers are planted into the file of a store: as many as a store may have. And how many a new one caches.
 MANY, TAKEN_OVER = 100_000, 10_000
 # Two hooks that leave a mark in the working folder: one whose answer is planted, and one whose answer isn't.
 KNOWN, NEW = b"echo >> ../../known", b"echo >> ../../new; echo new"
@@ -56,8 +56,8 @@ def plant(work, answers):
 
 
 def remembers_as_many_answers_as_there_may_be(folder):
-    """Among them one is found, and one more is put, for which the last one goes; they are counted, and all are
-    forgotten. Of as many in a store of version 1 those are taken over that a new store remembers."""
+    """Of as many as a store may have, one is found, and one more is put, for which the last one is dropped. They are counted, and all are
+    forgotten. Of as many in a store of version 1, the number that a new store caches is taken over."""
     work, answers = os.path.join(folder, "work"), list(many_answers())
     os.mkdir(work)
     stage_hooks(work, TWO_HOOKS)
@@ -84,7 +84,7 @@ def remembers_as_many_answers_as_there_may_be(folder):
 
 
 def forgets_many_answers(work):
-    """The answer that was put is written as the reference says, and all are forgotten, and nothing else changes."""
+    """The answer that was put is written as the reference says. All are forgotten, and nothing more changes."""
     found, status = rows(work, SELECT_ROWS), do(work, "status")
     check(len(found) == MANY and row_of(PUT) in found,
           f"sqlite3 finds {len(found)} answers, or another one that was put")
@@ -114,7 +114,7 @@ FAULTS = {
     "Louder": b"- fault: output is longer than 1048576 bytes\n",
     "Grown": b"- fault: files could not be written or read back\n",
 }
-# What is said of the first file that is too large.
+# What is reported of the first file that is too large.
 TOO_LARGE = b"hookhost: .hookhost/scratch/a: the file is too large\n"
 LARGEST = bytes(16777216)
 
@@ -134,8 +134,8 @@ def large_report():
 
 
 def remembers_the_largest_answers_and_no_larger_ones(folder):
-    """More than a child may write, and a file that is larger than one may be, are faults each time, so that no answer of a real
-    child is too large to be kept. The largest are kept, beside those before and behind them."""
+    """More than a child may write, and a file that is larger than one may be, are faults each time. So no answer of a real child is too
+    large to be kept. The largest are kept, and so are those before and after them."""
     stage_hooks(folder, LARGE_HOOKS.encode())
     play(folder, ["commit first\\n"])
     files, wanted = staged_rows(folder), sorted(map(row_of, large_answers()))
@@ -152,7 +152,7 @@ def remembers_the_largest_answers_and_no_larger_ones(folder):
     check(do(folder, "cat", "a") == LARGEST, "the largest file is another")
 
 
-# As many bytes of paths as may be staged beside those of two files: a record of them has half of the bytes that it may have. One
+# As many bytes of paths as may be staged together with those of two files: a record of them has half of the bytes that it may have. One
 # of as many files as may be staged would have three quarters, and none has more.
 DEEP = ("d" * 249 + "/") * 15
 MOST_PATHS = [DEEP + f"{at:0250d}" for at in range(8_388_608 // 4000)]

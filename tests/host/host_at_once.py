@@ -27,7 +27,7 @@ def with_added(text, name):
 
 
 def lets_one_program_work_at_a_time(folder):
-    """Beside a program that adds a large file, another is refused, or sees the repository before it or after it."""
+    """While a program adds a large file, another is refused, or sees the repository before it or after it."""
     do(folder, "init")
     held, refused = random.Random(1).randbytes(16777216), 0
     for at in range(20):

@@ -26,7 +26,8 @@ def told(folder):
 
 
 def remembers_nothing_of_a_command_that_called_git(folder):
-    """Of a command that notes a call, whether the file was there before or not; else the file makes no difference."""
+    """Nothing is cached of a command that notes a call, whether the file was there before or not. Otherwise the file makes no
+    difference."""
     work, calls, told_of = told(folder)
     for held in (None, b"", b"before\n"):
         if held is not None:
@@ -59,7 +60,7 @@ def takes_no_variable_that_is_no_text(folder):
 
 
 def runs_where_the_variable_says(folder):
-    """Commands of the repository's hooks do, and those of a try where they ever do."""
+    """Commands of the repository's hooks run there, and those of a try in their usual folder."""
     work, calls, told_of = told(folder)
     place = os.path.join(folder, "elsewhere", "scratch")
     write(work, ".pre-commit-config.yaml", HOOKS.replace(b"echo x >>", b"pwd >"))

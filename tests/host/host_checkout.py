@@ -53,7 +53,8 @@ def is_out(folder):
 
 
 def keeps_its_folder_out_of_git(folder):
-    """By a line of the checkout's list, which init adds, and each later change where it is missing, also one that is refused."""
+    """A line of the checkout's list keeps it out. init adds the line, and so does each later change if it is missing, even one that is
+    refused."""
     work = checkout(folder)
     path = os.path.join(work, EXCLUDE)
     before = Path(path).read_bytes()
@@ -90,8 +91,8 @@ def makes_the_list_of_a_checkout_without(folder):
 
 
 def finds_the_list_from_wherever_git_would(folder):
-    """From a folder of the checkout, a worktree, a submodule, and a checkout whose history lies elsewhere, by an absolute name and
-    by a relative one."""
+    """It is found from a folder of the checkout, a worktree, a submodule, and a checkout whose history lies elsewhere, named by an
+    absolute path and by a relative one."""
     work = checkout(folder)
     inner = os.path.join(work, "b/c")
     os.makedirs(inner)
@@ -146,7 +147,7 @@ def leaves_a_checkouts_history_alone(folder):
 
 
 def takes_the_ignore_file_away_before_hooks_run(folder):
-    """That which an earlier program wrote stands above the files of hooks. Another one is its owner's."""
+    """The ignore file that an earlier program wrote is above the files of hooks. Another one belongs to its owner."""
     work = checkout(folder)
     do(work, "init")
     write(work, ".pre-commit-config.yaml", HOOKS)
@@ -168,7 +169,7 @@ def takes_the_ignore_file_away_before_hooks_run(folder):
 
 
 def keeps_the_ignore_file_where_the_list_cannot_be_had(folder):
-    """Else Git would stage the folder. The command is done all the same, and waits for no fifo."""
+    """Otherwise Git would stage the folder. The command is done all the same, and waits for no fifo."""
     def exclude(make):
         def spoil(work):
             os.remove(os.path.join(work, EXCLUDE))
@@ -222,7 +223,7 @@ def goes_by_no_history_of_another_user(folder):
 
 
 def leaves_nothing_of_a_try(folder):
-    """Neither a folder that Git would stage nor a line in its list. An ignore file that lies there is replaced all the same."""
+    """A try leaves no folder that Git would stage, and no line in its list. An ignore file that lies there is replaced all the same."""
     work = checkout(folder)
     before = Path(work, EXCLUDE).read_bytes()
     write(folder, "hooks.yaml", HOOKS)

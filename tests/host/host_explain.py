@@ -1,4 +1,4 @@
-"""Cases of tests/host/host.py: a configuration of which several things are wrong is told all of them, in the order of its lines."""
+"""Cases of tests/host/host.py: all faults of a configuration are reported, in the order of its lines."""
 import random
 
 from host_program import check, run, write
@@ -7,7 +7,7 @@ NAME = ".pre-commit-config.yaml"
 STAGES = ("`pre-commit`, `pre-merge-commit`, `pre-push`, `prepare-commit-msg`, `commit-msg`, `post-checkout`, `post-commit`, `post-merge`, "
           "`post-rewrite`, `pre-rebase` or `manual`")
 NO_PATTERN = "a pattern of the crate `regex`: do without lookaround and back references, or make it shorter"
-# Keys of a hook, each with what is said of it.
+# Keys of a hook, each with what is reported of it.
 WRONG = {
     "args: --fix": "`args` is the text `--fix`, and has to be a list of texts",
     "always_run: ture": "`always_run` is the text `ture`, and has to be an unquoted `true` or `false` (did you mean `true`?)",
@@ -81,7 +81,7 @@ def configuration(rng):
 
 
 def told(out):
-    """The lines and sentences that are told, without the lines of the file and the marks."""
+    """The lines and sentences that are reported, without the lines of the file and the marks."""
     found = [line[len(NAME) + 1:].partition(": ") for line in out.decode().splitlines() if line.startswith(NAME + ":")]
     return [(int(number), sentence) for number, _, sentence in found]
 

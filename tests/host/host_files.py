@@ -1,5 +1,5 @@
-"""Cases of tests/host/host.py: fifos and pipes, standard streams that are closed or that nobody reads, the modes and names of the files that
-are made, files over the limit of a process, and in what order the store's file and the lock are looked at.
+"""Cases of tests/host/host.py: fifos and pipes, and standard streams that are closed or that nobody reads. Others are of the modes and
+names of the files that are made, files over the limit of a process, and the order in which the store's file and the lock are opened.
 """
 import contextlib
 import fcntl
@@ -15,7 +15,7 @@ from host_program import LOCK, PROGRAM, STORE, check, do, owned_by_nobody, paths
 
 SCRATCH = ".hookhost/scratch"
 CONFIGURATION = ".pre-commit-config.yaml"
-# A hook that shows its files, and one that changes `b` where it is asked for.
+# A hook that shows its files, and one that changes `b` if it is asked to.
 HOOKS = b"""repos:
 - repo: local
   hooks:
@@ -63,8 +63,8 @@ def new(folder, name):
 # ---- fifos and pipes
 
 def waits_for_no_fifo_that_is_named(folder):
-    """To open a fifo waits for its other end, so a program that does would never end: of the configuration, of a file, and of a list
-    of paths, by its name or by a link, be its other end open or not."""
+    """Opening a fifo waits for its other end, so a program that does would never end. The fifo is the configuration, a file, or a list of
+    paths, given by its name or by a link, with its other end open or not."""
     work = configured(new(folder, "work"))
     os.mkdir(os.path.join(work, "dir"))
     for path in ("fifo", "dir/fifo"):
@@ -87,7 +87,7 @@ def waits_for_no_fifo_that_is_named(folder):
 
 
 def reads_no_fifo_that_takes_the_name_of_a_file(folder):
-    """As where the file is a fifo by the time that it is opened: it isn't read, which would wait for what is written to it."""
+    """The same if the file is a fifo by the time that it is opened. It isn't read, which would wait for what is written to it."""
     helper = helper_in(folder)
     work = configured(new(folder, "work"))
     for words, path in ((["add", "a"], "a"), (["add", "a", "b"], "b"), (["try", CONFIGURATION, "a"], "a"), (["try", CONFIGURATION, "a"], CONFIGURATION), (["check"], CONFIGURATION)):
@@ -123,8 +123,8 @@ def closed(*streams):
 
 
 def ends_as_with_a_full_output_where_it_is_closed(folder):
-    """With a standard stream closed nothing that is meant for it comes into a file of the repository, and a command whose output isn't
-    taken ends as on a full disk. What is left is compared with a copy on which the command had its streams."""
+    """With a standard stream closed nothing that is meant for it comes into a file of the repository. A command whose output isn't taken
+    ends as on a full disk. What is left is compared with a copy on which the command had its streams."""
     work = configured(new(folder, "work"))
     write(work, "new", b"2\n")
     cases = [["status"], ["log"], ["run"], ["run", "--hook-stage=manual"], ["commit", "-m", "second"], ["add", "new"], ["add", "new", "nowhere"], ["cat", "b"], ["check"],
@@ -170,14 +170,14 @@ def unread(work, *words):
 
 
 def ends_where_nobody_reads_its_output(folder):
-    """As behind `| head -1`: no signal ends it, it says so in one line, and what it did stands. The lock is free then."""
+    """In a pipe to `head -1` no signal ends it, it says so in one line, and what it did is kept. The lock is free then."""
     untaken, unwritten = "hookhost: standard output was not taken\n", "hookhost: refused: 3 Write\n"
     work = configured(new(folder, "work"))
     write(work, "large", os.urandom(100_000))
     do(work, "add", "large")
     before = stored(work)
     for words, text in (("cat large", untaken), ("log", ""), ("status", "")):
-        # What a pipe has room for it takes, whoever reads it.
+        # A pipe takes what it has room for, even if nobody reads it.
         done = subprocess.run(["bash", "-c", f"'{PROGRAM}' {words} | head -c 1; echo ${{PIPESTATUS[0]}}"], cwd=work, stdin=subprocess.DEVNULL, capture_output=True, timeout=60)
         check((done.stderr.decode(), done.stdout[1:]) == (text, b"3\n" if text else b"0\n"), f"{words!r} ends with {done.stdout!r} and says {done.stderr!r}")
     for words, said in ((["cat", "large"], untaken), (["status"], untaken), (["log"], untaken), (["show", "1"], untaken), (["memory"], untaken), (["run", "--all-files"], untaken),
@@ -194,7 +194,7 @@ def ends_where_nobody_reads_its_output(folder):
 # ---- modes and names
 
 def makes_files_of_the_modes_that_the_mask_says(folder):
-    """Each file and folder that the program makes, while a hook runs and behind it. Who may read an executable file may run it."""
+    """Each file and folder that the program makes, while a hook runs and after it. Who may read an executable file may run it."""
     held = b"repos:\n- repo: local\n  hooks:\n  - {id: s, name: S, language: script, entry: see.sh, pass_filenames: false}\n"
     script = b"cd $TOP && find .hookhost -printf '%m %y .%P\\n' | LC_ALL=C sort -k3 > $TOP/seen\n"
     for mask, plain, open_folder in ((0o022, "644", "755"), (0o077, "600", "700")):
@@ -207,7 +207,7 @@ def makes_files_of_the_modes_that_the_mask_says(folder):
             check((done := run(work, *words, **how))[0] == 0, f"{words!r} says {done!r}")
         scratch = [("f", f"scratch/{path}") for path in (CONFIGURATION, "dir/sub/a", "see.sh")] + [("d", f"scratch/{path}".rstrip("/")) for path in ("", ".git", "dir", "dir/sub")]
         left = [("d", ""), ("f", "lock"), ("f", "store.db"), ("f", "store.db-wal"), *scratch]
-        # The log has the mode of the store's file, and the mark of a run is nobody else's.
+        # The log has the mode of the store's file, and the mark of a run is only its owner's.
         while_it_runs = [*left, ("f", "scratch.run")]
         for found, wanted in ((Path(work, "seen").read_text(), while_it_runs), (listed(work), left)):
             lines = sorted((f"{open_folder if kind == 'd' or path == 'scratch/see.sh' else plain} {kind} .{path}" for kind, path in wanted), key=lambda line: line.split(" ", 2)[2])
@@ -229,7 +229,7 @@ def locked(work):
 
 
 def tells_of_the_store_before_it_looks_at_the_lock(folder):
-    """What stands at the store's name is looked at first, though another process has the lock."""
+    """What is at the store's name is looked at first, though another process has the lock."""
     program, user = owned_by_nobody(folder)
     work = configured(new(folder, "work"))
     os.chmod(work, 0o777)
@@ -287,7 +287,7 @@ def holds_change(log):
 
 
 def leaves_what_was_shown_in_the_file_alone(folder):
-    """A command is killed behind each of its waits for the disk. What one that only reads shows then, of before it or of after, stands in
+    """A command is killed after each of its waits for the disk. What one that only reads shows then, from before it or after it, is in
     the file of the store, which alone is the repository."""
     work, helper = configured(new(folder, "work")), helper_in(folder)
     write(work, "new", b"2\n" * 5000)
@@ -342,11 +342,11 @@ def limited(most):
 
 
 def refuses_to_write_past_the_limit_of_the_process(folder):
-    """A command is done, or refused in words and without a trace, however long its files may get."""
+    """A command is done, or refused in words and without a trace, for any limit of its files' length."""
     work = configured(new(folder, "work"))
     write(work, "large", os.urandom(60_000))
     ends = []
-    # What hooks see is laid in files too, the configuration as the longest.
+    # What hooks see is written to files too, the configuration as the longest.
     for words, least in ((["add", "large"], 0), (["rm", "a"], 0), (["forget"], 0), (["commit", "--no-verify", "-m", "x"], 0), (["run", "--hook-stage=manual"], len(HOOKS))):
         done, before = copy_of(work, "done"), shown(work)
         run(done, *words)

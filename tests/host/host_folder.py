@@ -1,4 +1,4 @@
-"""Cases of tests/host/host.py: what a change leaves in the folder, where the disk is full, or nobody takes what it says."""
+"""Cases of tests/host/host.py: what a change leaves in the folder if the disk is full, or nobody takes its output."""
 import os
 import subprocess
 
@@ -8,8 +8,8 @@ from host_state import HOOKS, shown, shown_alone
 
 
 def leaves_nothing_of_an_init_that_fails(folder):
-    """An init whose files may have only so many bytes, as on a full disk, makes a store or leaves the folder as it was, also
-    where what a killed one left lies in it."""
+    """An init whose files may have only so many bytes, as on a full disk, makes a store or leaves the folder as it was. This holds also
+    if the folder has what a killed init left."""
     ends = []
     for at, most in enumerate((0, 1, 100, 4096, 10_000, 40_000, 60_000, 100_000, 200_000)):
         work = os.path.join(folder, str(at))
@@ -30,8 +30,8 @@ def leaves_nothing_of_an_init_that_fails(folder):
 
 
 def keeps_a_change_whose_text_was_not_taken(folder):
-    """With a full standard output each command ends as it would, or with 3 where it has something to say, and what it did
-    stands in the file of the store alone."""
+    """With a full standard output each command ends as it would, or with 3 if it has something to print. What it did is in the file of
+    the store alone."""
     do(folder, "init")
     hooks = HOOKS.replace(b"stages: [manual]", b"stages: [manual], files: '^.$'")
     for name, held in (("a", b"x"), ("b", b"x"), ("c", b"x"), (".pre-commit-config.yaml", hooks)):

@@ -1,4 +1,4 @@
-"""Cases of tests/host/host.py: commands that are killed at random moments, each on a copy of a repository, which then is the
+"""Cases of tests/host/host.py: commands that are killed at random moments, each on a copy of a repository. After it the repository is the
 one before the command or the one after it."""
 import os
 import random
@@ -36,8 +36,8 @@ class Killed:
         return shutil.copytree(self.base, self.work)
 
     def play(self, words, given, seconds):
-        """Plays a command on a copy, and kills it after so many seconds. Answers the copy, whether the command ended by
-        itself, with 0 or where a hook failed with 1, and what it printed."""
+        """Plays a command on a copy, and kills it after so many seconds. Answers the copy, whether the command ended by itself, and what
+        it printed. If it does, its exit status is 0, or 1 if a hook failed."""
         work = self.copy()
         child = subprocess.Popen(words, cwd=work, stdin=subprocess.PIPE, stdout=subprocess.PIPE, stderr=subprocess.PIPE)
         try:
@@ -54,7 +54,7 @@ class Killed:
         return time.monotonic() - start
 
     def each(self, words, given=b"", kills=KILLS):
-        """The answers of `play` for each kill, up to the time that the command takes: the least of three, so that a busy
+        """The answers of `play` for each kill, up to the time that the command takes. That is the least of three times, so that a busy
         moment doesn't put all kills after its end."""
         whole, in_time = min(self.seconds(words, given) for _ in range(3)), 0
         for _ in range(kills):
@@ -67,7 +67,7 @@ class Killed:
 
 def check_kills(killed, words, wanted, look=lambda work: None):
     """A command that changes the repository and ends with the wanted status leaves it, killed, as it was before or after.
-    What a command shows then, which only reads, stands in the store's file alone. Then this looks at the folder."""
+    What a command shows then, which only reads, is in the store's file alone. Then this looks at the folder."""
     before = state(killed.copy())
     work = killed.copy()
     status, _, err = run(work, *words)
@@ -109,7 +109,7 @@ def is_left_whole_by_kills_of_add_rm_and_accept(folder):
 
 
 def is_left_whole_by_kills_of_many_files_at_once(folder):
-    """All of them, or none, wherever the kill comes."""
+    """All of them, or none, at any moment of the kill."""
     base, chance = filled(folder), random.Random(5)
     for at in range(300):
         write(os.path.join(base, "many", str(at % 10)), f"{at:03}", chance.randbytes(2000))
@@ -122,7 +122,7 @@ def is_left_whole_by_kills_of_many_files_at_once(folder):
 
 
 def is_left_whole_by_kills_of_commits(folder):
-    """Of commits in a play that is killed those stand that were answered, and perhaps one more, each with all its files."""
+    """In a play that is killed, the commits that were answered are kept, and perhaps one more, each with all its files."""
     count = 20
     given = "open\n" + "".join(f"stage plain x{at:02} {at}\ncommit m{at}\\n\n" for at in range(1, count + 1))
     for work, _, out in Killed(folder, filled(folder)).each([STORE_TRIAL, STORE], given.encode()):
@@ -155,7 +155,7 @@ def is_left_whole_by_kills_of_runs_and_commits(folder):
 
 
 def is_left_whole_by_kills_of_forget(folder):
-    """After a kill all answers are remembered, or none as soon as anything was printed, and the repository is as it was."""
+    """After a kill all answers are cached, or none as soon as anything was printed, and the repository is as it was."""
     base = filled(folder)
     write(base, ".pre-commit-config.yaml", HOOKS)
     do(base, "add", ".pre-commit-config.yaml")
@@ -170,7 +170,7 @@ def is_left_whole_by_kills_of_forget(folder):
 
 
 def is_left_whole_by_kills_of_a_limit(folder):
-    """After a kill as many answers are remembered as before, or as the limit leaves, the last ones, and then it is set
+    """After a kill as many answers are cached as before, or as the limit leaves. Those are the last ones, and then the limit is set
     too."""
     base = os.path.join(folder, "base")
     os.mkdir(base)

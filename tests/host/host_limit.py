@@ -1,5 +1,5 @@
-"""Cases of tests/host/host.py: a limit to how many answers are remembered. Which of them are is told by sqlite3, from the
-front on, beside the model of tests/shared/list_book.py.
+"""Cases of tests/host/host.py: a limit of the cached results. sqlite3 shows which results are kept, from the front on. The model of
+tests/shared/list_book.py says which have to be.
 """
 import os
 import re
@@ -24,13 +24,13 @@ LETTERS = "abc"
 
 
 def answer_of(letter):
-    """What is remembered of the child of a file."""
+    """What is cached of the child of a file."""
     words = [b"sh", b"-c", b"echo $1 >> ../../started", b"--", f"{letter}.txt".encode()]
     return KeptAnswer(words, [(f"{letter}.txt", 0, letter.encode() * 3)], [], 0)
 
 
 class Limited:
-    """A repository of files of which each has a child, and the model of what it remembers."""
+    """A repository of files of which each has a child, and the model of its cached results."""
 
     def __init__(self, folder, letters=LETTERS):
         self.folder, self.letters, self.book, self.known = folder, letters, ListBook(), {}
@@ -43,7 +43,7 @@ class Limited:
         self.check_book()
 
     def check_book(self):
-        """That sqlite3 finds the book of the model, and that `memory` counts it."""
+        """Checks that sqlite3 finds the book of the model, and that `memory` counts it."""
         found = book_in(self.folder)
         found = Book(found.limit, [self.known.get(key, "?") for key in found.keys])
         check(found == book_of(self.book), f"what is remembered is {found!r}, wanted {book_of(self.book)!r}")
@@ -82,8 +82,8 @@ class Limited:
 
 
 def remembers_the_answers_that_were_used_last(folder):
-    """Of three answers two are kept, so that a run of three files finds none of its own; those of single files are
-    used, and the one that was used last stays longest."""
+    """Of three answers two are kept, so that a run of three files finds none of its own. Those of single files are used, and the one that
+    was used last stays longest."""
     limited = Limited(folder)
     limited.limit(2)
     starts = [limited.run(letters) for letters in ("abc", "abc", "c", "b", "a", "c", "a", "abc")]
@@ -161,7 +161,7 @@ def refuses_what_is_no_limit(folder):
 
 
 def query_of_the_reference():
-    """The SQL by which docs/REFERENCE.md finds the keys of the remembered answers."""
+    """The SQL by which docs/REFERENCE.md finds the keys of the cached answers."""
     with open(os.path.join(TOP, "docs", "REFERENCE.md"), encoding="utf-8") as file:
         found = re.findall(r"^sqlite3 [.]hookhost/store[.]db '(SELECT hex\(words\).*)'$", file.read(), re.MULTILINE)
     check(len(found) == 1, f"the reference has the queries {found!r}")
@@ -185,7 +185,7 @@ def ticks_in(folder, known):
 
 
 def used(ticks, letter):
-    """The numbers once an answer is used, or put where there is none. The one in front keeps its own."""
+    """The numbers once an answer is used, or put if there is none. The one in front keeps its own."""
     if ticks and max(ticks, key=ticks.get) == letter:
         return ticks
     if max(ticks.values(), default=0) == GREATEST_TICK:
@@ -194,7 +194,7 @@ def used(ticks, letter):
 
 
 def renumbers_uses_where_no_greater_number_is_left(folder):
-    """Each use has a number that is one greater than all. Where that would pass the greatest, the others are first
+    """Each use has a number that is one greater than all. If that would pass the greatest, the others are first
     numbered from 1 on."""
     limited, ticks = Limited(folder, "abcd"), {}
     runs = [(None, "abc"), (0, "c"), (0, "a"), (0, "d"), (1, "bc"), (2, "abcd"), (None, "da"), (3, "dcba"), (0, "abcd")]
@@ -208,7 +208,7 @@ def renumbers_uses_where_no_greater_number_is_left(folder):
             ticks = used(ticks, letter)
         found = ticks_in(folder, limited.known)
         check(found == ticks, f"behind a run of {letters!r} the uses have the numbers {found!r}, wanted {ticks!r}")
-    # So it is where the last answer goes.
+    # The same if the last answer is dropped.
     limited.limit(2)
     rows(folder, f"UPDATE uses SET tick = tick + {GREATEST_TICK - max(ticks_in(folder, limited.known).values())}")
     starts = [limited.run(letters) for letters in ("a", "b", "abcd")]
@@ -216,12 +216,12 @@ def renumbers_uses_where_no_greater_number_is_left(folder):
 
 
 def keeps_one_limit_of_programs_at_once(folder):
-    """Beside one another programs set limits, run hooks, forget and look. Each is done alone, and refused while another is."""
+    """Programs set limits, run hooks, forget and look at the same time. Each is done alone, and refused while another is."""
     limited = Limited(folder, "abcdefgh")
     numbers, refused = (1, 2, 3, 5), (3, b"", f"hookhost: cannot use {LOCK}\n".encode())
 
     def work(at):
-        """How often one of them is refused, each of whose commands is asked for until it is done."""
+        """How often one of them is refused. Each of their commands is repeated until it is done."""
         count = 0
         for step in range(7):
             path = f"{limited.letters[(at + step) % 8]}.txt"

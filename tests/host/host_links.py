@@ -4,7 +4,7 @@ import os
 from host_program import check, do, paths_in, run, write
 
 VARIABLE = "HOOKHOST_LINKS"
-# What a hook's command says of the folder that it runs in, and what stands behind the links.
+# What a hook's command says of the folder that it runs in, and what the links lead to.
 SHOWN = "find . -mindepth 1 -maxdepth 1 ! -name .git -printf '%f %y\\n' | LC_ALL=C sort"
 
 
@@ -13,7 +13,7 @@ def hook(entry, name="h"):
 
 
 def lay(folder, *entries, staged=()):
-    """A repository with a hook for each entry, and beside it `.venv` and `node_modules`, of which nothing is staged."""
+    """A repository with a hook for each entry, and next to it `.venv` and `node_modules`, of which nothing is staged."""
     do(folder, "init")
     write(folder, ".pre-commit-config.yaml", ("repos:\n- repo: local\n  hooks:\n" + "".join(hook(entry, f"h{at}") for at, entry in enumerate(entries))).encode())
     write(folder, "a.txt", b"1\n")
@@ -52,7 +52,7 @@ def finds_what_is_installed(folder):
 
 
 def keeps_what_the_tree_has(folder):
-    """A name that the tree has isn't linked, be it that of a file or of a folder, and one that is nowhere neither."""
+    """A name of a file or a folder of the tree isn't linked, and neither is one that is nowhere."""
     lay(folder, "sh hook.sh; cat .venv node_modules/mine; ls node_modules")
     os.rename(os.path.join(folder, ".venv"), os.path.join(folder, "installed"))
     write(folder, ".venv", b"staged\n")
@@ -73,7 +73,7 @@ def keeps_what_the_tree_has(folder):
 
 
 def touches_nothing_behind_a_link(folder):
-    """Whatever a child puts in a link's place, the next one finds the link, and what it leads to stays as it was."""
+    """After anything that a child puts in a link's place, the next one finds the link. What it leads to stays as it was."""
     lay(folder, "sh hook.sh")
     before = [path for path in paths_in(folder) if path.startswith((".venv", "node_modules"))]
     elsewhere = os.path.join(folder, "elsewhere")

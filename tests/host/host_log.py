@@ -36,8 +36,7 @@ def waits_for_the_disk_only_where_something_is_written(folder):
     write(folder, "b", b"2")
     counts = [waits_for(folder, helper, *words) for words in (["add", "a"], ["add", "b"], ["status"], ["cat", "a"], ["rm", "b"], ["log"], ["fixes"])]
     check(counts == [10, 10, 4, 4, 10, 4, 4], f"the disk is waited for {counts} times")
-    # An answer is put as a change is, and used so, but for the one in front: its run, which leaves no fixes,
-    # writes nothing.
+    # An answer is put as a change is, and used so, except the one in front: its run, which leaves no fixes, writes nothing.
     write(folder, ".pre-commit-config.yaml", THREE_HOOKS)
     do(folder, "add", ".pre-commit-config.yaml")
     runs = [("run", "--all-files", *words) for words in ([], [], ["third"], ["first"], ["first"], ["--fresh"])]
@@ -45,7 +44,7 @@ def waits_for_the_disk_only_where_something_is_written(folder):
     check(counts == [14, 14, 4, 10, 4, 18], f"the disk is waited for {counts} times by runs of hooks")
     counts = [waits_for(folder, helper, *words) for words in (["memory"], ["memory", "--limit=2"], ["forget"])]
     check(counts == [4, 10, 10], f"the disk is waited for {counts} times by what changes the answers alone")
-    # Without the log a command makes it, and one that reads takes it away again.
+    # Without the log a command makes it, and one that reads removes it again.
     os.remove(os.path.join(folder, STORE + "-wal"))
     counts = [waits_for(folder, helper, *words) for words in (["status"], ["rm", "a"], ["status"])]
     check(counts == [10, 16, 4], f"the disk is waited for {counts} times, at first without a log")
@@ -57,8 +56,8 @@ def log_of(folder):
 
 
 def takes_a_store_with_pages_of_another_size(folder):
-    """A store that was written out and read in with other pages is taken in place of the one that the log lies beside, be
-    that log as long as a small change made it, or short behind a large one."""
+    """A store that was written out and read in with other pages takes the place of the one next to the log. The log may be as long as a
+    small change made it, or short after a large one."""
     do(folder, "init")
     write(folder, "a", b"1")
     do(folder, "add", "a")
@@ -80,8 +79,8 @@ def takes_a_store_with_pages_of_another_size(folder):
 
 
 def read_in_a_copy(folder, copy, store):
-    """The staged files as sqlite3 reads them in a copy of the folder, which takes its log away; with another file as the
-    database, if one is given."""
+    """The staged files as sqlite3 reads them in a copy of the folder, which removes its log; with another file as the database, if one is
+    given."""
     shutil.rmtree(copy, ignore_errors=True)
     shutil.copytree(os.path.join(folder, ".hookhost"), os.path.join(copy, ".hookhost"))
     if store:
@@ -98,8 +97,8 @@ def read_alone(store, copy):
 
 
 def leaves_a_log_without_a_change(folder):
-    """The log that a change leaves, however long, has nothing that the database lacks, and changes nothing where an older file
-    of the database is put beside it."""
+    """The log that a change leaves, of any length, has nothing that the database lacks. It changes nothing if an older file of the
+    database is put next to it."""
     work, copy = os.path.join(folder, "work"), os.path.join(folder, "copy")
     store, older, newer = os.path.join(work, STORE), os.path.join(folder, "older"), os.path.join(folder, "newer")
     os.mkdir(work)

@@ -66,7 +66,7 @@ def refuses_control_bytes(folder):
 
 
 def tells_a_refused_name_on_one_line(folder):
-    """Of several files the first that is refused is told, with what would end its line in escapes."""
+    """Of several files the first that is refused is reported, with what would end its line in escapes."""
     do(folder, "init")
     write(folder, "a", b"1")
     names = {"a\nb": '"a\\nb"', "a\tb": '"a\\tb"', "\x1b[2J": '"\\033[2J"', "\x7f": '"\\177"', 'a"\\\x07': '"a\\"\\\\\\a"', "é\n": '"é\\n"'}
@@ -82,7 +82,7 @@ def tells_a_refused_name_on_one_line(folder):
 
 
 def stages_no_name_that_is_not_text(folder):
-    """A name that isn't UTF-8 below a folder is told by the folder, and one of a list as a word is."""
+    """A name that isn't UTF-8 below a folder is reported by the folder, and one of a list as a word is."""
     do(folder, "init")
     write(os.path.join(folder, "dir", "sub"), "a", b"1")
     write(os.fsencode(os.path.join(folder, "dir", "sub")), b"\xff", b"1")
@@ -96,7 +96,7 @@ def stages_no_name_that_is_not_text(folder):
 
 
 def explains_beside_names_that_are_not_text(folder):
-    """Why a configuration is refused is told whatever else lies in the folder."""
+    """Why a configuration is refused is reported with any other files in the folder."""
     write(folder, "config.yaml", b"repos: x\n")
     status, out, err = plain = run(folder, "explain", "config.yaml")
     check(status == 1 and out.startswith(b"config.yaml:1: ") and err == b"", f"it says {plain!r}")

@@ -1,5 +1,5 @@
-"""Cases of tests/host/host.py: kills of commands whose hooks put answers or use them. Of those that are put the first ones
-are remembered then, as many as there may be, and those that are used stand in the order in which they were.
+"""Cases of tests/host/host.py: kills of commands whose hooks put answers or use them. After a kill the first ones that were put are
+cached, any number of them, and those that were used are in the order of their use.
 """
 import collections
 import os
@@ -13,10 +13,10 @@ from host_program import PROGRAM, Wrong, check, do, play, refuses, rows, run, wr
 from host_state import HOOKS, book_in, found_first, kept_contents, state, state_of_rows, with_files
 from kept_answers import SELECT_ROWS, KeptAnswer, contents_of, row_of, use_of
 
-# A word beside which a command has room for one name of two letters, so that each of three names is a part of its own.
+# A word that leaves a command room for one name of two letters, so that each of three names is a part of its own.
 LONG = b"c" * (131_072 - len(b'sh -c echo "$2" --  c1'))
-# Hooks that pass, fail, change a file or take one out, with several parts, all files or none; one ends by a signal, and the
-# last is answered by what the first has put.
+# Hooks that pass, fail, change a file or take one out, with several parts, all files or none. One ends by a signal, and the last is
+# answered by what the first has put.
 PUTTING = b"""repos:
 - repo: local
   hooks:
@@ -59,7 +59,7 @@ RUN_ANSWERS = [
 # The answers that a run needs, in the order of its parts: one child ends by a signal, and the last one is that of the
 # first.
 RUN_PARTS = [*RUN_ANSWERS[:-1], None, RUN_ANSWERS[-1], RUN_ANSWERS[0]]
-# The staged files of a commit, and what the children of `HOOKS` answer in it: of the files, of the message twice, and behind it.
+# The staged files of a commit, and what the children of `HOOKS` answer in it: of the files, of the message twice, and after it.
 COMMITTED = [(".pre-commit-config.yaml", 0, HOOKS), ("x", 0, b"x" * 100)]
 WRITE = [b"sh", b"-c", b"echo a line >> $1", b"--", MESSAGE.encode()]
 COMMIT_ANSWERS = [
@@ -71,8 +71,8 @@ COMMIT_ANSWERS = [
 
 
 def remembered(folder, told):
-    """How many answers are remembered, by sqlite3: the first of those that are told, and no others. The last one is in
-    front, but once all are told the first may be used again."""
+    """How many answers are cached, by sqlite3: the first of those that are reported, and no others. The last one is in front, but once
+    all are reported the first may be used again."""
     found, wanted = rows(folder, SELECT_ROWS), [row_of(answer) for answer in told]
     places = [wanted.index(row) if row in wanted else row for row in found]
     check(sorted(found) == sorted(wanted[:len(found)]), f"of {len(told)} answers these are remembered: {places!r}")
@@ -100,8 +100,8 @@ def counted_programs(folder):
 
 
 class Putting:
-    """A command whose hooks put answers, on copies of a folder in which none is remembered, and what it leaves where nothing
-    stops it. Of the answers that are told to it, in their order, so many are put before it changes the repository."""
+    """A command whose hooks put answers, on copies of a folder in which none is cached, and what it leaves if nothing stops it. It is
+    given answers in their order, and puts so many of them before it changes the repository."""
 
     def __init__(self, folder, base, words, told, puts_first):
         self.killed, self.words, self.told, self.puts_first = Killed(folder, base), words, told, puts_first
@@ -114,7 +114,8 @@ class Putting:
         check(self.before != self.after and self.remembered(work) == len(told), f"{words!r} says {self.said!r:.1000}")
 
     def remembered(self, work):
-        """How many answers are remembered, as `memory` says too. Kept are what was before, what they name, and nothing else."""
+        """How many answers are cached, as `memory` says too. Kept are only the contents that were there before and those that the answers
+        name."""
         count, said = remembered(work, self.told), do(work, "memory")
         check(said == b"remembered: %d\n" % count, f"of {count} answers memory says {said!r}")
         named = {each for answer in self.told[:count] for each in contents_of(answer)}
@@ -122,7 +123,7 @@ class Putting:
         return count
 
     def left(self, work, is_ended, out):
-        """How many answers a killed command left, and whether it changed the repository, as it does behind those put first."""
+        """How many answers a killed command left, and whether it changed the repository, as it does after those put first."""
         read_first = found_first(work, lambda copy: (*state_of_rows(copy), remembered(copy, self.told)))
         found, count = state(work), self.remembered(work)
         check(read_first == (*found[1:], count), f"before the program sqlite3 reads something else: {read_first!r:.1000}")
@@ -135,8 +136,8 @@ class Putting:
         return count, is_done
 
     def check_next(self, work, count):
-        """The command behind a killed one starts just the children whose answers aren't there, and says and leaves what one does
-        that nothing stops."""
+        """The command after a killed one starts only the children whose answers aren't there. It prints and leaves what one does that
+        nothing stops."""
         (said, starts), found = started(work, self.words, self.programs), state(work)
         check(said == self.said, f"behind {count} answers it says {said!r:.1000}")
         check(starts == self.starts - count, f"behind {count} answers it starts {starts} children")
@@ -144,8 +145,8 @@ class Putting:
         check(self.remembered(work) == len(self.told), f"behind {count} answers not all are remembered")
 
     def each(self):
-        """For each kill the copy, how many answers it left, and whether the repository was changed. The kills are repeated where
-        none of them came between two answers, as may be where few are asked for."""
+        """For each kill the copy, how many answers it left, and whether the repository was changed. The kills are repeated if none of
+        them came between two answers, which can happen if there are few kills."""
         left = collections.Counter()
         for _ in range(5):
             for work, is_ended, out in self.killed.each([PROGRAM, *self.words]):
@@ -169,7 +170,7 @@ def keeps_what_was_answered_before_a_kill_of_a_run(folder):
 
 
 def keeps_what_was_answered_before_a_kill_of_a_commit(folder):
-    """A killed commit is made or isn't, and leaves the first of the answers, those of hooks behind it only where it's made."""
+    """A killed commit is made or isn't, and leaves the first of the answers. Those of hooks after it are left only if it is made."""
     base = with_files(folder, COMMITTED)
     play(base, ["fix x 2", "set"])
     putting = Putting(folder, base, ["commit", "-m", "text"], COMMIT_ANSWERS, len(COMMIT_ANSWERS) - 1)

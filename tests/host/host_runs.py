@@ -1,7 +1,7 @@
 """Cases of tests/host/host.py: runs of hooks that a signal ends while their child goes on, and runs side by side in one folder.
 
-A child waits until the script or a child of a later run tells it to go on, so each case is the same each time. Whoever it
-outlives, the script ends it.
+A child waits until the script or a child of a later run lets it go on, so each case is the same each time. The script ends the
+children that outlive their run.
 """
 import os
 import shutil
@@ -24,20 +24,20 @@ TOLD = b"""repos:
   - {id: show, name: Show, language: system, entry: "sh -c 'find . | LC_ALL=C sort; cat a b; sed -i s/x/y/ b'", pass_filenames: false, verbose: true}
 """
 WAITS = 'echo $$ > $TOP/pid; until [ -e $TOP/go ]; do sleep 0.01 < /dev/null; done; '
-# What it writes late goes to where it is, and to the folder's full path, which a shell's `cd` takes. What it says of a folder
-# that is gone must not end it: nobody reads that.
+# What it writes late goes to its current folder, and to the folder's full path, which a shell's `cd` takes. A message on a folder that is
+# gone must not end it: nobody reads that.
 LATE = WAITS + '{ rm -f a; echo late > b; echo late > new; mkdir d; cd "$PWD" && rm -f a; echo late > b; echo late > new; } 2> /dev/null; touch $TOP/done\n'
-# As a process does whose standard input is another, so that nobody knows of it.
+# A process does the same whose standard input is another, so that nobody knows of it.
 UNKNOWN = "exec < /dev/null; " + WAITS + '{ rm -f a; echo late > b; echo late > new; mkdir d; } 2> /dev/null; touch $TOP/done\n'
 # Lets the child go on that waits, until it has done what it does late.
 MEETS = 'readlink /proc/$(cat $TOP/pid)/cwd > $TOP/cwd; touch $TOP/go; until [ -e $TOP/done ]; do sleep 0.01; done\n'
-# Each run starts its children, whatever is remembered of those before it.
+# Each run starts its children, with any results of those before it cached.
 RUN, TRY, COMMIT = ["run", "--all-files", "--fresh"], ["try", "told.yaml", "a", "b"], ["commit", "-m", "text"]
 ENDING = [signal.SIGTERM, signal.SIGINT, signal.SIGHUP, signal.SIGKILL]
 
 
 def told(folder, name="work"):
-    """A repository whose first hook does what it is told, and how it is run."""
+    """A repository whose first hook does what the test writes for it, and how it is run."""
     work = os.path.join(folder, name)
     os.mkdir(work)
     do(work, "init")
@@ -49,7 +49,7 @@ def told(folder, name="work"):
 
 
 def tell(work, text):
-    """Tells the first hook what to do from now on. The file is a new one, since a shell may be reading the old one still."""
+    """Writes what the first hook has to do from now on. The file is a new one, since a shell may be reading the old one still."""
     os.remove(os.path.join(work, "hook"))
     write(work, "hook", text.encode())
 
@@ -90,7 +90,7 @@ def outlived(work, words, number, hook=LATE):
 
 
 def end(child):
-    """Ends a child of a program that isn't there any more, and waits for its end."""
+    """Ends a child of a program that is no longer there, and waits for its end."""
     with suppress(FileNotFoundError, ProcessLookupError):
         os.kill(child, signal.SIGKILL)
         while Path(f"/proc/{child}/stat").read_text().rsplit(") ", 1)[1][0] not in "ZX":
@@ -98,12 +98,13 @@ def end(child):
 
 
 def scratch_names(work):
-    """What lies in the repository's folder beside its own files."""
+    """What is in the repository's folder apart from its own files."""
     return sorted(set(os.listdir(os.path.join(work, ".hookhost"))) - {os.path.basename(name) for name in (STORE, STORE + "-wal", LOCK)})
 
 
 def says(work, words, wanted, text, left=None):
-    """That a run of the hooks prints this, and what it leaves: without more said a run its folder, and a try nothing."""
+    """Checks that a run of the hooks prints this, and what it leaves. Unless stated otherwise, a run leaves its folder, and a try
+    nothing."""
     done = run(work, *words, env=top(work))
     left = left if left is not None else [] if words == TRY else ["scratch"]
     check(done == (wanted[0], wanted[1], b""), f"{text}: {words!r} says {done!r}, wanted {wanted!r}")
@@ -111,7 +112,7 @@ def says(work, words, wanted, text, left=None):
 
 
 def undisturbed(folder):
-    """What `run` and `try` of such a repository say."""
+    """What `run` and `try` of such a repository print."""
     work = told(folder, "undisturbed")
     wanted = {}
     for words in (RUN, TRY):
@@ -121,8 +122,8 @@ def undisturbed(folder):
 
 
 def tells_nothing_of_a_child_that_outlived_its_run(folder):
-    """After a signal to the program alone the next run's verdict, fixes and accepted files are those of its own children, and
-    the folder is gone in which the old one is at work. The one behind it takes the last of that away."""
+    """After a signal to the program alone the next run's verdict, fixes and accepted files are those of its own children. The folder is
+    gone in which the old one is at work. The run after it removes the last of that."""
     wanted = undisturbed(folder)
     for number in ENDING:
         for words, later, hook, left in ((RUN, RUN, LATE, [MARK]), (COMMIT, RUN, LATE, [MARK]), (TRY, RUN, UNKNOWN, ["scratch"]), (RUN, TRY, UNKNOWN, []), (TRY, TRY, LATE, [MARK])):
@@ -144,7 +145,7 @@ def tells_nothing_of_a_child_that_outlived_its_run(folder):
 
 
 def outlasts_a_child_that_goes_on_writing(folder):
-    """What outlived its run writes to where it is as fast as it can, while its folder is removed."""
+    """What outlived its run writes to its current folder as fast as it can, while that is removed."""
     wanted, work = undisturbed(folder), told(folder)
     writes = 'i=0; while [ ! -e $TOP/done ]; do i=$((i+1)); mkdir d$i; : > d$i/f; : > f$i; done 2> /dev/null'
     child = outlived(work, RUN, signal.SIGTERM, "exec < /dev/null; " + WAITS + writes)
@@ -171,13 +172,13 @@ def leaves_no_mark_where_it_ended_by_itself(folder):
     check(done.returncode == 3 and scratch_names(work) == ["scratch"], f"a run whose report isn't taken leaves {scratch_names(work)!r}")
 
 
-# Within a hook of a run the program tries the hooks on one file of the run. There is nothing that they are told.
+# Within a hook of a run the program tries the hooks on one file of the run. There the hooks are given nothing.
 TRIES = '(cp $TOP/told.yaml .; cd %s; TOP=$TOP/none "$PROGRAM" try told.yaml b > $TOP/said); rm told.yaml\n'
 
 
 def lets_a_try_have_a_folder_of_its_own(folder):
-    """A `try` within a hook of a run, below the run's folder or where the run's folder is, changes nothing of the run, and has
-    its own files alone."""
+    """A `try` within a hook of a run changes nothing of the run, and has its own files alone. It is started below the run's folder or in
+    the folder that holds it."""
     wanted, work = undisturbed(folder), told(folder)
     for place in (".", "../.."):
         tell(work, TRIES % place)
@@ -187,7 +188,7 @@ def lets_a_try_have_a_folder_of_its_own(folder):
 
 
 def lets_runs_go_side_by_side(folder):
-    """A run, and beside it tries, of which some are killed. The next run takes away what they left."""
+    """A run, and tries at the same time, of which some are killed. The next run removes what they left."""
     wanted, work = undisturbed(folder), told(folder)
     program, child = begun(work, RUN, WAITS)
     late = []
@@ -216,7 +217,7 @@ def lets_runs_go_side_by_side(folder):
 
 
 def touches_nothing_outside_its_folder(folder):
-    """What stands where the mark and the folders are to be is refused, or taken away itself, and no link is followed."""
+    """What is in the place of the mark and the folders is refused, or removed itself, and no link is followed."""
     wanted, outside = undisturbed(folder), os.path.join(folder, "outside")
     write(outside, "kept", b"kept\n")
     kinds = {"folder": os.mkdir, "fifo": os.mkfifo, "link": lambda path: os.symlink(outside, path), "link to a file": lambda path: os.symlink(os.path.join(outside, "kept"), path),

@@ -41,7 +41,7 @@ def shown_alone(folder):
 
 
 def state(folder):
-    """All that a repository shows, to the program and then to sqlite3. Of many files the program prints some alone, of one in so many."""
+    """All that a repository shows, to the program and then to sqlite3. Of many files the program prints only some, one in so many."""
     shown_first = shown(folder)
     files, *others = state_of_rows(folder)
     for path, (_, held) in list(files.items())[::max(1, len(files) // MOST_PRINTED)]:
@@ -92,7 +92,7 @@ def found_first(work, look):
 
 
 def kept_contents(folder):
-    """All contents that sqlite3 finds, each of which has to stand under its digest."""
+    """All contents that sqlite3 finds, each of which has to be under its digest."""
     found = [line.split("|") for line in rows(folder, "SELECT lower(hex(digest)), hex(bytes) FROM blobs")]
     kept = {bytes.fromhex(held): named for named, held in found}
     check(all(digest(held).hex() == named for held, named in kept.items()), "contents stand under another digest")

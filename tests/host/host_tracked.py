@@ -1,4 +1,4 @@
-"""Cases of tests/host/host.py: a store that Git tracks came with a checkout, so nothing that it remembers is used."""
+"""Cases of tests/host/host.py: a store that Git tracks came with a checkout, so none of its cached results is used."""
 import os
 import re
 import shutil
@@ -25,7 +25,7 @@ def lay(folder, held):
 
 
 def cached(folder, **how):
-    """How many results of a run came from the cache, and what it says on standard error but how long hooks took."""
+    """How many results of a run came from the cache, and its standard error without the durations of hooks."""
     status, out, err = run(folder, "run", "--all-files", "--verbose", **how)
     check(status in (0, 1), f"a run is answered {(status, out, err)!r}")
     return int(out.rpartition(b"answered from the cache: ")[2].split()[0]), re.sub(rb"(?m)^duration: \S+ [0-9]+\.[0-9]{2}s\n", b"", err)

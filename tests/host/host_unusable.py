@@ -35,7 +35,7 @@ def refuses_what_may_not_be_read_or_written(folder):
 
 
 def refuses_fifos_and_waits_for_none(folder):
-    """To open a fifo waits for its other end, so a program that does would never end."""
+    """Opening a fifo waits for its other end, so a program that does would never end."""
     for at, (path, named) in enumerate(((".hookhost", STORE), (STORE, STORE), (LOCK, LOCK))):
         work = os.path.join(folder, str(at))
         os.mkdir(work)

@@ -18,8 +18,7 @@ from version_1 import stores
 VERSION = "SELECT name, value FROM meta ORDER BY name; SELECT name FROM sqlite_schema WHERE name = 'uses'"
 # The most answers that are taken over.
 MOST_TAKEN_OVER = 10_000
-# Commands that open the store `fixes`, with the exit status of each and the limit that it leaves: look-ups, changes,
-# and such as are
+# Commands that open the store `fixes`, with the exit status of each and the limit that it leaves: look-ups, changes, and those that are
 # refused once the store is open.
 OPENING = [
     (["status"], 0), (["fixes"], 0), (["log"], 0), (["memory"], 0), (["show", "1"], 0), (["cat", "m/x"], 0),
@@ -30,7 +29,7 @@ OPENING = [
     (["commit", "--no-verify", "-m", "text"], 3), (["rm", "nowhere"], 3), (["run", "nope"], 3),
     (["run-files", "nowhere"], 3), (["rm", "a//b"], 3),
 ]
-# Commands that don't, beside an init that is refused.
+# Commands that don't, apart from an init that is refused.
 CLOSED = [
     (["init"], 3), (["--version"], 0), (["memory", "--help"], 2), (["memory", "--limit=0"], 2), (["status", "x"], 2),
     (["add", "nowhere"], 3), (["check"], 3), (["explain"], 3), (["try", "nowhere", "new"], 3),
@@ -62,7 +61,7 @@ def laid(name, folder, at):
 
 
 def opens_each_store_of_version_1(folder):
-    """Each has the rows that were put, shows what its program showed, and answers hooks without a command of theirs."""
+    """Each has the rows that were put, shows what its program showed, and answers hooks without starting their commands."""
     check(len(stores.names()) == 7, f"the stores are {stores.names()!r}")
     for name in stores.names():
         work, wanted = os.path.join(folder, name), stores.text_of(name)
@@ -87,8 +86,7 @@ def takes_each_store_over_as_it_is(folder):
 
 
 def is_taken_over_by_each_command(folder):
-    """Whatever the command is, what was remembered is remembered then; and where it doesn't open the store, that is
-    left as it is."""
+    """After any command the results that were cached are still cached. If it doesn't open the store, that is left as it is."""
     for at, (words, status) in enumerate(OPENING):
         work = laid("fixes", folder, at)
         before, keys = rows_of(work)
@@ -115,14 +113,14 @@ def is_taken_over_by_each_command(folder):
 # ---- larger ones
 
 def answers_of(count):
-    """So many answers, the first of which are those of commands on one file."""
+    """This many answers, the first of which are those of commands on one file."""
     seen = [[("a", at % 2, b"version %d\n" % at)] for at in range(100)]
     return [KeptAnswer([b"tool", b"%d" % at, b"a"], seen[at % 100], [], at % 256, b"said %d\n" % (at % 10))
             for at in range(count)]
 
 
 def planted(folder, name, answers):
-    """A repository of version 1 that remembers these answers."""
+    """A repository of version 1 with these cached results."""
     work = os.path.join(folder, name)
     os.mkdir(work)
     do(work, "init")
@@ -142,7 +140,7 @@ def taken_over(answers):
 
 
 def takes_over_as_many_answers_as_a_new_store_remembers(folder):
-    """Of one more than these the one goes whose key is the least."""
+    """Of one more than these, the one whose key is the least is dropped."""
     for count in (MOST_TAKEN_OVER, MOST_TAKEN_OVER + 1):
         answers = answers_of(count)
         work = planted(folder, str(count), answers)

@@ -1,10 +1,10 @@
 #!/usr/bin/env python3
-"""Plays the built program on a pseudo terminal: what standard error shows while a child runs, and what is left of it.
+"""Checks the built program on a pseudo terminal: what standard error shows while a child runs, and what is left of it.
 
 Usage: tests/host/terminal.py [PROGRAM]   (default: crates/hookhost/out/hookhost)
 
-The terminal here is a screen that keeps to ECMA-48 and to what xterm does at the right margin. Each line that is shown is
-compared as it stands there, and the screen as it is left. How wide a character is Python's unicodedata says.
+The terminal here is a screen that follows ECMA-48, and xterm at the right margin. Each line that is shown is compared as it is on the
+screen, and so is the screen at the end. The width of a character is that of Python's unicodedata.
 """
 import fcntl
 import os
@@ -25,7 +25,7 @@ from places import TOP, program
 
 PROGRAM = os.path.abspath(sys.argv[1] if len(sys.argv) > 1 else program("hookhost"))
 LIMIT = 60
-# What is said on a terminal behind a run that left fixes.
+# What is said on a terminal after a run that left fixes.
 FIXES = "hint: hookhost fixes lists what hooks changed, hookhost accept stages it"
 NO_FIXES = "hint: there are no fixes: hookhost run makes them, where a hook changes files"
 
@@ -59,7 +59,7 @@ class Screen:
         self.wraps, self.pending = True, False
         # The row of the cursor whenever wrapping was turned on again: the lines that were shown.
         self.shown = []
-        # Each color with the text that has it, and the color of what comes next, with the cell where it begins.
+        # Each color with the text that has it, and the color of what comes next, with the cell at which it begins.
         self.colors, self.color = [], None
         self.left = b""
 
@@ -198,7 +198,7 @@ def line(name, word):
 
 
 def shows(hooks, files, shown, status=0, left=(), **how):
-    """The lines that are shown are these, and of what stands on the screen only these lines are left."""
+    """The lines that are shown are these, and of what is on the screen only these lines are left."""
     folder, words = folder_of(hooks, files)
     played = Played(folder, words, **how)
     equal(played.wait(), status, "the exit status")
@@ -349,7 +349,7 @@ def waits_for(name):
 
 
 def the_report_comes_as_hooks_end():
-    """What it says of a hook stands on the screen before the next one ends, in colors, and in the end the screen has the report alone."""
+    """What it says of a hook is on the screen before the next one ends, in colors, and in the end the screen has the report alone."""
     fails = hook("sh -c 'echo said; exit 3'", "B")
     for number, (words, stages) in enumerate([(["try", "c.yaml", "a.txt"], ""), (["run"], ""), (["commit", "-m", "first"], "[pre-commit, commit-msg]")]):
         hooks = [hook("true", "A"), hook("no", "F", files="none").replace("system", "fail"), fails, hook(waits_for(f"end-{number}"), "C", pass_filenames="false", always_run="true"), hook("true again", "D")]
@@ -370,7 +370,7 @@ def the_report_comes_as_hooks_end():
 
 
 def the_report_comes_in_git_hooks():
-    """By a variable it is shown on standard error too, and what is shown there is noted in a file; standard output has all of it."""
+    """With a variable it is shown on standard error too, and what is shown there is noted in a file. Standard output has all of it."""
     folder, words = folder_of([hook("true", "A"), hook(waits_for("go-on"), "B", pass_filenames="false"), hook("true", "C")], ["a.txt"])
     noted = Path(BASE, "noted")
     noted.write_text("")
@@ -392,7 +392,7 @@ def the_report_comes_in_git_hooks():
 
 
 def a_verbose_run_tells_durations():
-    """Of each hook whose commands were started, on standard error, once it has ended; of no other."""
+    """The duration of each hook whose commands were started is printed on standard error, once it has ended. No other hook has one."""
     folder, _ = folder_of([hook("sleep 0.3", "A", pass_filenames="false"), hook("no", "F", files="none"), hook("sh -c 'exit 2'", "B"), hook("true", "C")], ["a.txt"])
     os.rename(Path(folder, "c.yaml"), Path(folder, ".pre-commit-config.yaml"))
     for setting in (["init"], ["add", "."]):
@@ -436,7 +436,7 @@ def nothing_is_shown_without_a_terminal():
 
 
 def a_report_is_colored_where_a_terminal_shows_it():
-    """By how each hook ended, in the colors of pre-commit, and nothing else is."""
+    """The verdicts are colored by how each hook ended, in the colors of pre-commit. No other text is."""
     hooks = [hook("true", "A"), hook("sh -c 'echo x.Passed.; echo Failed; exit 3'", "B"), hook("true", "C", files="none"), hook("true", "D")]
     folder, words = folder_of(hooks, ["a.txt"])
     colors = [("42", "Passed"), ("41", "Failed"), ("46;30", "Skipped")]
@@ -490,7 +490,7 @@ def a_terminal_that_goes_away_changes_nothing():
 
 
 def a_hint_says_what_to_do_next():
-    """Behind what refuses or stops a command, and behind a run that left fixes; without a terminal there is none."""
+    """It follows what refuses or stops a command, and a run that left fixes. Without a terminal there is none."""
     folder, _ = folder_of([hook("sed -i s/x/y/", "A", files="^a", stages="[pre-commit]")], ["a.txt"])
     os.rename(Path(folder, "c.yaml"), Path(folder, ".pre-commit-config.yaml"))
     steps = [
@@ -515,7 +515,7 @@ def a_hint_says_what_to_do_next():
 
 
 def a_hint_says_what_is_waited_for():
-    """Without words, where standard input is a terminal too. The byte 4 ends the input."""
+    """It is shown without words, if standard input is a terminal too. The byte 4 ends the input."""
     folder, _ = folder_of([hook("true")], ["a.txt"])
     played = Played(folder, [], in_too=True)
     while played.screen.text(0) != "hint: a configuration is read from standard input: hookhost --help says more":
@@ -543,7 +543,8 @@ def a_hint_names_the_folder_of_the_repository():
 
 
 def a_hint_says_where_a_configuration_is_explained():
-    """Where one is refused; that of a repository by what is staged, which may be another than the folder's."""
+    """It is shown if a configuration is refused. For that of a repository it goes by what is staged, which may differ from the file in
+    the folder."""
     folder, _ = folder_of([hook("true", stages="[pre-commit]")], ["a.txt"])
     bad = Path(folder, "c.yaml").read_text().replace("language: system", "language: python")
     no_config = ["hookhost: refused: 7 NoConfig", "hint: write .pre-commit-config.yaml, then hookhost add .pre-commit-config.yaml"]
@@ -570,7 +571,7 @@ def a_hint_says_where_a_configuration_is_explained():
 
 
 def no_hint_is_given_in_git_hooks():
-    """There what comes next is said by the script, in the words of Git."""
+    """There the script prints what comes next, in the words of Git."""
     folder, _ = folder_of([hook("sed -i s/x/y/", "A", files="^a", stages="[pre-commit]")], ["a.txt"])
     steps = [(["status"], 3, ["hookhost: cannot use .hookhost/store.db"]), (["init"], 0, []), (["run"], 3, ["hookhost: refused: 7 NoConfig"]),
              (["add", "."], 0, []), (["run"], 1, []), (["accept"], 0, []), (["accept"], 3, ["hookhost: refused: 11 NoFixes"])]
@@ -580,7 +581,8 @@ def no_hint_is_given_in_git_hooks():
 
 
 def a_hint_says_that_a_fix_is_undone():
-    """Where other bytes are staged than the fix of that path has, and where they are staged; of several paths the first is told."""
+    """It is shown if other bytes are staged than the fix of that path has, and only once they are staged. Of several paths the first is
+    reported."""
     folder, _ = folder_of([hook("sed -i s/x/y/", "A", files="^[am]", stages="[pre-commit]")], ["a.txt", "my file.txt", "other.txt"])
     os.rename(Path(folder, "c.yaml"), Path(folder, ".pre-commit-config.yaml"))
     told = "hint: this undoes the fix of {0}: to take it over, hookhost run, then hookhost cat --fixed {1} > {1}"
@@ -607,7 +609,7 @@ def a_hint_says_that_a_fix_is_undone():
 
 
 def what_is_in_the_way_of_files_is_told():
-    """Behind the report, and of a run the first alone; without a terminal too."""
+    """The line comes after the report, and only the first of a run is printed; without a terminal too."""
     spoils = "sh -c 'rm -- \"$1\"; mkdir -- \"$1\"' --"
     folder, words = folder_of([hook("true", "A"), hook(spoils, "B", files="^a"), hook(spoils, "C", files="^b")], ["a.txt", 'b".txt'])
     shutil.copy(Path(folder, "c.yaml"), Path(folder, ".pre-commit-config.yaml"))
@@ -625,7 +627,7 @@ def what_is_in_the_way_of_files_is_told():
 
 
 def what_cannot_be_started_is_told():
-    """Behind the report, and of a run the first alone."""
+    """The line comes after the report, and only the first of a run is printed."""
     folder, words = folder_of([hook("true", "A"), hook("nowhere", "B", files="^a"), hook("./b.txt/no-where", "C", files="^b")], ["a.txt", "b.txt"])
     line_of_b, line_of_c = "hookhost: cannot start nowhere: No such file or directory (os error 2)", "hookhost: cannot start ./b.txt/no-where: Not a directory (os error 20)"
     says(folder, words, 1, [line_of_b])
@@ -667,12 +669,12 @@ def want_of_memory_for_the_line_loses_no_child():
     refused_file = os.path.join(BASE, "refused")
     whole = Played(folder, words)
     equal((whole.wait(), len(whole.screen.shown)), (1, 1), "with ample memory")
-    # Where memory is refused while the hooks are looked up, the line names none.
+    # If memory is refused while the hooks are looked up, the line names none.
     unnamed = [text.replace(" 1/1 A:", "") for text in whole.screen.shown]
     unseen = seen = nameless = 0
     for number in range(1, 2000):
         Path(refused_file).unlink(missing_ok=True)
-        # A run that gave up leaves what the next would clear away, which takes memory of its own.
+        # A run that gave up leaves what the next would remove, which takes memory of its own.
         shutil.rmtree(os.path.join(folder, ".hookhost"), ignore_errors=True)
         played = Played(folder, words, LD_PRELOAD=library, REFUSE_ALLOCATION=str(number), REFUSED_FILE=refused_file)
         status = played.wait()

@@ -1,5 +1,6 @@
-"""Runs of a program of which one allocation is refused, for tests/memory/refused_memory.py and the modules of its plays. The
-allocator is stood in for by tests/shared/refuse_allocation.c."""
+"""Runs of a program of which one allocation is refused, for tests/memory/refused_memory.py and the modules of its plays.
+tests/shared/refuse_allocation.c takes the place of the allocator.
+"""
 import itertools
 import os
 import subprocess
@@ -22,7 +23,7 @@ RUN_TRIAL = given(5, "run_trial")
 
 
 def make_allocator(folder):
-    """Makes what stands in for the allocator."""
+    """Makes what takes the place of the allocator."""
     made, source = os.path.join(folder, "refuse.so"), os.path.join(TOP, "tests/shared/refuse_allocation.c")
     subprocess.run(["cc", "-shared", "-fPIC", "-O1", "-o", made, source, "-ldl"], check=True)
 
@@ -54,8 +55,8 @@ def count_allocations(is_refused):
 
 
 def some_of(count, at_ends, between):
-    """Of the numbers from 1 on, without an end, so many first and last ones of the count, and of those between one in so
-    many."""
+    """The numbers of the allocations to refuse, from 1 on and without an end: so many of the count's first and last, and one in so many
+    of those between."""
     step = max(1, (count - 2 * at_ends) // between)
     return (at for at in itertools.count(1) if at <= at_ends or at > count - at_ends or at % step == 0)
 

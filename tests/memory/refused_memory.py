@@ -1,42 +1,40 @@
 #!/usr/bin/env python3
-"""Runs the built program with each of its allocations refused in turn, until a run ends with none refused.
+"""Checks the built program with each of its allocations refused in turn, until a run ends with none refused.
 
 Usage: tests/memory/refused_memory.py [--each] [PROGRAM [STORE_TRIAL [HOOK_TRIAL [SELECTION_TRIAL [YAML_TRIAL [RUN_TRIAL]]]]]]   (default: the built programs)
 
-Each refused run has to say `hookhost: refused: NUMBER OutOfMemory`, write nothing to standard output and end with
-status 3, or else to answer just as with ample memory (a growth that was refused may be tried again with less). Each play
-names its numbers in the order in which they have to come as later allocations are refused: 4, and in `check` 4 while the
-words are read and then 12. The allocator is stood in for by tests/shared/refuse_allocation.c. Beside some plays of its own,
-each text of the tables `yaml_profile` and `yaml_profile_refused` in tests/rows/tables/ is checked as a configuration.
+Each refused run has to print `hookhost: refused: NUMBER OutOfMemory`, write nothing to standard output and end with exit status 3.
+Otherwise it has to answer just as with ample memory (a growth that was refused may be tried again with less). Each play lists its numbers
+in the order in which they have to come as later allocations are refused: 4, and in `check` 4 while the words are read and then 12.
+tests/shared/refuse_allocation.c takes the place of the allocator. The plays are its own, and each text of the tables `yaml_profile` and
+`yaml_profile_refused` in tests/rows/tables/, which is checked as a configuration.
 
-Where a play starts children, these have all their memory, so that whatever is refused, no line of the report may tell of
-it; nor may a file of the folder change. The folder in which they run is made anew for each run, or left as the run before
-it left it, one that gave up among them.
+If a play starts children, these have all their memory. So no line of the report may show a refusal, and no file of the folder may change.
+The folder in which they run is newly made for each run, or left as an earlier run left it, one that gave up among them.
 
-A command on a repository is played on a new copy of one each time, which may be one of version 1. After a refusal it has
-to show what it showed before, and else what it shows after the command with ample memory, as SQLite reads it in a copy of
-its store. What is remembered is what was before, in version 1 or 2, or where hooks run that behind some of their uses and
-puts, in its order; `memory` says how many answers these are. Then the command is played again with ample memory, and has to
-print and leave what it does where nothing was refused. Where a refusal leaves each byte of the folder as an earlier one did,
-that has been played.
+A command on a repository is run on a new copy of one each time, which may be one of version 1. After a refusal it has to show what it
+showed before. Otherwise it has to show what it shows after the command with ample memory. SQLite reads it in a copy of its store. What is
+cached is what was before, in version 1 or 2. If hooks run, it may also be what some of their uses and puts left, in its order. `memory`
+says how many answers these are. Then the command is run again with ample memory, and has to print and leave what it does if nothing was
+refused. If a refusal leaves each byte of the folder as an earlier one did, this isn't repeated.
 
-Neither may leave an empty folder in which what doesn't belong to the children's folder was to be gathered.
+Neither may leave an empty folder that was meant for files that don't belong to the children's folder.
 
-Of runs over one book, half of whose answers are remembered when the second begins, each allocation is refused too, by the
-program run_trial, and of runs over a book of fewer answers than hooks. What was used and put by then stays in its order and
-is told, no child is started for it again, and the next run reports what it does from scratch.
+Each allocation is refused too by the program run_trial, of two kinds of runs over one book. In one kind half of the book's answers are
+cached when the second run begins. In the other the book has fewer answers than there are hooks. What was used and put by then stays in
+its order and is reported. No child is started for it again, and the next run reports what it does from scratch.
 
-Of the lists of commands that a host plays (tests/shared/host_plays.py), in which all but what stages a file is made twice, each allocation
-is refused too, by the program hook_trial. What it answers has to be what tests/shared/host_model.py does, of which one command or the hooks
-behind one commit are refused memory, after some of the children or before any: all that stands behind that is from scratch.
-So it is with commands of which some limit what is remembered, where memory is refused to a look-up too: that leaves the order.
+Each allocation is refused too by the program hook_trial, of the lists of commands for a host (tests/shared/host_plays.py). In these all
+but what stages a file is made twice. Its answers have to be those of tests/shared/host_model.py. There one command, or the hooks after
+one commit, are refused memory, after some of the children or before any: all that follows is from scratch. The same holds for commands of
+which some limit what is cached. There a look-up is refused memory too, which leaves the order.
 
-Of the calls on tags that are kept while files change each allocation is refused, by the program selection_trial: it answers as with
-ample memory, or says that it has none. What was refused is called again there, on tags that have to be as they were.
+Each allocation is refused by the program selection_trial, of the calls on tags that are kept while files change. It answers as with ample
+memory, or says that it has none. What was refused is called again there, on tags that have to be as they were.
 
-Of the allocations of the runs with children, of the commands on a repository and of the lists of commands the first and the last are
-refused, and of those between one in so many; with --each, which takes long, each is refused in turn. The folder of the children is new
-for each run then: a run that gives up while it removes what it gathered leaves that for the next one, so that each would need more
+For the runs with children, the commands on a repository and the lists of commands, the first and the last allocations are refused, and
+one in so many of those between. With --each, which takes long, each is refused in turn. The folder of the children is then new for each
+run. The reason is that a run that gives up while it removes what it gathered leaves that for the next one. Each would then need more
 allocations than the number that is refused.
 """
 import hashlib
@@ -66,9 +64,9 @@ from yaml_texts import read_rows, refused_rows
 
 @dataclass
 class Bench:
-    """Where a play is played: the folder of the allocator and of the repository that is copied, and the play's own. What was found of
-    folders that lie just so, by the digest of all that lies in them: what they show, and what is wrong with what the same command
-    does then with ample memory, if anything."""
+    """The place in which a play is played: the folder of the allocator and of the repository that is copied, and the play's own. It keeps
+    what was found of folders with just the same contents, by the digest of all that is in them: what they show, and what is wrong, if
+    anything, with what the same command does then with ample memory."""
     shared: str
     folder: str
     laid: str = None
@@ -85,7 +83,7 @@ class Bench:
 @dataclass
 class Answer:
     """How a run ended: its status and outputs, whether an allocation was refused, what the folder then shows, and what is
-    remembered in its repository, if it has one."""
+    cached in its repository, if it has one."""
     said: tuple
     refused: bool
     shown: tuple = None
@@ -106,7 +104,7 @@ def run_there(play, refused, bench):
 
 
 def lay_repository(play, bench):
-    """Makes the folder's repository anew, unless it lies there: none, or a copy of the shared one."""
+    """Makes the folder's repository again, unless it lies there: none, or a copy of the shared one."""
     if bench.laid is not None and bench.lies == bench.laid:
         return
     shutil.rmtree(os.path.join(bench.work, ".hookhost"), ignore_errors=True)
@@ -123,7 +121,7 @@ def shown_before(play, bench):
 
 def shown_after(play, bench):
     """What the folder of a play shows: what its repository does, or the files that the children got copies of. And what
-    is remembered."""
+    is cached."""
     if not play.repository and not play.children:
         return (None, empty_in(bench.work)), None
     bench.lies = state_of(bench.work)
@@ -156,7 +154,7 @@ def empty_in(work):
 
 
 def files_in(work):
-    """The folder's files with their bytes, but for those of the program."""
+    """The folder's files with their bytes, except those of the program."""
     found = {}
     for folder, folders, names in os.walk(work):
         folders[:] = [name for name in folders if name != ".hookhost"]
@@ -167,24 +165,25 @@ def files_in(work):
 
 
 def number_of(said):
-    """The number of the want of memory that a run told, or None."""
+    """The number of the refusal for lack of memory that a run reported, or None."""
     for number in (1, *OF_CHECK):
         told = f"hookhost: refused: {number} OutOfMemory\n".encode()
-        # Of several files the one that memory was refused for is told behind it.
+        # Of several files the one that memory was refused for is reported after it.
         if said[:2] == (3, b"") and said[2].startswith(told) and re.fullmatch(rb"(hookhost: at .*\n)?", said[2][len(told):]):
             return number
     return None
 
 
 def is_stopped_behind(said, plain):
-    """Whether a run told all that it does with ample memory but for the hook behind the commit, which was stopped: that is
-    told on standard error, and undoes nothing."""
+    """Whether a run reported all that it does with ample memory, except for the hook after the commit, which was stopped. That is
+    reported on standard error, and undoes nothing."""
     told = b"".join(line for line in plain[1].splitlines(keepends=True) if not line.startswith(b"Behind"))
     return told != plain[1] and said == (plain[0], told, b"hookhost: refused: 1 OutOfMemory\n")
 
 
 def is_less_told(said, plain):
-    """Whether a run told all that it does with ample memory but for what was in a child's way: memory was refused for such a line."""
+    """Whether a run reported all that it does with ample memory, except for what was in a child's way: memory was refused for such a
+    line."""
     lines = [line for line in plain[2].splitlines(keepends=True) if line.startswith(b"hookhost: ")]
     fewer = {b"".join(some) for count in range(len(lines)) for some in itertools.combinations(lines, count)}
     return said[:2] == plain[:2] and b"".join(lines) == plain[2] and said[2] in fewer
@@ -229,12 +228,12 @@ def refuse_each(play, bench):
             return count, gave_up, f"{wrong} where allocation {allocation} was refused"
 
 
-# The commands of which each use and each answer of a child stays, whatever is refused then.
+# The commands of which each use and each answer of a child stays, with any refusal after it.
 RUNNING = ("run", "run-files", "commit")
 
 
 def wrong_behind(play, answer, before, plain, bench):
-    """What is wrong behind a refusal, if anything: what is remembered, or what the same does now with ample memory."""
+    """What is wrong after a refusal, if anything: what is cached, or what the same does now with ample memory."""
     left = bench.lies
     if left not in bench.judged:
         bench.judged[left] = wrong_book(play, answer, before, plain, bench) or wrong_again(play, plain, bench)
@@ -242,7 +241,7 @@ def wrong_behind(play, answer, before, plain, bench):
 
 
 def wrong_book(play, answer, before, plain, bench):
-    """What is wrong with what is remembered, if anything: it is that before the command, or that behind some of its uses and
+    """What is wrong with what is cached, if anything: it is that before the command, or that after some of its uses and
     puts."""
     if answer.book is None:
         return None
@@ -257,7 +256,7 @@ def wrong_book(play, answer, before, plain, bench):
 
 def wrong_again(play, plain, bench):
     """What is wrong with what the same does now with ample memory, if anything. What children are to find as a refused run left it
-    lies there again behind it."""
+    lies there again after it."""
     kept = os.path.join(bench.folder, "kept")
     if play.children == "left":
         shutil.copytree(bench.work, kept, symlinks=True)
@@ -297,7 +296,7 @@ def make_repositories(shared):
 
 
 def do_all(folder, *steps):
-    """Does commands, each told by its words, and lines of store_trial, which are bytes."""
+    """Does commands, each given by its words, and lines of store_trial, which are bytes."""
     for step in steps:
         words, given = [PROGRAM, *step], b""
         if isinstance(step, bytes):
@@ -345,7 +344,7 @@ def lines_on_kept_tags():
         return [line for line in file if line.startswith((b"follow ", b"select_kept "))]
 
 
-# What the programs for tests are asked for, of which each allocation is refused.
+# The calls of the programs for tests, of which each allocation is refused.
 LINES = {
     "tags that are kept": (SELECTION_TRIAL, lines_on_kept_tags()),
     "trees that share rows": (YAML_TRIAL, [line_of("tree_plays", [seed, "100"]) for seed in "123"]),

@@ -11,8 +11,8 @@ from host_model import (CONFIGURATION, OUT_OF_MEMORY, Answer, FixedTable, Hook, 
 from host_plays import TXT, add, commands_of, host_of, plain as plain_file, words_of
 from refused_allocation import EACH, HOOK_TRIAL, RUN_TRIAL, count_allocations, end_with_refusal, line_of, some_of
 
-# How many allocations at the beginning and the end are refused, and how many between, of the lists of commands that a host
-# plays, and of the one with limits.
+# How many allocations at the beginning and the end are refused, and how many between. The first pair is for the lists of commands that a
+# host plays, and the second for the one with limits.
 OF_HOST, OF_LIMITS = (200, 800), (100, 500)
 
 # ---- runs over one book
@@ -23,16 +23,15 @@ BOOK_HOOKS = "repos:\n- repo: local\n  hooks:\n" + "".join(
 )
 BOOK_ROWS = [f"answer {at}\nc{at}\ta.txt\na.txt=x\n{'a.txt=x' if at == 1 else ''}\nsaid {at}\n" for at in range(4)]
 BOOK_RUN = ["run", "plain", "0", "0", "signal", "0", "memory"]
-# What a run is answered by: its verdict or its refusal, how many children were started, how many of them failed, what is
-# reported, and which rows of the table are remembered.
+# What a run is answered by: its verdict or its refusal, how many children were started, and how many of them failed. It also has what is
+# reported, and which rows of the table are cached.
 BOOK_ANSWER = re.compile(r"(passed|failed|1 OutOfMemory: out of memory), (\d) calls, (\d) faults\n((?:.*\n)*?)"
                          r"(\d) remembered:((?: held| lacking)*)\n")
 
 
 @dataclass
 class BookPlay:
-    """Runs of all hooks over a book of a limit. Each is told with the rows of the table at that time, and how many children
-    it starts."""
+    """Runs of all hooks over a book of a limit. Each has the rows of the table at that time, and how many children it starts."""
     name: str
     limit: int
     tables: list
@@ -51,8 +50,8 @@ class BookPlay:
 BOOK_PLAYS = [
     # In the first run children answer for the first two hooks alone.
     BookPlay("runs over one book", 10_000, [[0, 1], *[[0, 1, 2, 3]] * 3], [4, 2, 0, 0]),
-    # With one hook more than answers each run starts all. Then the order shows in which the run before used them: one goes
-    # for the answer of the first hook.
+    # With one hook more than answers each run starts all. Then the order shows in which the run before used them: one is dropped for the
+    # answer of the first hook.
     BookPlay("runs over a book of three answers", 3, [[0, 1], *[[0, 1, 2, 3]] * 2, [3], [3, 0], [3, 0]], [4, 2, 4, 1, 2, 1]),
 ]
 
@@ -68,8 +67,8 @@ class BookRun:
 
 
 def book_runs(play, refused, shared, folder):
-    """How the program ended, what it answered, whether the allocation of this number (0: none) was refused, and the runs, if
-    they were told."""
+    """How the program ended, what it answered, whether the allocation of this number (0: none) was refused, and the runs, if they were
+    reported."""
     line = line_of("play_book", play.words())
     (status, out, err), was_refused = end_with_refusal([RUN_TRIAL], refused, shared, folder, folder, line)
     text = bytes.fromhex(out.decode().strip()).decode()
@@ -83,12 +82,12 @@ def book_run(table, verdict, calls, faults, report, _, rows):
 
 
 def with_front(book, at, limit):
-    """The numbers of the rows that are remembered, once this one is used or put."""
+    """The numbers of the rows that are cached, once this one is used or put."""
     return (at, *(other for other in book if other != at))[:limit]
 
 
 def steps_of(book, table, limit):
-    """What a run of all hooks comes to behind each of its look-ups, starts and puts: how many children were started, the
+    """What a run of all hooks comes to after each of its look-ups, starts and puts: how many children were started, the
     hooks whose children failed, and the book."""
     calls, failed, steps = 0, (), [(0, (), book)]
     for at in range(len(BOOK_ROWS)):
@@ -109,8 +108,8 @@ def report_of(failed, plain):
 
 
 def books_behind(run, books, table, limit, plain):
-    """The books that there may be behind a run that told this, of those that there may have been before. To tell which rows
-    are held uses them, in the order of the table."""
+    """The books that there may be after a run that reported this, of those that there may have been before. To learn which rows are held
+    uses them, in the order of the table."""
     found = set()
     for steps in (steps_of(book, table, limit) for book in books):
         for calls, failed, after in steps if run.refused else steps[-1:]:
@@ -124,7 +123,7 @@ def books_behind(run, books, table, limit, plain):
 
 
 def gave_up(end):
-    """Whether the program itself was refused memory, or read no configuration for want of it."""
+    """Whether the program itself was refused memory, or read no configuration for lack of it."""
     return end == (3, "", b"out of memory\n") or end[0] == 0 and end[1].startswith("12 OutOfMemory at ")
 
 
@@ -168,32 +167,32 @@ def twice(commands):
 
 
 def places_of(memory, commands):
-    """Where memory may be refused to commands that start as many children as these have."""
+    """The places at which memory may be refused to commands that start as many children as these have."""
     numbers = range(1, len(commands) + 1)
     yield from ((word, number) for word in ("command", "post") for number in numbers)
     yield from ((call, place) for call in range(1, memory.calls + 1) for place in ("start", "put"))
 
 
 def told_where_refused(hooks, commands):
-    """Each answer to the commands where memory is refused once, or nowhere, and where that was."""
+    """Each answer to the commands if memory is refused once, or never, and the place at which it is."""
     host = host_of(hooks)
     well = played(host, commands)
     told = {played(host_of(hooks, want=want), commands): want for want in places_of(host.memory, commands)}
-    # What is remembered is forgotten behind the commands.
+    # What is cached is forgotten after the commands.
     forgotten = re.compile(rb"( remembered\n)\d+ forgotten\n")
     assert len(forgotten.findall(well)) == 1
     return told | {well: None, forgotten.sub(rb"\1refused " + OUT_OF_MEMORY.encode() + b"\n", well): ("forget", 1)}
 
 
 def refuse_host_play(hooks, commands, shared):
-    """How many allocations were refused in turn, where the host said so, and what was wrong, if anything."""
+    """How many allocations were refused in turn, the places at which the host said so, and what was wrong, if anything."""
     commands = twice(commands_of(hooks, commands))
     line, told = line_of("play", words_of(commands)), told_where_refused(hooks, commands)
     return refuse_line(line, told, OF_HOST, shared, lambda came: wrong_places(came, commands))
 
 
 def refuse_line(line, told, numbers, shared, wrong_among):
-    """The same of a line of hook_trial that may be answered so, and of the places where it came."""
+    """The same of a line of hook_trial that may be answered so, and of the places at which memory was refused."""
     with tempfile.TemporaryDirectory() as folder:
         play = lambda number: end_with_refusal([HOOK_TRIAL], number, shared, folder, folder, line)
         count, came = 0, set()
@@ -221,7 +220,7 @@ def wrong_places(came, commands):
 
 # ---- limits of a host
 
-# A child for each file: one of two answers goes where a third comes, which is the one that was used least lately.
+# A child for each file: one of two answers is dropped if a third comes, the one that was used least lately.
 LOOKING = [Hook("look", "Look", entry="look", files=TXT, stages=["pre-commit"], x_per_file=True)]
 FILES = ["a.txt", "b.txt", "c.txt"]
 LOOKING_TABLE = FixedTable([(["look", path], plain_file(path, b"x\n"), Answer(0, b"", {})) for path in FILES])
@@ -240,7 +239,7 @@ LIMITED = [
 
 
 class LookingMemory(Memory):
-    """A memory that may be refused to a look-up too, where `want` is ("find", its number). The book is then as it was."""
+    """A memory that may be refused to a look-up too, if `want` is ("find", its number). The book is then as it was."""
 
     def __init__(self, table, want=None):
         super().__init__(table, want=want)
@@ -253,14 +252,15 @@ class LookingMemory(Memory):
 
 
 def limited(want=None):
-    """What hook_trial answers to each of the commands with limits, and what it tells then, where memory is refused so."""
+    """What hook_trial answers to each of the commands with limits, and what it reports then, if memory is refused so."""
     host = Machine(LookingMemory(LOOKING_TABLE, want), {configuration_text(LOOKING): (LOOKING, False)})
     replies = [host.reply(call_of(command)).printed() for command in LIMITED]
     return [*replies, host.shown() + host.memory.counts() + host.memory.take_rows()], host.memory
 
 
 def untaken(replies):
-    """The same where standard output, which is kept in memory, takes but a beginning of what one command prints, and where."""
+    """The same if standard output, which is kept in memory, takes only a beginning of what one command prints, and the number of that
+    command."""
     for at, reply in enumerate(replies[:-1]):
         out = reply.partition(b"\n")[2]
         for taken in range(len(out)):
@@ -269,7 +269,7 @@ def untaken(replies):
 
 
 def refuse_limits(shared):
-    """How many allocations were refused in turn, where the host said so, and what was wrong, if anything."""
+    """How many allocations were refused in turn, the places at which the host said so, and what was wrong, if anything."""
     well, memory = limited()
     places = [*places_of(memory, LIMITED), *(("find", number) for number in range(1, memory.looked + 1))]
     told = dict(untaken(well)) | {b"".join(limited(want)[0]): want for want in places} | {b"".join(well): None}

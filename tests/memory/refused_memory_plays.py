@@ -41,7 +41,7 @@ repos:
   - {id: b, name: B, language: pygrep, entry: 'c{3}$', args: [--negate]}
   - {id: c, name: C, language: pygrep, entry: a., args: [-i, --multiline]}
 """
-# Whether the commands of hooks are handed anything of what stands in for the allocator, and a command whose output is long.
+# Whether the commands of hooks are given anything of what takes the place of the allocator, and a command whose output is long.
 COMMAND = b"""repos:
 - repo: local
   hooks:
@@ -65,7 +65,7 @@ SCRIPTS = b"""repos:
   - {id: slash, name: System, language: system, entry: ./run.sh, args: ['two words'], files: ^a}
   - {id: none, name: Not there, language: script, entry: none.sh, files: ^a}
 """
-# A command with room for two of the three names, the first of whose parts modifies the file that the second is handed.
+# A command with room for two of the three names, the first of whose parts modifies the file that the second is given.
 LONGEST = 131_072
 PART = b"""/bin/sh -c 'shift; echo $# "$@"; wc -c < dir/c.txt; echo more >> dir/c.txt; exit $#' -- """
 PARTS = b"""repos:
@@ -98,26 +98,26 @@ USING_HOOKS = b"""repos:
   hooks:
   - {id: look, name: Look, language: system, entry: cat, files: '[.]txt$', x_per_file: true}
 """
-# The numbers of want of memory: a run's, and those of `check`, whose words are read as a run's are. A command on a
-# repository says 4 while its words are read, as a run does, and while the store is opened or made, as the store does. It
-# says 1, as the host does, of anything else: what is prepared before the store, as the working file of `add` and the children
-# of a run, and the command itself.
+# The numbers of lack of memory: a run's, and those of `check`, whose words are read as a run's are. A command on a repository says 4
+# while its words are read, as a run does. It also says 4 while the store is opened or made, as the store does. Otherwise it says 1, as
+# the host does. That is for the command itself and for what is prepared before the store, as the working file of `add` and the children
+# of a run.
 OF_RUN = (4,)
 OF_CHECK = (4, 12)
 OF_INIT = (4,)
 OF_PREPARED = (4, 1, 4, 1)
 OF_COMMAND = (4, 1)
-# How many allocations at the beginning and the end are refused, and how many between, of a command on a repository, most of
-# whose allocations open the store, and of a run that starts children.
+# How many allocations at the beginning and the end are refused, and how many between. The first pair is for a command on a repository,
+# most of whose allocations open the store, and the second for a run that starts children.
 OF_STORE, OF_CHILDREN = (220, 300), (40, 160)
 
 
 @dataclass
 class Play:
-    """The words and the standard input of a run, the numbers of its want of memory, its configuration, the status that
-    it has to end with (None: any), the repository that it is on, if any: a new one is `made`, or a copy of one of those by
-    these names (refused_memory.py); how many answers it uses and puts, or none where it changes them at once; and the folder
-    of its children, if any: new for each run, or left."""
+    """A run. It has its words and its standard input, the numbers of its lack of memory, its configuration, and the exit status that it
+    has to end with (None: any). Then the repository that it is on, if any: a new one is `made`, or a copy of one of those by these names
+    (refused_memory.py). Then how many answers it uses and puts, or none if it changes them at once. The last is the folder of its
+    children, if any: new for each run, or left."""
     name: str
     words: list
     numbers: tuple = OF_RUN

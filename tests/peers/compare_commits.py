@@ -3,14 +3,14 @@
 
 Usage: tests/peers/compare_commits.py [PROGRAM [PLAYS [SEED]]]   (default: crates/hookhost/out/hookhost, 40 plays, seed 1)
 
-pre-commit and Git must be there. In a play the same files are staged and taken out in a repository of Git and in one of
-`hookhost`, with the same configuration, and commits are tried in both: with messages of all kinds, with `--no-verify` and
-with hooks skipped. Then must be the same: whether the commit is made, its tree, its message, and which hooks ran in which
-order with which arguments. After a commit in which hooks failed, the working files that pre-commit's hooks leave must be
-those that are staged once `hookhost` has accepted the fixes.
+pre-commit and Git must be installed. In a play the same files are staged and unstaged in a repository of Git and in one of
+`hookhost`, with the same configuration. Commits are tried in both, with messages of all kinds, with `--no-verify` and with hooks
+skipped. The same must be: whether the commit is made, its tree, its message, and which hooks ran in which order with which arguments.
+After a commit in which hooks failed, the working files that pre-commit's hooks leave must be those that are staged once `hookhost`
+has accepted the fixes.
 
-Where they differ, a reason has to hold, which is tested: the difference must be just what the reason says. Another
-difference is a failure, and so is a reason that no play needed.
+If they differ, a reason has to hold, which is tested: the difference must be just what the reason says. Another difference is a
+failure, and so is a reason that no play needed.
 """
 import collections
 import os
@@ -30,7 +30,7 @@ COMMITS = 6
 CONFIGURATION = ".pre-commit-config.yaml"
 STAGES = ["commit", "prepare-commit-msg", "commit-msg", "post-commit"]
 
-# What a hook does with its last argument, which is a file's name where it is handed one. Each says first that it ran.
+# What a hook does with its last argument, which is a file's name if the hook is given one. Each says first that it ran.
 ACTIONS = {
     "pass": "true",
     "fail": "exit 1",
@@ -220,7 +220,7 @@ class Hookhost(Side):
         return self.staged()
 
     def staged(self):
-        # The staged paths: those of HEAD and what differs, which `run-files` and `cat` tell; here each that may be there.
+        # The staged paths: those of HEAD and what differs, which `run-files` and `cat` show. Here it is each that may be there.
         found = {}
         for path in [CONFIGURATION, *PATHS]:
             status, out, _ = self.run(PROGRAM, "cat", path)
@@ -246,7 +246,7 @@ def changes_message(hooks, no_verify, skip):
 
 
 def calls_to_removal(hooks, ran):
-    """How many calls of hooks there were up to the first that removes a file, or 0 where none does."""
+    """How many calls of hooks there were up to the first that removes a file, or 0 if none does."""
     removing = [hook.id for hook in hooks if hook.action == "remove"]
     return next((at + 1 for at, call in enumerate(ran) if call.split(":")[0] in removing), 0)
 
@@ -303,7 +303,7 @@ def play_one(number):
 
 
 def try_commit(ours, theirs, hooks, message, no_verify, skip, needed, play):
-    """Tries one commit in both, and answers whether it was made; None where one alone was, so that the play is over."""
+    """Tries one commit in both, and answers whether it was made; None if one alone was, so that the play is over."""
     nothing = theirs.run("git", "diff", "--cached", "--quiet")[0] == 0 and theirs.commits() > 0
     (status, made), (git_status, git_made) = ours.commit(message, no_verify, skip), theirs.commit(message, no_verify, skip)
     play += f"\nhere {status}: {ours.told}\nGit {git_status}: {theirs.told}"

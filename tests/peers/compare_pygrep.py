@@ -3,14 +3,14 @@
 
 Usage: tests/peers/compare_pygrep.py [CASES [SEED]]   (default: 6000 cases, seed 1)
 
-pre-commit (Debian's package of that name) must be there, for the Python that runs this or for /usr/bin/python3, which
-Debian's packages serve; where it is missing, nothing can be compared, and that is a failure. So must the program
-`selection_trial` be, built by `rt run`.
+pre-commit (Debian's package of that name) must be installed, for the Python that runs this or for /usr/bin/python3, which Debian's
+packages serve. If it is missing, nothing can be compared, and that is a failure. The program `selection_trial` must be built, by
+`rt run`.
 
-The patterns are of what the two languages of patterns share: letters, classes, groups, branches, repetitions, and the ends
-of lines, words and texts. Each case is written to a folder, and pre-commit's functions are called on it in this process.
-Where the answers differ, a reason has to hold, which is tested: the two must agree once one side answers as the reason
-says. Another difference is a failure, and so is a reason that no case needed.
+The patterns are of what the two languages of patterns share: letters, classes, groups, branches, repetitions, and the ends of lines,
+words and texts. Each case is written to a folder, and pre-commit's functions are called on it in this process. If the answers differ,
+a reason has to hold, which is tested: the two must agree once one side answers as the reason says. Another difference is a failure,
+and so is a reason that no case needed.
 """
 import contextlib
 import io
@@ -137,10 +137,10 @@ def writing_to(buffer):
             function.__defaults__ = defaults
 
 
-# ---- why two answers may differ. Each reason changes how one side answers; it holds where the two then agree.
+# ---- why two answers may differ. Each reason changes how one side answers; it holds if the two then agree.
 
 def without_line_feeds(entry, args, files):
-    """What pre-commit would answer if it searched each line without its line feed, as is done here."""
+    """What pre-commit would answer if it searched each line without its line feed, as the program does."""
     if "--multiline" in args:
         return theirs(entry, args, files)
     found = re.compile(entry.encode(), flags_of(args))
@@ -156,12 +156,12 @@ def without_line_feeds(entry, args, files):
 
 
 def with_bytes(entry):
-    """The entry for `regex` where it is to be read as Python reads a pattern of bytes."""
+    """The entry for `regex` if it is to be read as Python reads a pattern of bytes."""
     return "(?-u)" + "".join(sign if sign < "\x80" else "".join(rf"\x{byte:02x}" for byte in sign.encode()) for sign in entry)
 
 
 def with_empty_texts(entry):
-    """The entry for Python where `\\B` is to be found in an empty text too."""
+    """The entry for Python if `\\B` is to be found in an empty text too."""
     return entry.replace(r"\B", r"(?:\B|\A\Z)")
 
 
@@ -172,7 +172,7 @@ REASONS = [FEEDS, BYTES, EMPTY]
 
 
 def agree_but_for(reasons, entry, args, files):
-    """Whether the two answers are the same, these reasons apart."""
+    """Whether the two answers are the same, apart from these reasons."""
     mine = ours([(with_bytes(entry) if BYTES in reasons else entry, args, files)])[0]
     other = without_line_feeds if FEEDS in reasons else theirs
     return mine == other(with_empty_texts(entry) if EMPTY in reasons else entry, args, files)

@@ -3,18 +3,18 @@
 
 Usage: tests/peers/compare_reports.py [PROGRAM [COUNT [SEED]]]   (default: crates/hookhost/out/hookhost, 200 configurations, seed 1)
 
-pre-commit (Debian's package of that name) must be there, for the Python that runs this or for /usr/bin/python3, which
-Debian's packages serve; where it is missing, nothing can be compared, and that is a failure. So must `git` be.
+pre-commit (Debian's package of that name) must be installed, for the Python that runs this or for /usr/bin/python3, which Debian's
+packages serve. If it is missing, nothing can be compared, and that is a failure. `git` must be installed too.
 
-Each tree is laid and staged in a repository of its own, and each configuration, of `fail`, `pygrep` and `system` hooks, is run on
-it: by `hookhost try CONFIG PATH..` with all staged files, and by pre-commit in this process. pre-commit's `pygrep` is
-called here too, but for some configurations, where it starts its own process, as it always would. Patterns are of what
-both languages of patterns share, texts of what both readers of YAML do.
+Each tree is written and staged in a repository of its own. Each configuration, of `fail`, `pygrep` and `system` hooks, is run on it:
+by `hookhost try CONFIG PATH..` with all staged files, and by pre-commit in this process. pre-commit's `pygrep` is called here too,
+except for some configurations, for which it starts its own process, as it always would. Patterns are of what both languages of
+patterns share, texts of what both readers of YAML do.
 
-The verdict and each byte of the report must be the same. Where they differ, reasons have to hold, one or several, which is
-tested: each has a cause that the configuration or the tree must show, the two sides must agree once they answer as the
-reasons say, and none of these may be left out. Another difference is a failure, and so is a reason that no configuration
-needed. Each answer begins with the tree as it was staged, since the commands of hooks change it.
+The verdict and each byte of the report must be the same. If they differ, one or several reasons have to hold, which is tested. Each
+has a cause that the configuration or the tree must show, the two sides must agree once they answer as the reasons say, and none of
+the reasons may be left out. Another difference is a failure, and so is a reason that no configuration needed. Each run begins with
+the tree as it was staged, since the commands of hooks change it.
 """
 import collections
 import contextlib
@@ -47,7 +47,7 @@ try:
 except ImportError:
     try_again("pre-commit (Debian's package)")
 
-# Repositories are made here where it can be: on the disk they would take minutes.
+# Repositories are made here if possible: on the disk they would take minutes.
 IN_MEMORY = "/dev/shm"
 CONFIGURATION = ".pre-commit-config.yaml"
 
@@ -66,7 +66,7 @@ FOLDERS = ["", "", "src/", "src/deep/", "lib/", "docs/", "a b/", "\u00e9/", ".hi
 STEMS = ["a", "b1", "x.tar", "README", "Makefile", "setup", "\u65e5", "it's", "Dockerfile", "LICENSE"]
 ENDS = ["", "", ".py", ".py", ".PY", ".pyi", ".md", ".txt", ".txt", ".c", ".h", ".yaml", ".json", ".sh", ".png", ".svg", ".plist", ".bin", ".in"]
 PIECES = [b"a", b"b", b"c", b"x", b"A", b"-", b" ", b"\t", b"7", b".", b"ab", b"TODO", b"\n", b"\n", b"\n", b"\r\n", b"\r\n", b"\r"]
-# Beside these, a file that is no plain text has some of these.
+# In addition, a file that is no plain text has some of these.
 ODD_PIECES = PIECES + [b"\xff", b"\xffa", b"\x00", "\u00e9".encode()]
 SCRIPTS = [b"#!/bin/sh\n", b"#!/usr/bin/env python3\n", b"#!/usr/bin/env -S node -x\n"]
 
@@ -94,7 +94,7 @@ ARGUMENTS = ["-i", "--ignore-case", "--multiline", "--negate"]
 NAMES = ["Check", "a", "A name of more than fifty columns, so that each line is wider than eighty", "\u65e5\u672c", "\u65e5" * 30, "caf\u00e9: 'x'", ""]
 ACCENT = "e\u0301 accent"
 ENTRIES = ["no such names", "", "one\ntwo", "  blanks around\n\n", "caf\u00e9 \u65e5", "it's \"quoted\" \\ {x} #y"]
-# pre-commit counts a blank behind each word of a command, the last one too, and leaves room for the environment.
+# pre-commit counts a blank after each word of a command, the last one too, and leaves room for the environment.
 LONGEST = 131_072 + 1
 # Commands that pass, fail, print, and modify files. The last leaves room for a few names, so it runs in several parts.
 COMMANDS = ["true", "false", "cat", "grep -n TODO", "wc -c", "sed -i s/a/b/", "sed -i s/c/c/", "sh -c 'echo out; echo err >&2; exit 7' --",
@@ -118,7 +118,7 @@ def line_pattern(rng):
 
 
 def maybe(rng, chance, **values):
-    """These keys with their values, each as often as told."""
+    """These keys with their values, each as often as it was given."""
     return {key: value() for key, value in values.items() if rng.random() < chance}
 
 
@@ -137,7 +137,7 @@ def hook(rng, number):
     made |= maybe(rng, 0.05, stages=lambda: rng.choice(STAGES), description=lambda: "of no use")
     made |= maybe(rng, 0.02, color=lambda: "unknown to both")
     if language == "system":
-        # pre-commit would hand the names in another order to several commands at once.
+        # pre-commit would give the names in another order to several commands at once.
         made |= {"require_serial": True, "args": []}
     return made
 
@@ -162,7 +162,7 @@ def configuration(top, hooks):
 
 
 def lay_files(case, plain=False):
-    """Lays the tree and its configuration in the current folder, anew where the commands of hooks have changed them."""
+    """Writes the tree and its configuration into the current folder, again if the commands of hooks have changed them."""
     for path, file in [*case.tree.items(), (CONFIGURATION, File(False, configuration(case.top, case.hooks).encode()))]:
         if os.path.dirname(path):
             os.makedirs(os.path.dirname(path), exist_ok=True)
@@ -172,7 +172,7 @@ def lay_files(case, plain=False):
 
 
 def lay(case, rng):
-    """Lays the tree in the current folder, with its configuration, and stages it: the staged paths."""
+    """Writes the tree into the current folder, with its configuration, and stages it. Answers the staged paths."""
     subprocess.run(["git", "init", "--quiet", "--template="], check=True)
     lay_files(case)
     paths = list(case.tree) + ([CONFIGURATION] if rng.random() < 0.5 else [])
@@ -182,7 +182,7 @@ def lay(case, rng):
 
 
 def ours(case, paths, hooks):
-    """The exit status and the report of the program, where the configuration has these hooks."""
+    """The exit status and the report of the program, if the configuration has these hooks."""
     lay_files(case)
     with tempfile.NamedTemporaryFile("w", encoding="utf-8", suffix=".yaml") as made:
         made.write(configuration(case.top, hooks))
@@ -192,7 +192,7 @@ def ours(case, paths, hooks):
 
 
 def theirs(case, reasons, own_process=False):
-    """pre-commit's, in the current folder, where it answers as these reasons say."""
+    """The exit status and the report of pre-commit, in the current folder, if it answers as these reasons say."""
     lay_files(case, plain=PLAIN in reasons)
     patches = [mock.patch.object(*each) for reason in reasons for each in REASONS[reason].patches]
     taken = io.BytesIO()
@@ -207,7 +207,7 @@ def theirs(case, reasons, own_process=False):
 
 
 def pygrep_here(command, names, **_options):
-    """What pre-commit's own process of `pygrep` would give, without the process. Its words begin behind the module's name."""
+    """What pre-commit's own process of `pygrep` would give, without the process. Its words begin after the module's name."""
     status, text = 0, io.BytesIO()
     for words in partition(command, names, 1):
         with writing_to(text):
@@ -229,7 +229,7 @@ def writing_to(stream):
             function.__defaults__ = defaults
 
 
-# ---- why two answers may differ. Each reason changes one thing in how one side answers, and nothing where its cause isn't.
+# ---- why two answers may differ. Each reason changes one detail in how one side answers, and nothing if its cause isn't there.
 
 DURATION = "how long a hook took isn't told"
 WARNING = "what is dubious in a configuration isn't told"
@@ -248,13 +248,13 @@ def told_lines(line, use_color, tell=running._subtle_line):
 
 
 def told_record(handler, record, tell=logging_handler.LoggingHandler.emit):
-    """What pre-commit warns of but the key that random hooks have and nothing knows."""
+    """What pre-commit warns of, except the key that random hooks have and no program reads."""
     if not re.fullmatch(r"Unexpected key\(s\) present on local => \w+: color", record.getMessage()):
         tell(handler, record)
 
 
 def run_hooks(config, hooks, skips, args):
-    """pre-commit's loop over the hooks, where a hook that didn't fail stops no run."""
+    """pre-commit's loop over the hooks, if a hook that didn't fail stops no run."""
     columns = running._compute_cols(hooks)
     classifier = running.Classifier.from_config(running._all_filenames(args), config["files"], config["exclude"])
     any_failed, diff = False, running._get_diff()
@@ -371,7 +371,7 @@ def reasons_of(case, paths, mine):
 
 
 def compared(case, rng):
-    """None where the two answers agree, else the reasons why not, and the answers."""
+    """None if the two answers agree. Otherwise the reasons why not, and the answers."""
     with tempfile.TemporaryDirectory() as folder:
         os.chdir(folder)
         paths = lay(case, rng)
@@ -382,7 +382,7 @@ def compared(case, rng):
 
 
 def set_environment(home):
-    """Nothing of the user's own, and of a surrounding repository's, bears on the runs."""
+    """Settings of the user, and of a surrounding repository, don't change the runs."""
     for name in [*os.environ]:
         if name.startswith(("GIT_", "PRE_COMMIT")) or name == "SKIP":
             del os.environ[name]

@@ -3,13 +3,13 @@
 
 Usage: tests/peers/compare_tags.py [PROGRAM]   (default: crates/selection_trial/out/selection_trial)
 
-The library (Debian's python3-identify) must be there, for the Python that runs this or for /usr/bin/python3, which Debian's
-packages serve; where it is missing, nothing can be compared, and that is a failure.
+The library (Debian's python3-identify) must be installed, for the Python that runs this or for /usr/bin/python3, which Debian's
+packages serve. If it is missing, nothing can be compared, and that is a failure.
 
-Files with all names of both tables, in other letters and put together, with random names, modes, first lines and bytes
-are written to a folder, where `identify` reads them, and played by the program. Where the two differ, `identify` is asked
-again with the tables of tests/rows/tables/file_tags.py in place of its own: most differences end there. Each that is left must
-have a reason, and a reason has a test of the file: a file for which no test holds is a failure.
+Files with all names of both tables, in other letters and put together, with random names, modes, first lines and bytes are written to a
+folder. There `identify` reads them, and the program is given them. If the two differ, `identify` is asked again with the tables of
+tests/rows/tables/file_tags.py in place of its own: most differences end there. Each that is left must have a reason, and a reason has a
+test of the file. A file for which no test holds is a failure.
 """
 import collections
 import io
@@ -33,7 +33,7 @@ except ImportError:
 
 PROGRAM = os.path.abspath(sys.argv[1] if len(sys.argv) > 1 else program("selection_trial"))
 
-# Files are written here where it can be: the disk would take minutes for them.
+# Files are written here if possible: the disk would take minutes for them.
 IN_MEMORY = "/dev/shm"
 
 RANDOM = random.Random(20_230_331)
@@ -59,7 +59,7 @@ ALL_TAGS = sorted(identify.ALL_TAGS.union(*(tags for table in OUR_TABLES for tag
 
 
 def use_tables(all_tables):
-    """Lets `identify` look names up in these tables."""
+    """Has `identify` look names up in these tables."""
     extensions.NAMES, extensions.EXTENSIONS, extensions.EXTENSIONS_NEED_BINARY_CHECK, interpreters.INTERPRETERS = all_tables
 
 
@@ -115,7 +115,7 @@ def files():
     return list(dict.fromkeys(file for file in made if is_name(file.name)))
 
 
-# ---- what each says of a file: its tags, and the words of its first line from the interpreter's on
+# ---- what each reports of a file: its tags, and the words of its first line from the interpreter's on
 
 
 def ours(all_files):
@@ -140,7 +140,7 @@ def from_interpreter(words):
 
 
 def theirs(folder, file):
-    """What `identify` says of the file, with its own tables and with ours. None where it fails."""
+    """What `identify` reports of the file, with its own tables and with ours. None if it fails."""
     path = os.path.join(folder, file.name)
     with open(path, "wb") as made:
         made.write(file.contents)
@@ -165,7 +165,7 @@ def rest_of_line(file):
 
 
 def has_small_letter_beyond_ascii(file):
-    """Whether a character beyond ASCII becomes one within it where it is made small."""
+    """Whether a character beyond ASCII becomes one within it if it is made small."""
     return any(ord(it) >= 128 and min(map(ord, it.lower())) < 128 for it in file.name)
 
 

@@ -3,9 +3,9 @@
 
 Usage: tests/peers/compare_words.py [TEXTS [SEED]]   (default: 200000 texts, seed 1)
 
-The program `selection_trial` must be there, built by `rt run`; one process of it answers all texts. They are made of blanks,
-quotes, backslashes and a few characters between, and of what Python may take for a blank and `shlex` doesn't. The words must
-be the same, and so must the refusal where there is one; no difference is allowed.
+The program `selection_trial` must be built, by `rt run`. One process of it answers all texts. They are made of blanks, quotes,
+backslashes and a few characters between, and of characters that are blanks to Python and not to `shlex`. The words must be the same,
+and so must the refusal if there is one. No difference is allowed.
 """
 import os
 import random

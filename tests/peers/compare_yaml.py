@@ -1,14 +1,14 @@
 #!/usr/bin/env python3
-"""Compares the table of YAML texts with PyYAML, a reader of YAML 1.1 that shares nothing with this one.
+"""Compares the table of YAML texts with PyYAML, a reader of YAML 1.1 that shares no code with this one.
 
 Usage: tests/peers/compare_yaml.py
 
-PyYAML (Debian's python3-yaml) must be there, for the Python that runs this or for /usr/bin/python3, which Debian's packages
-serve; where it is missing, nothing can be compared, and that is a failure.
+PyYAML (Debian's python3-yaml) must be installed, for the Python that runs this or for /usr/bin/python3, which Debian's packages
+serve. If it is missing, nothing can be compared, and that is a failure.
 
-The rows are those of yaml_profile.py and yaml_profile_refused.py in tests/rows/tables, which the reader is held to. Where PyYAML
-takes a text, the values must agree. Each text that only one of the two takes is printed with its reason. A reason has a
-test of the text: a text for which no test holds is a failure.
+The rows are those of yaml_profile.py and yaml_profile_refused.py in tests/rows/tables, with which the reader is tested. If PyYAML
+takes a text, the values must agree. Each text that only one of the two takes is printed with its reason. A reason has a test of the
+text: a text for which no test holds is a failure.
 """
 import ast
 import os
@@ -59,8 +59,8 @@ def has_doubled_key(text):
 
 
 def has_shallow_flow(text):
-    """Whether a line of a flow stands too far left for the line that the flow begins on, taken behind its dashes. A line
-    that begins with a closing bracket may stand one column further left, and a flow that is the whole text anywhere."""
+    """Whether a line of a flow is too far left for the line that the flow begins on, taken after its dashes. A line
+    that begins with a closing bracket may be one column further left, and a flow that is the whole text anywhere."""
     found = re.search(r"(?ms)^([ -]*)[^\n\[{]*([\[{].*[\]}])", text)
     if not found or not text[:found.start(2)].strip():
         return False

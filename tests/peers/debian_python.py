@@ -10,8 +10,8 @@ SECOND_TRY = "SECOND_TRY_BY_DEBIANS_PYTHON"
 
 
 def try_again(lacking):
-    """Where an import failed: begins the script anew under Debian's own Python, or, where that was tried, ends it as a
-    failure that names what is lacking."""
+    """If an import failed: begins the script again under Debian's own Python. If that was tried, ends it as a failure that names what is
+    lacking."""
     if SECOND_TRY not in os.environ and os.access(DEBIANS_PYTHON, os.X_OK):
         os.environ[SECOND_TRY] = "1"
         os.execv(DEBIANS_PYTHON, [DEBIANS_PYTHON, *sys.argv])

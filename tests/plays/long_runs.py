@@ -1,19 +1,18 @@
 #!/usr/bin/env python3
-"""Plays one long list of random commands on one repository with the built program, of which some are killed, beside a
-model.
+"""Plays one long list of random commands on one repository with the built program, kills some of them, and compares with a model.
 
 Usage: tests/plays/long_runs.py [--commands=N] [--seed=N] [PROGRAM]   (default: 200 commands, seed 1, crates/hookhost/out/hookhost)
 
-The commands, the two hosts and the book of what is remembered, with its limits, are those of tests/plays/process_plays.py. In
-the repository of the host that remembers, one command in some is killed, at a random moment or before a random call of
-the system. SQLite looks at its folder before any program opens it: it has to be the repository before the command, and
-then the command is asked for again, or the one after it, which is that of the other host. The book that a killed
-command leaves is one of those that it passes through, as it looks up what it needs and puts what its children told; so
-what was put is remembered in its order, up to one of them, and isn't started again.
+The commands, the two hosts and the book of cached answers, with its limits, are those of tests/plays/process_plays.py. In the repository
+of the host that caches, one command in some is killed, at a random moment or before a random call of the system. SQLite reads its folder
+before any program opens it. It has to be the repository before the command or the one after it, which is that of the other host. If it is
+the one before, the command is run again. A command that is killed passes through several books, as it looks up what it needs and puts
+what its children answered. The book that it leaves is one of these. So the answers up to one of these puts are cached in their order, and
+aren't asked for again.
 
-At the end the store is read by sqlite3, and nothing has grown beyond what the repository holds: the file of the store
-is compared with one into which the same rows were written anew, the peak of the memory that a look takes on both, and
-in the folder lies what lies there behind a single command.
+At the end the store is read by sqlite3, and nothing has grown beyond what the repository holds. The file of the store is compared
+with one into which the same rows were newly written, and so is the peak of the memory that a look takes on both. The folder holds
+what it holds after a single command.
 """
 import collections
 import copy
@@ -55,19 +54,19 @@ LAST_HOOKS = b"""repos:
   hooks:
   - {id: last, name: Last, language: system, entry: play_child -, always_run: true}
 """
-# A file of a database has pages that aren't full: those of a table that grew in the order of its keys are, and of one whose keys are
-# digests two thirds of each, on average.
+# A file of a database has pages that aren't full. Those of a table that grew in the order of its keys are full. Those of one whose keys
+# are digests are two thirds full, on average.
 MOST_GROWTH, MOST_MORE_MEMORY = 1.6, 1.1
 
 
 class LongPlay(Play):
-    """Both hosts, of whom the one that remembers is killed now and then."""
+    """Both hosts, of which the one that caches is killed now and then."""
 
     def __init__(self, top, seed):
         super().__init__(top, seed)
-        # Behind a kill the last answer that was put is another one for each host.
+        # After a kill the last answer that was put is another one for each host.
         self.forgets = True
-        # What the moments of kills are drawn by, apart from the commands, which are the same however long these take.
+        # What the moments of kills are drawn by, apart from the commands, which are the same for any time that these take.
         self.chance, self.seconds = random.Random(f"kills {seed}"), 0.05
         # The book before a command that was killed, what it left of that, and the children that it started.
         self.killed = None
@@ -84,7 +83,7 @@ class LongPlay(Play):
         return None
 
     def kill(self, command):
-        """Plays a command by the host that remembers, and kills it. Whether it left the repository as it was."""
+        """Plays a command by the host that caches, and kills it. Answers whether it left the repository as it was."""
         host = self.remembering
         before = left_in(host.folder)
         status, out = self.play_and_kill(command)
@@ -121,7 +120,7 @@ class LongPlay(Play):
         return program.returncode, out
 
     def note_book(self, command):
-        """Takes over the book that a killed command left. Where it runs hooks, what it needs is told by the other host,
+        """Takes over the book that a killed command left. If it runs hooks, what it needs is reported by the other host,
         later."""
         host, before, (word, *words) = self.remembering, self.remembering.book, command.words
         found, children = book_left(host.folder), host.children(self.staged)
@@ -151,7 +150,7 @@ class LongPlay(Play):
         return children
 
     def step_after_kill(self, command):
-        """Where the killed command was done, the other host does it alone."""
+        """If the killed command was done, the other host does it alone."""
         self.commands.append(command)
         if command.words[0] in RUNNING:
             self.forgetting.forget()
@@ -162,7 +161,7 @@ class LongPlay(Play):
 
 
 def book_left(work):
-    """The book that the two files of a store stand for."""
+    """The book that the two files of a store hold."""
     with tempfile.TemporaryDirectory(dir=QUICK) as folder:
         for name in (STORE, LOG):
             with suppress(FileNotFoundError):
@@ -193,7 +192,7 @@ def passed_through(book, children, is_fresh):
 # ---- what has grown
 
 def rewritten(folder, work):
-    """A repository with the same rows, written anew."""
+    """A repository with the same rows, written again."""
     copy = os.path.join(folder, "rewritten")
     os.makedirs(os.path.join(copy, ".hookhost"))
     done = subprocess.run(["sqlite3", "-batch", os.path.join(work, STORE), f"VACUUM INTO '{os.path.join(copy, STORE)}'"], capture_output=True, timeout=600)
@@ -212,7 +211,7 @@ def memory_of(work, *words):
 
 def check_growth(folder, play):
     work = play.remembering.folder
-    # The next run takes away what a killed one has left.
+    # The next run removes what a killed one has left.
     for command in (Command(("add", process_plays.CONFIGURATION), LAST_HOOKS), Command(("run", "--all-files", "--fresh"))):
         Play.step(play, command)
     left = {os.path.basename(name) for name in (STORE, LOG, LOCK)}
@@ -242,7 +241,7 @@ def main():
     with tempfile.TemporaryDirectory(dir=QUICK) as top:
         subprocess.run(["cc", "-O1", "-o", os.path.join(top, "play_child"), str(Path(__file__).resolve().parent / "play_child.c")], check=True)
         os.environ["PATH"] = top + os.pathsep + os.environ["PATH"]
-        # With an odd seed no child has a clock: what was remembered by a killed command is what would be told again.
+        # With an odd seed no child has a clock: what was cached by a killed command is what would be answered again.
         play, wrong = LongPlay(top, 2 * SEED - 1), None
         try:
             play.run()

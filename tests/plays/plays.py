@@ -1,18 +1,19 @@
 #!/usr/bin/env python3
-"""Plays random lists of commands on repositories in memory by two hosts, over children that answer by a table, beside a model.
+"""Plays random lists of commands on repositories in memory by two hosts, over children that answer by a table, and compares both with a
+model.
 
 Usage: tests/plays/plays.py [PLAYS [SEED]]   (default: 1,000 plays of 200 commands each, seed 1)
 
-One host remembers what children answered, the other forgets it before each command. Among the commands is one that limits what is
-remembered, to one answer, to two or three, or to as many as a new host does. The model has the commits, the staged files and the
-fixes as plain lists and dictionaries, and the book of remembered answers as a list with a limit. It says of each host what every
-command prints, its exit status, and what it leaves: the repository, how many answers are remembered, and which children were
-started, told by the rows of the table. hook_trial plays the same commands through `command_over`, and all that has to be the model's.
+One host caches what children answered, the other drops it before each command. Among the commands is one that limits what is cached,
+to one answer, to two or three, or to as many as a new host does. The model has the commits, the staged files and the fixes as plain
+lists and dictionaries, and the book of cached answers as a list with a limit. For each host it gives what every command prints, its
+exit status, and what it leaves: the repository, how many answers are cached, and which children were started, by the rows of the
+table. hook_trial runs the same commands through `command_over`, and all that has to be the model's.
 
-Where the model asks a child for an outcome, it is drawn by chance the first time, and the same for these words and these files
-ever after: this is the table. Some outcomes aren't drawn, so that the child isn't started. Then both hosts have to answer the
-same and to leave the same repository. In every fourth play some children have a clock, by which they tell several outcomes in
-turn. There the hosts may differ, each as the model says of it.
+If the model asks a child for an outcome, it is drawn by chance the first time, and is the same for these words and these files from
+then on: this is the table. Some outcomes aren't drawn, so that the child isn't started. Then both hosts have to answer the same and
+to leave the same repository. In every fourth play some children have a clock, and give several outcomes in turn. There the hosts may
+differ, each as the model says.
 
 The model is tests/shared/host_model.py.
 """
@@ -48,7 +49,7 @@ FURTHER = [NO_PATH] * 6 + ["^b", r"\.txt$", "^dir/", "^[.]pre", "^[.]git/"]
 MESSAGES = [b"", b"\n", b" \t\n\n", b"first", b"first", b"first\n", b"first\n", b"  first \n\n\n\nbody\t\n\n", b"# kept\r\n\nbody"]
 CHILDREN_WRITE = [b"x\n", b"y\n", b"z \n", b"\n", b"one\n\n\ntwo \n"]
 OUTPUTS = [b"", b"", b"said\n", b" \n\tsaid twice\n\nso\n\n"]
-# How many answers are remembered at most.
+# How many answers are cached at most.
 LIMITS = [1, 2, 3, 10_000]
 # What a report says of a child that was started and failed.
 FAILING = [said for said in FAULTS if said != NOT_STARTED]
@@ -73,7 +74,7 @@ def with_long_argument(rng, hook):
 
 
 def random_configuration(rng):
-    """The hooks and whether the whole configuration is `fail_fast`, or None where it can't be read, and its text."""
+    """The hooks and whether the whole configuration is `fail_fast`, or None if it can't be read, and its text."""
     if rng.random() < 0.05:
         return None, b"repos: 1\n"
     hooks, fails_fast = [random_hook(rng, number) for number in range(rng.choice([0, 1, 2, 2, 3, 3, 4]))], rng.random() < 0.05
@@ -157,8 +158,8 @@ class Player:
         self.words, self.replies, self.answers, self.ends = [], [], [], collections.Counter()
 
     def play(self, command, call):
-        """Plays a command, and then has told what it leaves. The command `forget` is a step of its own. How many answers a limit leaves is
-        told by each host for itself."""
+        """Plays a command, and then has the host report what it leaves. The command `forget` is a step of its own. How many answers a
+        limit leaves is reported by each host for itself."""
         forgets = self.forgets_first + (call is None)
         forgotten = b"".join(f"{self.host.memory.forget()} forgotten\n".encode() for _ in range(forgets))
         reply = self.host.reply(call).printed() if call else b""
@@ -170,7 +171,7 @@ class Player:
 
 
 def play_of(number):
-    """The table of a play, its commands, and its players, of whom the second forgets before each command."""
+    """The table of a play, its commands, and its players, of which the second forgets before each command."""
     rng = random.Random(f"{SEED} {number}")
     table, configurations, commands = Table(rng, has_clocks(number)), {}, []
     players = [Player(table, configurations, forgets_first) for forgets_first in (False, True)]
@@ -200,7 +201,7 @@ def lines_of(table, players):
 
 
 def difference(commands, answers, told):
-    """Where it differs what a player of hook_trial told, or None."""
+    """The place in which what a player of hook_trial reported differs, or None."""
     at = 0
     for number, (command, answer) in enumerate(zip(commands, answers)):
         if not told.startswith(answer, at):
@@ -210,7 +211,7 @@ def difference(commands, answers, told):
 
 
 def played(numbers):
-    """What is wrong with these plays, played by one process, how the commands ended, and what became of the children."""
+    """What is wrong with these plays, played by one process, how the commands ended, and the outcomes of the children."""
     plays = [play_of(number) for number in numbers]
     done = subprocess.run([PROGRAM], input="".join(lines_of(table, players) for table, _, players in plays).encode(), capture_output=True)
     found = [bytes.fromhex(text) for text in done.stdout.decode().splitlines()]

@@ -1,25 +1,24 @@
 #!/usr/bin/env python3
-"""Plays random commands on repositories in real files by two hosts, each command in a process of its own, so that the
-store is closed and opened between any two. One host remembers what children answered, at most as many answers as a
-command of the play has said; the other remembers one answer alone, and in three plays of four it's told `forget` before
-each command that can run hooks, so that it runs them from scratch.
+"""Plays random commands on repositories in real files by two hosts, and compares both with each other and with the model of a book. Each
+command is in a process of its own, so that the store is closed and opened between any two. One host caches what children answered, at
+most as many answers as a command of the play has set. The other caches only one answer. In three plays of four `forget` is run before
+each of its commands that can run hooks, so that it runs them from scratch.
 
 Usage: tests/plays/process_plays.py [PLAYS [COMMANDS [SEED]]]   (default: 40 plays of 60 commands each, of the seeds from 1 on)
 
-Both have to print the same, to end with the same status, and to leave the same repository, which SQLite reads in the
-file of the store alone. The children are tests/plays/play_child.c: what they answer follows from their words and from the
-files that they have seen, and each says in a log of its host that it was started. The log of the host that remembers
-one answer tells which children a command needs, in their order: it lacks only those that are the last answer, whose
-look-up changes no book. From that follows what the other has to start: the children that its book lacks, and in a fresh
-run all of them. The model of a book is the list of tests/shared/list_book.py. It knows the words of a child and the files that
-it has seen by a digest that the child says, and their modes, which the child can't see, from the store. What ended as
-an answer and changed its seen files alone is put into it. After each command each store has to remember the same in the
-same order: the digests are told anew from the contents that its uses name.
+Both have to print the same, to end with the same status, and to leave the same repository, which SQLite reads in the file of the
+store alone. The children are tests/plays/play_child.c. Their answers depend on their words and on the files that they have seen, and
+each records in a log of its host that it was started. The log of the host with one answer shows which children a command needs, in
+their order, except those that are the last answer, whose look-up changes no book. So it follows what the other has to start: the
+children that its book lacks, and in a fresh run all of them. The model of a book is the list of tests/shared/list_book.py. It knows
+the words of a child and the files that it has seen by a digest that the child prints. Their modes, which the child can't see, it
+knows from the store. What ended as an answer and changed only files that it saw is put into it. After each command each store has to
+have the same answers in the same order: the digests are computed again from the contents that its uses name.
 
-With an even seed some children print a clock, which moves between commands. The host that remembers reports what it
-said when the answer was remembered, and behind a fresh run it names the hooks of which the clock says otherwise now.
+With an even seed some children print a clock, which moves between commands. The host that caches reports what it said when the answer
+was cached, and after a fresh run it names the hooks for which the clock now differs.
 
-What a command prints and leaves beside that isn't the model's: tests/plays/plays.py says it of hosts in memory.
+This model checks no more of what a command prints and leaves: tests/plays/plays.py checks that for hosts in memory.
 """
 import collections
 import json
@@ -45,7 +44,7 @@ from places import program
 PROGRAM = program("hookhost")
 GIVEN = [int(word) for word in sys.argv[1:]]
 PLAYS, COMMANDS, SEED = [*GIVEN, *(40, 60, 1)[len(GIVEN):]]
-# After so many commands, and at the end, both hosts print what they show.
+# After this many commands, and at the end, both hosts print what they show.
 LOOK_AFTER = 20
 CONFIGURATION, NO_CONFIGURATION = ".pre-commit-config.yaml", b"repos: 1\n"
 # A file that is always staged, so that a child may change it without having seen it.
@@ -75,12 +74,12 @@ OF_MESSAGES = ["prepare-commit-msg", "commit-msg"]
 STAGES = [[]] * 4 + [["pre-commit"], ["pre-commit", "manual"], OF_MESSAGES, ["commit-msg"], ["post-commit"]]
 # The most bytes of a command, with one byte between words, and how often a hook has one that is nearly so long.
 MOST_COMMAND, LONG = 131_072, 0.06
-# How often each kind of command is drawn, those at the beginning of a play, and how often what hinders hooks is mended.
+# How often each kind of command is drawn, those at the beginning of a play, and how often what keeps hooks from running is fixed.
 KINDS = {
     "add": 16, "configuration": 5, "executable": 4, "rm": 3, "run": 30, "again": 20, "commit": 24, "accept": 2,
     "forget": 2, "memory": 2, "limit": 4, "status": 1, "fixes": 1, "log": 1, "show": 1,
 }
-# At most how many answers the host that remembers keeps.
+# At most how many answers the host that caches keeps.
 LIMITS = [1, 2, 3, 5, 10_000, 10_000]
 BEGINNING = ["anchor", "configuration", "add", "add", "add"]
 MENDED = 0.4
@@ -95,15 +94,14 @@ SHOWN = {
 # The words, the contents of the file that is to be staged, the value of SKIP, and whether the clock moves before it.
 Command = collections.namedtuple("Command", "words held skip ticks", defaults=[None, None, False])
 File = collections.namedtuple("File", "mode held")
-# The children that are started, the ids of the unsteady hooks, and what the clock said when each child answered, by
-# its digest. It
-# may have said two things within a command, where the answer was dropped in between.
+# The children that are started, the ids of the unsteady hooks, and what the clock said when each child answered, by its digest. It may
+# have said two things within a command, if the answer was dropped in between.
 Starts = collections.namedtuple("Starts", "children unsteady said")
 
 
 class Child(collections.namedtuple("Child", "ending letters digest modes")):
-    """How a child ends, the letters that say what it may do, a digest of its words and of the files that it has seen,
-    and these files' paths with their modes."""
+    """How a child ends, the letters that say what it may do, and a digest of its words and of the files that it has seen. Then these
+    files' paths with their modes."""
 
     @property
     def key(self):
@@ -113,7 +111,7 @@ class Child(collections.namedtuple("Child", "ending letters digest modes")):
 # ---- what is drawn by chance
 
 def random_hook(rng, number, has_clock):
-    """The keys of a hook. Where its children see all files, or a further one, a word tells them so."""
+    """The keys of a hook. If its children see all files, or a further one, a word says so to them."""
     chance = lambda part: rng.random() < part
     hook = {"id": f"h{number}", "name": rng.choice(["Hook", "A name"]), **rng.choice(OTHER_HOOKS)}
     if chance(0.85):
@@ -135,8 +133,8 @@ def random_hook(rng, number, has_clock):
 
 
 def with_long_argument(rng, hook):
-    """The hook with an argument that leaves so few bytes to names that it needs several children, or some name doesn't
-    fit. A further file that its children see is still told to them."""
+    """The hook with an argument that leaves only few bytes to names: it needs several children, or some name doesn't fit. A further file
+    that its children see is still named to them."""
     also = [word for word in hook.get("args", []) if word.startswith("--also=")]
     argument = "n" * (MOST_COMMAND - len(" ".join(["play_child", "c", *also, ""])) - rng.choice([8, 12, 16, 20, 24]))
     keys = {"language": "system", "entry": "play_child c", "args": [argument, *also], "pass_filenames": True}
@@ -148,7 +146,7 @@ def random_configuration(rng, has_clock):
     if rng.random() < 0.03:
         return NO_CONFIGURATION
     hooks = [random_hook(rng, number, has_clock) for number in range(rng.choice([0, 1, 2, 2, 3, 3, 4]))]
-    # A hook whose children print the clock has them for itself, so that they tell which hook is unsteady.
+    # A hook whose children print the clock has them for itself, so that they show which hook is unsteady.
     shared = [hook for hook in hooks if not re.search(r"t\d$", hook["entry"])]
     if shared and rng.random() < 0.3:
         # Two hooks that start the same children, at times with one id.
@@ -160,7 +158,7 @@ def random_configuration(rng, has_clock):
 
 
 def random_command(rng, kind, has_clock, staged, last):
-    """A command of this kind, where these files are staged, and this was the last command that ran hooks."""
+    """A command of this kind, if these files are staged, and this was the last command that ran hooks."""
     skip = rng.choice(["h0", " h1 , ,other", "nope", ""]) if rng.random() < 0.2 else None
     ticks = has_clock and rng.random() < 0.5
     if kind == "again":
@@ -212,7 +210,7 @@ def random_again(rng, last):
 # ---- the hosts
 
 class Host:
-    """A repository in a folder of its own, and what the model says that is remembered in it."""
+    """A repository in a folder of its own, and what the model says that is cached in it."""
 
     def __init__(self, top, name):
         self.folder, self.log, self.known = os.path.join(top, name), os.path.join(top, f"{name}.log"), 0
@@ -241,19 +239,19 @@ class Host:
         check(answer == (0, wanted, b""), f"{words!r} is answered {answer!r}, wanted {wanted!r}")
 
     def memory(self):
-        """That `memory` prints how many answers the model remembers."""
+        """Checks that `memory` prints how many answers the model has."""
         self.does(("memory",), f"remembered: {len(self.book)}\n".encode())
 
     def forget(self):
         self.does(("forget",), f"forgotten: {self.book.forget()}\n".encode())
 
     def limit(self, number):
-        """That a limit drops what the model drops."""
+        """Checks that a limit drops what the model drops."""
         self.book.keep_to(number)
         self.does(("memory", f"--limit={number}"), f"remembered: {len(self.book)}\n".encode())
 
     def children(self, staged):
-        """The children that were started since this was asked last, in their order, where these files were staged."""
+        """The children that were started since the last call, in their order, if these files were staged."""
         with open(self.log, "rb") as file:
             file.seek(self.known)
             text = file.read()
@@ -261,7 +259,7 @@ class Host:
         return [child_of(line, staged) for line in text.decode().split("\n")[:-1]]
 
     def starts(self, children, is_fresh, clock):
-        """Which of the children that a command needs are started. What is remembered of these is put into the book, with what
+        """Which of the children that a command needs are started. What is cached of these is put into the book, with what
         the clock says."""
         starts = Starts([], [], collections.defaultdict(set))
         for child in children:
@@ -278,7 +276,7 @@ class Host:
         return starts
 
     def shown(self):
-        """The repository that the store's file alone shows, the book that it remembers, and whether it is whole."""
+        """The repository that the store's file alone shows, the book that it holds, and whether it is whole."""
         held = Path(self.folder, STORE).read_bytes()
         database = sqlite3.connect(":memory:")
         # The database in memory has no log, so the bytes must not ask for one.
@@ -291,14 +289,14 @@ class Host:
         return found
 
     def check_book(self, found):
-        """That a book in a store is that of the model."""
+        """Checks that a book in a store is that of the model."""
         wanted = book_of(self.book)
         check(found == wanted,
               f"it remembers {len(found.keys)} answers, {found!r:.1000}, wanted {len(wanted.keys)}, {wanted!r:.1000}")
 
 
 def child_of(line, staged):
-    """The child that a line of the log tells. Of the files that it may have seen only the message isn't staged, and is plain."""
+    """The child of a line of the log. Of the files that it may have seen only the message isn't staged, and is plain."""
     check(line != "broken", "a child finds what can't be, or can't do what it has to")
     ending, letters, digest, *paths = line.split("\t")
     return Child(ending, letters, digest, tuple((path, staged[path].mode if path in staged else 0) for path in paths))
@@ -325,7 +323,7 @@ class Play:
                 self.look()
 
     def random_kind(self):
-        """A kind of command. What keeps hooks from being run, or from passing again, is often mended at once."""
+        """A kind of command. What keeps hooks from being run, or from passing again, is often fixed at once."""
         if self.rng.random() < MENDED:
             if self.has_fixes:
                 return "accept"
@@ -334,7 +332,7 @@ class Play:
         return self.rng.choices(list(KINDS), KINDS.values())[0]
 
     def step(self, command):
-        """Plays a command by both hosts, and looks at what they say and leave."""
+        """Plays a command by both hosts, and looks at what they print and leave."""
         self.commands.append(command)
         self.clock += command.ticks
         write(self.top, "clock", str(self.clock).encode())
@@ -350,8 +348,8 @@ class Play:
         self.check_shown()
 
     def ask_of_memory(self, command):
-        """Counts what both hosts remember, or has them forget it; or sets the limit of the one that remembers more than
-        one answer."""
+        """Counts the cached results of both hosts, or has them drop these. Or sets the limit of the one that caches more than one
+        answer."""
         word, *limit = command.words
         if limit:
             self.ends["answers dropped by a limit"] += len(self.remembering.book)
@@ -361,7 +359,7 @@ class Play:
             host.forget() if word == "forget" else host.memory()
 
     def check_children(self, is_fresh):
-        """That both hosts started what they had to. What the one that remembers has started."""
+        """Checks that both hosts started what they had to. Answers what the one that caches has started."""
         remembering, forgetting = self.remembering.children(self.staged), self.needed(is_fresh)
         starts = self.remembering.starts(forgetting, is_fresh, self.clock)
         check(remembering == starts.children, f"it starts {remembering!r}, wanted {starts!r}; from scratch {forgetting!r}")
@@ -371,15 +369,15 @@ class Play:
         return starts
 
     def needed(self, is_fresh):
-        """The children that a command needs, which the host that remembers one answer alone has started. Those that it
-        lacks are no look-up of an answer that isn't in front."""
+        """The children that a command needs, which the host that caches one answer alone has started. Those that it lacks are no look-up
+        of an answer that isn't in front."""
         children = self.forgetting.children(self.staged)
         wanted = self.forgetting.starts(children, is_fresh, self.clock).children
         check(children == wanted, f"from scratch it starts {children!r}, of which it remembers some")
         return children
 
     def check_shown(self):
-        """That both stores show the same repository, and remember what the model does."""
+        """Checks that both stores show the same repository, and have the cached results of the model."""
         (remembering, book), (forgetting, other) = (host.shown() for host in self.hosts)
         for name in SHOWN:
             found, wanted = remembering[name], forgetting[name]
@@ -390,7 +388,7 @@ class Play:
         self.staged = {path: File(mode, held) for path, mode, held in forgetting["staged files"]}
 
     def look(self):
-        """That both hosts print the same of what they show, and how many answers they remember."""
+        """Checks that both hosts print the same of what they show, and how many answers they have cached."""
         commands = [Command((word,)) for word in ("status", "fixes", "log")]
         found, wanted = ([host.play(command) for command in commands] for host in self.hosts)
         check(found == wanted, f"it shows {found!r:.2000}, and from scratch {wanted!r:.2000}")
@@ -399,7 +397,7 @@ class Play:
 
 
 def check_answers(remembering, forgetting, starts):
-    """That both hosts say the same, but for unsteady hooks, and for what the clock said when a child answered."""
+    """Checks that both hosts print the same, except for unsteady hooks, and for what the clock said when a child answered."""
     unsteady = b"".join(f"unsteady: {name}\n".encode() for name in dict.fromkeys(starts.unsteady))
     wanted = with_clocks(forgetting[1], starts.said) + unsteady
     found = with_clocks(remembering[1], {digest: clocks for digest, clocks in starts.said.items() if len(clocks) > 1})
@@ -408,7 +406,7 @@ def check_answers(remembering, forgetting, starts):
 
 
 def with_clocks(out, said):
-    """What is printed, where each of these children tells all that the clock said when it answered."""
+    """What is printed, with all that the clock said when each of these children answered."""
     def told(found):
         clocks = said.get(found[1].decode())
         if clocks is None:
@@ -419,7 +417,7 @@ def with_clocks(out, said):
 
 
 def line_of(command):
-    """A line that tells a command, with the contents of the file that it stages."""
+    """A line with a command, with the contents of the file that it stages."""
     clock = "(the clock moves) " if command.ticks else ""
     skip = "" if command.skip is None else f"SKIP={shlex.quote(command.skip)} "
     words = " ".join(shlex.quote(word) if word.isprintable() else f"${word!r}" for word in command.words)

@@ -1,15 +1,15 @@
 #!/usr/bin/env python3
-"""Plays the tables of tests/rows/tables/ by the built programs for tests and compares each answer, to the byte.
+"""Runs the tables of tests/rows/tables/ by the built programs for tests and compares each answer, to the byte.
 
 Usage: tests/rows/rows.py [TABLE..]   (default: all tables, each by the name of its file without `.py`)
 
-A table is a Python file with two names: PROGRAM, the crate whose program plays it, and ROWS, one row a line:
+A table is a Python file with two names: PROGRAM, the crate whose program runs it, and ROWS, one row a line:
 
     ("read_path", "a//b", "4 EmptyPart"),
 
-A row is the call, its arguments and the answer, each a `str` (taken as UTF-8) or `bytes`. The program reads a line for
-each row on standard input, the call's name and its arguments in hexadecimal digits (`-` where there are none), parted
-by blanks, and answers by one line, the answer in hexadecimal digits. All rows of a table are played by one process.
+A row is the call, its arguments and the answer, each a `str` (taken as UTF-8) or `bytes`. The program reads a line for each row on
+standard input: the call's name and its arguments in hexadecimal digits (`-` if there are none), with blanks between. It answers by
+one line, the answer in hexadecimal digits. All rows of a table are run by one process.
 """
 import os
 import subprocess
@@ -27,7 +27,7 @@ def as_bytes(word):
 
 
 def played(crate, rows):
-    """The answers of one process to all rows, fewer where it ended before its input, and what is wrong with how it ended."""
+    """The answers of one process to all rows, fewer if it ended before its input, and what is wrong with how it ended."""
     path = program(crate)
     if not os.path.exists(path):
         sys.exit(f"rows: there is no {os.path.relpath(path, TOP)}: build it with `rt run` in crates/{crate}")

@@ -6,22 +6,22 @@ Usage: tests/sessions/sessions.py [PROGRAM [CASE]]   (default: crates/hookhost/o
 A session file holds cases. `== NAME` begins a case, in an empty folder. Within it:
   -- file PATH      the lines that follow are the file's content
   -- bytes PATH     the same, with Python's escapes, for bytes that no text file keeps; line ends are as written
-  -- fill PATH N    `#` after `#` is put at the file's end, until it has N bytes
-  -- repeat N PATH  the lines that follow are put at the file's end N times
+  -- fill PATH N    `#` is added at the file's end until it has N bytes
+  -- repeat N PATH  the lines that follow are added at the file's end N times
   -- folder PATH    an empty folder
   -- link PATH TARGET   a symbolic link
-  -- remove PATH    the file is removed, or the folder with all that lies in it
+  -- remove PATH    the file is removed, or the folder with all in it
   -- demo           the files of demo/
   -- stdin          the lines that follow are the next command's standard input
-  -- stdin PATH     the file's content is, or the folder itself, which can't be read
+  -- stdin PATH     the file is its standard input, or the folder, which can't be read
   -- run WORD ..    runs `hookhost WORD ..`, the words cut as a shell cuts them
   -- run-bytes WORD ..   the same with Python's escapes, the words cut at blanks, for words that no text file keeps
-  -- stdout, -- stderr   what that command printed there, to the byte (nothing where left out); how long a hook took is N
+  -- stdout, -- stderr   what that command printed there, to the byte (nothing if left out); how long a hook took is N
   -- stdout bytes   the same of standard output with Python's escapes; line ends are as written
   -- stdout build   the same of standard output, and then the line that the end of the program's file says of its build
-  -- shown in PATH  what it printed stands in that file of the repository, to the byte
+  -- shown in PATH  that file of the repository has what it printed, to the byte
   -- stderr contains TEXT   a part of what it printed there
-  -- status N       its exit status (0 where left out)
+  -- status N       its exit status (0 if left out)
   -- output FILE    its standard output goes to this file, as /dev/full, and isn't compared
   -- locked         another process holds the lock while the next command runs
   -- environment NAME=VALUE   the variable has this value in the next command's environment
@@ -29,12 +29,12 @@ A session file holds cases. `== NAME` begins a case, in an empty folder. Within 
   -- sql TEXT       sqlite3 answers this to SQL on the store: the lines that follow, and nothing else
   -- files          the lines that follow are the folder's files, all of them, in order
 
-After each command but an `init`, `add`, `rm`, `accept`, `run`, `run-files`, `commit`, `forget` or `memory --limit` that
-is done, every file has to be as it was; it is done also where its output takes no more, and where a hook fails. Behind
-one that runs hooks and is refused, the repository in the store has to be as it was, since answers may have been
-remembered. So it has to be behind any command that takes a store of an earlier version over. Two files may change,
-since every command that opens a store does that to them: the lock, and the log that the database begins anew. What lies
-in the scratch folder of the commands of hooks isn't looked at, nor is the folder that holds it.
+After each command every file has to be as it was, except after an `init`, `add`, `rm`, `accept`, `run`, `run-files`, `commit`,
+`forget` or `memory --limit` that is done. Such a command is done also if its output can't be written, or if a hook fails. After one
+that runs hooks and is refused, the repository in the store has to be as it was, since results may have been cached. The same holds
+after any command that converts a store of an earlier version. Two files may change, since every command that opens a store changes
+them: the lock, and the log that the database begins again. The scratch folder of the commands of hooks isn't compared, nor is the
+folder that holds it.
 """
 import fcntl
 import os
@@ -62,7 +62,7 @@ REPOSITORY = ("staged", "fixes", "commits", "entries")
 # What `meta` has in a store of an earlier version.
 EARLIER = [("version", 1)]
 CHANGING = ("init", "add", "rm", "accept", "run", "run-files", "commit", "forget")
-# A line that tells how long a hook took.
+# A line that says how long a hook took.
 DURATION = re.compile(rb"^(duration: .* )[0-9]+\.[0-9]{2}s$", re.MULTILINE)
 
 
@@ -89,7 +89,7 @@ def cases_of(path):
 
 
 def commands_of(steps):
-    """The steps as a list of files to lay, commands with what they must print, and looks at the folder."""
+    """The steps as a list of files to write, commands with what they must print, and looks at the folder."""
     stdin, is_locked, environment, command = b"", False, {}, None
     for head, body in steps:
         word, _, rest = head.partition(" ")
@@ -131,12 +131,12 @@ def content(path):
 
 
 def held_at(path):
-    """What a file holds, or where a link leads."""
+    """What a file holds, or the target of a link."""
     return os.readlink(path) if os.path.islink(path) else content(path)
 
 
 def files_that_stay():
-    """The folders and the files below this folder with their contents, but for those that commands may change."""
+    """The folders and the files below this folder with their contents, except those that commands may change."""
     found = {}
     for folder, folders, names in os.walk("."):
         folders[:] = [name for name in folders if os.path.join(folder, name) != SCRATCH]
@@ -146,7 +146,7 @@ def files_that_stay():
 
 
 def rows_in(store, tables):
-    """The rows of these tables of a store, whose file holds these bytes, or None where it is no database that has
+    """The rows of these tables of a store, whose file holds these bytes, or None if it is no database that has
     them."""
     database = sqlite3.connect(":memory:")
     try:
@@ -166,7 +166,7 @@ def changes_all(words):
 
 
 def is_left(before, after, words):
-    """The files are as before. Behind hooks the store may have other answers, and one of an earlier version may be
+    """The files are as before. After hooks the store may have other answers, and one of an earlier version may be
     taken over."""
     store = "./" + STORE
     if before == after or store not in before or store not in after:
@@ -231,12 +231,12 @@ def look(kind, what, body):
 
 
 def answer_of(words, given):
-    """What another program prints, whatever its status."""
+    """What another program prints, with any exit status."""
     return subprocess.run(words, input=given, stdout=subprocess.PIPE, stderr=subprocess.STDOUT, text=True, timeout=60).stdout
 
 
 def lay(kind, what, body):
-    """Lays the files of a step."""
+    """Writes the files of a step."""
     if kind == "folder":
         os.makedirs(what)
     elif kind == "link":

@@ -1,4 +1,4 @@
-"""What the end of a program's file says of how it was built, in the form that docs/REFERENCE.md tells."""
+"""What the end of a program's file says of how it was built, in the form of docs/REFERENCE.md."""
 import os
 import re
 
@@ -20,7 +20,7 @@ def build_line(program):
 
 
 def without_stamp(program):
-    """The bytes of a program without its stamp, where it has one."""
+    """The bytes of a program without its stamp, if it has one."""
     with open(program, "rb") as file:
         held = file.read()
     return held[:-BYTES] if STAMP.fullmatch(held[-BYTES:]) else held

@@ -1,5 +1,5 @@
-"""The steps of rows of the call `command_over` of hook_trial, for the tables of hook_cli: what a repository in memory is set up with
-and asked for, and what is answered."""
+"""The steps of rows of the call `command_over` of hook_trial, for the tables of hook_cli. They say what a repository in memory is set up
+with and asked for, and what is answered."""
 
 STORE = ("store",)
 
@@ -26,18 +26,18 @@ def several(*edits, err="all"):
 
 
 def ended(status, out="", err="", flushes=("", "")):
-    """What a line is answered by: its status, how many bytes stand on the writers, and these."""
+    """What is answered to a line: its exit status, how many bytes are on the writers, and these."""
     out, err = as_bytes(out), as_bytes(err)
     head = f"status {status}, out {flushes[0]}{len(out)}, err {flushes[1]}{len(err)}\n"
     return head.encode() + out + err
 
 
-# What standard error says where standard output gives an error.
+# What standard error says if standard output gives an error.
 UNTAKEN = "hookhost: standard output was not taken\n"
 
 
 def cut_off(out="", err=UNTAKEN):
-    """What a line is answered by of whose text standard output took this much before it gave an error."""
+    """What is answered to a line whose text standard output took up to this many bytes before it gave an error."""
     return ended(3, out=out, err=err)
 
 
@@ -50,7 +50,7 @@ def refused(said):
 
 
 def kept(staged=(), head=(), fixes=0, commits=0):
-    """What a store is answered by. A file is its path, its contents and, where it isn't plain, its mode."""
+    """What a store is answered by. A file is its path, its contents and, if it isn't plain, its mode."""
     told = b""
     for name, files in (("staged", staged), ("head", head)):
         for path, contents, *mode in files:

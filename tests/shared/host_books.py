@@ -1,9 +1,8 @@
-"""The book that a store remembers, beside the model of tests/shared/list_book.py: for tests/host/host.py, and for
+"""Compares the book of a store with the model of tests/shared/list_book.py: for tests/host/host.py, and for
 tests/plays/process_plays.py and tests/plays/long_runs.py, whose children are tests/plays/play_child.c.
 
-Such a child says of itself a digest of its words and of the files that it has seen. Here that is told anew from the
-contents that a use of the store names, so that the uses tell which child's answer is the first, which the second, and
-so on.
+Such a child prints a digest of its words and of the files that it has seen. Here it is computed again from the contents that a use of
+the store names, so the uses show which child's answer is the first, which the second, and so on.
 """
 import collections
 import struct
@@ -11,32 +10,32 @@ import struct
 from host_program import check
 from list_book import ListBook
 
-# The limit, and the keys of the answers that are remembered, the most recently used first.
+# The limit, and the keys of the answers that are cached, the most recently used first.
 Book = collections.namedtuple("Book", "limit keys")
-# The kinds of what lies in a folder, as a child tells them.
+# The kinds of what lies in a folder, as a child reports them.
 FILE, FOLDER = 0, 1
-# What rows were found to tell, which are the same in any store.
+# The children that rows were found to have, which are the same in any store.
 FOUND = {}
 
 
 def book_of(model):
-    """The book that a model tells."""
+    """The book of a model."""
     return Book(model.limit, [key for key, _ in model.rows()])
 
 
 def model_of(book, told=True):
-    """The model of a book, in which the same is told of each key."""
+    """The model of a book, in which the same is cached for each key."""
     model = ListBook(book.limit)
     for key in reversed(book.keys):
         model.put(key, told)
     return model
 
 
-# ---- the children that a store tells of
+# ---- the children in a store
 
 def children_in(database):
-    """The book of a store, each answer of which has to have its use. A key is what a child says of itself, and the
-    paths of the files that it has seen with their modes."""
+    """The book of a store, each answer of which has to have its use. A key is the digest that a child prints, and the paths of the files
+    that it has seen with their modes."""
     ask = lambda text, *given: database.execute(text, given).fetchall()
     (limit,), = ask("SELECT value FROM meta WHERE name = 'limit'")
     rows = ask("SELECT words, seen FROM uses ORDER BY tick DESC")
@@ -49,10 +48,10 @@ def children_in(database):
 
 
 def key_of(words, seen, held):
-    """What a child says that has these records."""
+    """What a child prints that has these records."""
     words = read_list(words, read_bytes)
     files = {path: (mode, held(digest)) for path, mode, digest in read_list(seen, read_seen)}
-    # One that has seen all files tells the folders too. The empty `.git` is there as at the top of a working tree.
+    # One that has seen all files reports the folders too. The empty `.git` is there as at the top of a working tree.
     folders = {b".git", *(path[:at] for path in files for at, letter in enumerate(path) if letter == ord("/"))}
     folders = folders if b"--whole" in words else set()
     state = 14695981039346656037

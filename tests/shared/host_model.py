@@ -1,13 +1,12 @@
-"""A model of a host: the commits, the staged files and the fixes as plain lists and dictionaries, and the book of remembered answers
-as the list of tests/shared/list_book.py.
+"""A model of a host: the commits, the staged files and the fixes as plain lists and dictionaries, and the book of cached results as the
+list of tests/shared/list_book.py.
 
-tests/plays/plays.py plays it beside the program hook_trial, and the table tests/rows/tables/commit_flow_fused.py and
-tests/memory/refused_memory.py have their answers from it. It says of each command what a host replies, as the program prints it
-and as hook_trial tells it; what is left then; and which children were started. One child of it may fail, as that of the kit's
-name `FuseChildren` does, and at one place it may be refused memory.
+tests/plays/plays.py compares the program hook_trial with it, and the table tests/rows/tables/commit_flow_fused.py and
+tests/memory/refused_memory.py have their answers from it. For each command it gives what a host replies, as the program prints it and
+as hook_trial gives it; what is left then; and which children were started. One child of it may fail, as that of the kit's name
+`FuseChildren` does, and at one place it may be refused memory.
 
-What a configuration's text means, and how patterns are read, isn't the model's: its hooks are made of values, and the text
-from them.
+What a configuration's text means, and how patterns are read, isn't the model's: its hooks are made of values, and the text from them.
 """
 import collections
 import json
@@ -82,7 +81,7 @@ def line_of(contents):
     return contents[:-1].replace(b"\n", b"\x01").decode()
 
 
-# ---- what is remembered
+# ---- what is cached
 
 class FixedTable:
     """A table of rows, each the words of a child, the files that it has seen, and its outcome."""
@@ -100,9 +99,9 @@ class Want(Exception):
 
 
 class Memory:
-    """The children of a host, and the book of what it remembers of them, with the limit of a new one. The call of the number `kth` fails
-    with `fault`. `want` is where memory is refused, if anywhere: the number of a call and whether it is refused before its `start` or at
-    the `put` of its answer, or the number of a command (`Machine`)."""
+    """The children of a host, and the book of their cached results, with the limit of a new one. The call of the number `kth` fails with
+    `fault`. `want` is the place at which memory is refused, if anywhere. It is the number of a call and whether it is refused before its
+    `start` or at the `put` of its answer, or the number of a command (`Machine`)."""
 
     def __init__(self, table, kth=0, fault=None, want=None):
         self.table, self.kth, self.fault, self.want = table, kth, fault, want
@@ -112,8 +111,8 @@ class Memory:
         self.fused = None
 
     def told(self, words, seen, is_fresh):
-        """What becomes of the child of these words that has seen these files, and whether it now answers otherwise than is remembered.
-        It is looked for in a fresh run too, and so is used."""
+        """The outcome of the child of these words that has seen these files, and whether it now answers otherwise than is cached. It is
+        looked up in a fresh run too, and so is used."""
         key = tuple(words), tuple(sorted(seen.items()))
         found = self.book.find(key)
         if found is not None and not is_fresh:
@@ -133,7 +132,8 @@ class Memory:
         return outcome, is_other
 
     def start(self, key):
-        """What becomes of a child that is started: the first time it is told by the first of its rows, then by the next one, and so on."""
+        """The outcome of a child that is started: the first time it is given by the first of its rows, then by the next one, and so
+        on."""
         self.refuse_at(self.calls + 1, "start")
         self.calls += 1
         if self.calls == self.kth:
@@ -158,11 +158,11 @@ class Memory:
         return self.book.forget()
 
     def counts(self):
-        """How many children were started, how many of them failed, and how many answers are remembered."""
+        """How many children were started, how many of them failed, and how many answers are cached."""
         return f"{self.calls} calls, {self.faults} faults, {len(self.book)} remembered\n".encode()
 
     def take_rows(self):
-        """The rows by which children answered since this was asked last."""
+        """The rows by which children answered since the last call."""
         rows, self.started = "".join(" -" if number is None else f" {number}" for number in self.started), []
         return f"rows{rows}\n".encode()
 
@@ -240,7 +240,7 @@ def shebang(contents):
 
 
 def parts_of(words, names, most):
-    """The names of each child, as many as fit one command in turn and at most so many, or None where one doesn't fit with the words alone."""
+    """The names of each child, as many as fit one command in turn and at most so many, or None if one doesn't fit with the words alone."""
     room = MOST_COMMAND - len(" ".join(words))
     if room < 0 or any(room < 1 + len(name) for name in names):
         return None
@@ -293,7 +293,7 @@ def has_hook(configuration, stage, only):
     return not only or any(only in (hook.id, hook.alias) for hook in configuration[0] if not hook.stages or stage in hook.stages)
 
 
-# ---- replies: as the program prints them, and as hook_trial tells those of `Host::play`
+# ---- replies: as the program prints them, and as hook_trial gives those of `Host::play`
 
 def ended(status, out=b"", err=b""):
     return f"status {status}, out {len(out)}, err {len(err)}\n".encode() + out + err
@@ -304,7 +304,7 @@ def with_length(name, text):
 
 
 class Printed(NamedTuple):
-    """What a look-up is answered by, which is no command of `Host::play`."""
+    """What is answered to a look-up, which is no command of `Host::play`."""
     status: int
     out: bytes
     err: bytes = b""
@@ -349,7 +349,7 @@ class Ran(NamedTuple):
 
 
 class Committed(NamedTuple):
-    """A commit that is made. Where its last hooks were stopped, `post` is a text that says why."""
+    """A commit that is made. If its last hooks were stopped, `post` is a text that says why."""
     number: int
     reports: list
     post: object
@@ -377,7 +377,7 @@ class HooksFailed(NamedTuple):
 
 
 class Limited(NamedTuple):
-    """At most so many answers are remembered, which is no command of `Host::play`."""
+    """At most so many answers are cached, which is no command of `Host::play`."""
     left: int
 
     def printed(self):
@@ -413,7 +413,7 @@ def told_files(name, files):
     text = b""
     for path in sorted(files, key=str.encode):
         mode, held = "executable" if files[path].executable else "plain", files[path].contents
-        # Of a long file only the ends are told.
+        # Of a long file only the ends are reported.
         text += f"{name} {mode} {path} {len(held)}\n".encode() + (held[:100] + held[-100:] if len(held) > 4096 else held)
     return text
 
@@ -431,16 +431,16 @@ def cleaned(message):
 
 
 class Machine:
-    """A host. What each text means that is staged as a configuration is told to it. Where its memory's `want` is `("command", N)`,
-    memory is refused to the Nth command that it replies to, when it is about to change what is kept, and where it is `("post", N)`,
-    behind the last hooks of that commit."""
+    """A host. It is given the meaning of each text that is staged as a configuration. If its memory's `want` is `("command", N)`, memory
+    is refused to the Nth command that it replies to, when it is about to change what is kept. If it is `("post", N)`, memory is refused
+    after the last hooks of that commit."""
 
     def __init__(self, memory, configurations):
         self.history, self.staged, self.fixes, self.memory, self.configurations = [], {}, {}, memory, configurations
         self.replies = 0
 
     def reply(self, call):
-        """What a command is answered by."""
+        """What is answered to a command."""
         self.replies += 1
         before = self.history, self.staged, self.fixes
         try:
@@ -472,7 +472,7 @@ class Machine:
         return [path for path, file in self.staged.items() if self.head().get(path) != file]
 
     def fixes_to(self, tree):
-        """What became of the staged files in a tree."""
+        """How the files of a tree differ from the staged ones, as fixes."""
         gone = {path: None for path in self.staged if path not in tree}
         return gone | {path: file.contents for path, file in tree.items() if self.staged.get(path) != file}
 
@@ -546,7 +546,7 @@ class Machine:
         return Committed(len(self.history), reports, self.run_post_commit(configuration, skip))
 
     def run_post_commit(self, configuration, skip):
-        """The report of the hooks behind a commit, or what stopped them, which undoes nothing."""
+        """The report of the hooks after a commit, or what stopped them, which undoes nothing."""
         try:
             report = run_stage(configuration, "post-commit", [], "", skip, self.staged, self.memory).report
             self.memory.refuse_at("post", self.replies)
@@ -567,16 +567,16 @@ class Machine:
         return Printed(0, message + b"\n" + "".join(path + "\n" for path in sorted(tree, key=str.encode)).encode())
 
     def shown(self):
-        """What the step `store` of hook_trial is answered by."""
+        """What is answered to the step `store` of hook_trial."""
         text = told_files("staged", self.staged) + told_files("head", self.head())
         return text + f"fixes {len(self.fixes)}, commits {len(self.history)}\n".encode()
 
     def told(self):
-        """The repository, as hook_trial tells it behind `Host::play`."""
+        """The repository, as hook_trial gives it after `Host::play`."""
         text = told_files("staged", self.staged) + told_files("head", self.head()) + told_changes("fix", self.fixes)
         for at, (message, tree) in enumerate(self.history):
             text += with_length(f"commit {at + 1}", message) + told_files("committed", tree)
-        # No commit has the number 0, and none the one behind the last.
+        # No commit has the number 0, and none the one after the last.
         return text + b"no files\n" * 2
 
 
@@ -595,8 +595,8 @@ def call_of(command):
 
 
 def played(machine, commands):
-    """What hook_trial answers to a list of commands, by a machine that plays them: the replies, what is counted and remembered and
-    forgotten then, and the repository."""
+    """What hook_trial answers to a list of commands, by a machine that plays them: the replies, what is counted, cached and forgotten
+    then, and the repository."""
     replies = b"".join(machine.reply(call_of(command)).told() for command in commands)
     counts = machine.memory.counts()
     return replies + counts + f"{machine.memory.forget()} forgotten\n".encode() + machine.told()

@@ -32,13 +32,13 @@ TABLE = FixedTable([
     (["sign", MESSAGE], plain(MESSAGE, MARKED), Answer(0, b"", {MESSAGE: SIGNED})),
     (["tell"], {}, Answer(0, b"told\n", {})),
 ])
-# The hooks, and the commands behind the one that stages their configuration.
+# The hooks, and the commands after the one that stages their configuration.
 PLAYS = [
     # Of two hooks the first trims a file. Once its fix is accepted one of them is started again, and then none.
     ([TRIM, LOOK], [add("a.txt", b"x \n"), RUN, ACCEPT, RUN, RUN, FORGET]),
-    # The same, where what was remembered is asked for anew.
+    # The same, if what was cached is asked for again.
     ([TRIM, LOOK], [add("a.txt", b"x\n"), RUN, FRESH_RUN, RUN]),
-    # A commit refused and made, with a hook in each stage, and one more, of whose hooks each is remembered.
+    # A commit refused and made, with a hook in each stage, and one more, of whose hooks each is cached.
     (STAGED, [add("a.txt", b"x \n"), COMMIT, ACCEPT, COMMIT, add("b.md", b"1\n"), COMMIT, FORGET]),
 ]
 

@@ -1,4 +1,4 @@
-"""The built program in folders of its own: what it answers, and what lies in a repository then."""
+"""The built program in folders of its own: what it answers, and what is in a repository then."""
 import os
 import shutil
 import subprocess
@@ -49,7 +49,7 @@ def refuses(folder, words, text, **how):
 
 
 def owned_by_nobody(folder):
-    """A copy of the program that anyone may run, and how to run it as a user whom permissions hold back."""
+    """A copy of the program that anyone may run, and how to run it as a user who is subject to permissions."""
     if os.geteuid() != 0:
         return PROGRAM, {}
     copied = shutil.copy(PROGRAM, os.path.join(folder, "program"))
@@ -88,5 +88,5 @@ def write(folder, path, held):
 
 
 def paths_in(folder):
-    """All that lies in the folder."""
+    """All that is in the folder."""
     return sorted(os.path.relpath(os.path.join(at, name), folder) for at, folders, names in os.walk(folder) for name in (*folders, *names))

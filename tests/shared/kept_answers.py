@@ -1,10 +1,10 @@
-"""The records of a remembered answer, and the rows that it has in a store, put together apart from the program."""
+"""The records of a cached result, and the rows that it has in a store, put together apart from the program."""
 import collections
 import hashlib
 import struct
 
-# The words of a command as bytes; the files that its child saw as (path, mode, contents) and what became of them as
-# (path, contents, or none where one is gone), both in the order of their paths; what it wrote; its exit code.
+# The words of a command as bytes. The files that its child saw as (path, mode, contents) and what became of them as (path, contents, or
+# none if one is gone), both in the order of their paths. What it wrote, and its exit status.
 KeptAnswer = collections.namedtuple("KeptAnswer", "words seen changes status output", defaults=[b""])
 
 
@@ -55,7 +55,7 @@ def contents_of(answer):
     return seen + [contents for _, contents in answer.changes if contents is not None] + records_of(answer)
 
 
-# Version 2 of a store keeps these beside the answers, and the greatest of them in front.
+# Version 2 of a store keeps these next to the answers, and the greatest of them in front.
 GREATEST_TICK = 2 ** 62
 # SQL that makes a store of version 1 of one of version 2.
 TO_VERSION_1 = "DELETE FROM meta WHERE name = 'limit'; UPDATE meta SET value = 1 WHERE name = 'version'; DROP TABLE uses"
@@ -76,8 +76,7 @@ def use_of(answer):
 
 
 def using(words, seen):
-    """SQL that brings the answer under two digests, in hexadecimal, to the front of a store of version 2, where it has
-    no use yet."""
+    """SQL that brings the answer under two digests, in hexadecimal, to the front of a store of version 2, if it has no use yet."""
     return f"INSERT INTO uses SELECT x'{words}', x'{seen}', coalesce(max(tick), 0) + 1 FROM uses"
 
 
@@ -90,8 +89,8 @@ def planting(contents, records, status, version=2):
 
 
 def statements_of(answers, tick=None):
-    """SQL that puts the rows of answers into a store, and their uses where they have a tick: that of the first, and one
-    more for each further one."""
+    """SQL that puts the rows of answers into a store, and their uses if they have a tick: that of the first, and one more for each
+    further one."""
     columns = [row_of(answer).split("|") for answer in answers]
     rows = ["INSERT INTO answers VALUES (x'{}', x'{}', x'{}', x'{}', {})".format(*each) for each in columns]
     uses = [] if tick is None else [
@@ -100,8 +99,8 @@ def statements_of(answers, tick=None):
 
 
 def planting_all(answers, version=2):
-    """SQL that puts answers with all that they name into a store, in one transaction. Contents that many name are put
-    once. The last one stands in front of a store of version 2 then; nothing sees to its limit."""
+    """SQL that puts answers with all that they name into a store, in one transaction. Contents that many name are put once. The last one
+    is in front of a store of version 2 then. The limit isn't checked."""
     kept = sorted({each for answer in answers for each in contents_of(answer)})
     blobs = [f"INSERT OR IGNORE INTO blobs VALUES (x'{digest(each).hex()}', x'{each.hex()}')" for each in kept]
     uses = [using(*use_of(answer).split("|")) for answer in answers] if version == 2 else []

@@ -1,5 +1,4 @@
-"""The model of a book: what is remembered for each key, the most recently used first, and at most as many rows as its
-limit."""
+"""The model of a book: what is cached for each key, the most recently used first, and at most as many rows as its limit."""
 
 
 class ListBook:
@@ -18,11 +17,11 @@ class ListBook:
         return len(self.held)
 
     def __contains__(self, key):
-        """Whether a key is held, which uses no row."""
+        """Whether a key is held. Its row isn't used by that."""
         return key in self.held
 
     def rows(self):
-        """The keys with what is remembered for them, in their order."""
+        """The keys with what is cached for them, in their order."""
         return list(reversed(self.held.items()))
 
     def is_in_front(self, key):
@@ -30,7 +29,7 @@ class ListBook:
         return bool(self.held) and next(reversed(self.held)) == key
 
     def find(self, key):
-        """What is remembered for a key, or none."""
+        """What is cached for a key, or none."""
         if key not in self.held:
             return None
         self.held[key] = found = self.held.pop(key)
@@ -48,7 +47,7 @@ class ListBook:
             del self.held[next(iter(self.held))]
 
     def forget(self):
-        """Takes all rows out, and tells how many there were."""
+        """Takes all rows out, and says how many there were."""
         count = len(self.held)
         self.held.clear()
         return count

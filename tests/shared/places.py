@@ -1,4 +1,4 @@
-"""Where the parts of the repository lie, and the programs that are built of it."""
+"""The paths of the parts of the repository, and of the programs that are built from it."""
 import os
 
 TOP = os.path.abspath(f"{__file__}/../../..")

@@ -1,4 +1,4 @@
-"""The configurations, the children and the reports that the tables of remembered answers share, hook_run_remembered and
+"""The configurations, the children and the reports that the tables of cached answers share, hook_run_remembered and
 commit_flow_remembered."""
 
 
@@ -38,7 +38,7 @@ MODIFIED = "files were modified by this hook"
 T = hook("T", "c")
 PASSED = line("T", "Passed")
 
-# A child that takes the blank off a.txt, the same where there is none, and one that looks at it; and what their hooks report.
+# A child that takes the blank off a.txt, the same if there is none, and one that looks at it; and what their hooks report.
 TRIM = child("trim", "a.txt", seen=["a.txt=x "], changes="a.txt=x")
 TRIMMED, LOOK = child("trim", "a.txt"), child("look", "a.txt")
 TRIMS = ("changed a.txt\n", details("Trim", MODIFIED), line("Look", "Passed"))
@@ -50,6 +50,6 @@ def lint(number):
     return child("sh", "tools/lint.sh", "a.txt", seen=["a.txt=x", f"tools/lint.sh={number}"])
 
 
-# More answers than anyone would think a book has to make room for: each run sees another file.
+# More answers than a reader would expect a book to make room for: each run sees another file.
 MANY = 1_001
 MANY_FILES = [f"{number}\n" for number in range(MANY)]

@@ -1,4 +1,4 @@
-"""The tables of tests/rows/tables/, for what plays them and for what compares their rows with others."""
+"""The tables of tests/rows/tables/, for the scripts that play them and those that compare their rows with others."""
 import importlib.util
 import os
 import sys

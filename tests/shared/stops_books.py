@@ -1,5 +1,5 @@
-"""What a repository remembers, as SQLite reads it, and what becomes of that step by step, for tests/shared/stops_repository.py
-and tests/memory/refused_memory.py; and stores that only an old program leaves, or one that was killed, made of a new one by SQLite.
+"""The cached results of a repository, as SQLite reads them, and what becomes of them step by step, for tests/shared/stops_repository.py
+and tests/memory/refused_memory.py. Also stores that only an old program leaves, or one that was killed, made of a new one by SQLite.
 """
 import os
 import shutil
@@ -18,22 +18,21 @@ USED_ANSWERS = f"SELECT {COLUMNS} FROM answers JOIN uses USING (words, seen) ORD
 COUNTS = "SELECT (SELECT count(*) FROM answers), count(*), min(tick), max(tick) FROM uses"
 # A store of version 1 in as few pages as it takes.
 TO_SMALL_VERSION_1 = f"{TO_VERSION_1}; VACUUM"
-# With one tick left the first use has the greatest, and before the next one all are numbered anew.
+# With one tick left the first use has the greatest, and before the next one all are numbered again.
 TO_LAST_TICK = f"UPDATE uses SET tick = tick + {GREATEST_TICK} - 1 - (SELECT max(tick) FROM uses)"
 # A change that a killed program may have left in the log.
 CHANGE_IN_LOG = "DELETE FROM fixes; DELETE FROM staged WHERE path = 'e'"
 
 
 class Book(namedtuple("Book", "version limit answers")):
-    """The version of a store, how many answers it remembers at most, and their rows, the most recently used first. A store
-    of version 1 has no limit, and its rows stand as a migration lists them, that with the greatest key first."""
+    """The version of a store, how many answers it caches at most, and their rows, the most recently used first. A store of version 1 has
+    no limit. Its rows are in the order of a migration, that with the greatest key first."""
 
     def migrated(self):
         return self if self.version == 2 else Book(2, FIRST_LIMIT, self.answers[:FIRST_LIMIT])
 
     def used(self, rows):
-        """The books behind each of these uses and puts: its row is in front then, and the last one goes where the limit is
-        passed."""
+        """The books after each of these uses and puts: its row is in front then, and the last one is dropped if the limit is passed."""
         found, book = [], self
         for row in rows:
             others = tuple(other for other in book.answers if other[:2] != row[:2])
@@ -57,8 +56,8 @@ def book_by(ask):
 
 
 def steps_between(before, after, uses):
-    """The books that a command makes of one, each by a transaction: a migration, and so many uses and puts, or one other
-    change where `uses` is none."""
+    """The books that a command makes of one, each by a transaction: a migration, and so many uses and puts. If `uses` is none, it is one
+    other change instead."""
     if before is None:
         return [None, after]
     steps = [before] if before.version == 2 else [before, before.migrated()]
@@ -77,7 +76,7 @@ def execute(work, script):
 
 
 def execute_in_log(work, script):
-    """The same, where what is changed stands in the log alone, as behind a program that was killed."""
+    """The same, if what is changed is in the log alone, as after a program that was killed."""
     path = os.path.join(work, STORE)
     with tempfile.TemporaryDirectory() as folder:
         with closing(sqlite3.connect(path, isolation_level=None)) as database:

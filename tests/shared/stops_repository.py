@@ -1,8 +1,8 @@
-"""Repositories on which commands are stopped, for the scripts of tests/stops/: how they are made, what lies in one, and what a
-command may say and leave that a kill, a refused call or a limit has stopped.
+"""Repositories on which commands are stopped, for the scripts of tests/stops/: how they are made, and what is in one. Also what a command
+may print and leave that a kill, a refused call or a limit has stopped.
 
-The model of a command is the same command in a copy where nothing stops it. What lies in a repository is read by SQLite, in a copy
-of its two files that no program has opened since, and then shown by the program, which has to show just that.
+The model of a command is the same command in a copy in which nothing stops it. SQLite reads what is in a repository, in a copy of its
+two files that no program has opened since. Then the program shows it, and has to show just that.
 """
 import ctypes
 import hashlib
@@ -21,9 +21,9 @@ from host_program import LOCK, STORE, Wrong, check, write
 from stops_books import CHANGE_IN_LOG, TO_LAST_TICK, TO_SMALL_VERSION_1, book_by, execute, execute_in_log, steps_between
 
 CONFIGURATION, LOG, SCRATCH = ".pre-commit-config.yaml", STORE + "-wal", ".hookhost/scratch"
-# Where nothing has to reach a disk, a repository is copied and waited for in no time.
+# A folder whose files needn't reach a disk: there a repository is copied and waited for in no time.
 QUICK = "/dev/shm" if os.access("/dev/shm", os.W_OK) else None
-# Hooks of each stage of a commit, and of the stage `manual`, of which each has a file of its own: one file changes, one goes.
+# Hooks of each stage of a commit, and of the stage `manual`, of which each has a file of its own: one file changes, one is removed.
 HOOKS = b"""repos:
 - repo: local
   hooks:
@@ -38,14 +38,14 @@ HOOKS = b"""repos:
 RUN = ("run", "--hook-stage", "manual", "--all-files")
 IDS = {"Look": "look", "Refuse": "refuse", "Write": "write", "Behind": "behind", "Mend": "mend", "Away": "away", "Says": "says"}
 LOOKS = (("status",), ("fixes",), ("log",), ("cat", "b"))
-# What a command that is refused says, what it says of what it did, and of a file among several.
+# What a command prints that is refused, what it prints of what it did, and of a file among several.
 REFUSED = re.compile(rb"(hookhost: (refused: \d+ \w+(?: \d+)?|cannot use [\x20-\x7e]+|standard output was not taken)\n)"
                      rb"(hookhost: (at [\x20-\x7e]+|commit \d+ was made)\n)*")
 REPORT = re.compile(rb"^(\w+)\.+(?:\(no files to check\))?(?:Passed|Failed|Skipped)$", re.MULTILINE)
 FAULT = b"\n- fault: "
-# What is said first if it can't be told whether Git tracks the store: what that remembers is forgotten.
+# What is said first if it isn't known whether Git tracks the store: its cached results are forgotten.
 FORGOTTEN = b"hookhost: Git tracks .hookhost, or doesn't say: what is remembered there isn't used (git rm -r --cached .hookhost)\n"
-# What it says of a fault behind its report: what was in the way of files, and what could not be started.
+# What it prints of a fault after its report: what was in the way of files, and what could not be started.
 TROUBLES = re.compile(rb"(hookhost: (?!refused|cannot )[^\n]+: [^\n]+\n)?(hookhost: cannot start [^\n]*: [^\n]+\n)?")
 
 ROWS = (
@@ -60,11 +60,11 @@ Told = namedtuple("Told", "status out err")
 
 
 class Left(namedtuple("Left", "repository book")):
-    """The rows of a repository, and what it remembers. Both are None where there is no store."""
+    """The rows of a repository, and its cached results. Both are None if there is no store."""
 
     @property
     def answers(self):
-        """The rows of what is remembered, in their order."""
+        """The rows of what is cached, in their order."""
         return self.book.answers if self.book else ()
 
     def migrated(self):
@@ -75,7 +75,7 @@ class Left(namedtuple("Left", "repository book")):
 # ---- the program
 
 def adopt_orphans():
-    """Has this process be the parent of what outlives its own children, so that it can wait for that."""
+    """Makes this process the parent of what outlives its own children, so that it can wait for that."""
     ctypes.CDLL(None).prctl(36, 1, 0, 0, 0)
 
 
@@ -90,7 +90,7 @@ def wait_for_orphans(seconds=30):
 
 
 def end_orphans():
-    """Ends all that outlived a child of this process, as what strace let go does that didn't end in time."""
+    """Ends all that outlived a child of this process. strace leaves such a process if it didn't end in time."""
     for process in filter(str.isdigit, os.listdir("/proc")):
         with suppress(OSError):
             with open(f"/proc/{process}/stat") as file:
@@ -101,7 +101,7 @@ def end_orphans():
 
 
 def told_by(words, folder, skip="", **how):
-    """What the words say in the folder."""
+    """What the words print in the folder."""
     environment = {**os.environ, "SKIP": skip}
     done = subprocess.run(words, cwd=folder, stdin=subprocess.DEVNULL, capture_output=True, timeout=120, env=environment, **how)
     return Told(done.returncode, done.stdout, done.stderr)
@@ -110,7 +110,7 @@ def told_by(words, folder, skip="", **how):
 # ---- what lies in a repository
 
 def left_in(work):
-    """What the two files of the store stand for, in a copy of them that is sound."""
+    """What the two files of the store hold, in a copy of them that is sound."""
     if not os.path.lexists(os.path.join(work, STORE)):
         return Left(None, None)
     with tempfile.TemporaryDirectory(dir=QUICK) as folder:
@@ -121,7 +121,7 @@ def left_in(work):
 
 
 def left_alone(work):
-    """What the file of the database stands for without its log."""
+    """What the file of the database holds without its log."""
     with tempfile.TemporaryDirectory(dir=QUICK) as folder:
         return left_at(shutil.copy(os.path.join(work, STORE), folder))
 
@@ -142,20 +142,20 @@ def left_at(path):
 
 
 def sections(out):
-    """The parts of what a command printed that tell of hooks, by the names of these, in their order, and what stands behind."""
+    """The parts of what a command printed that report hooks, by the names of these, in their order, and what follows."""
     starts = [found.start() for found in REPORT.finditer(out)] + [len(out)]
     return {REPORT.match(out, start)[1].decode(): out[start:end] for start, end in zip(starts, starts[1:])}
 
 
 def faults_in(found):
-    """The names of the hooks of whose sections one tells a fault."""
+    """The names of the hooks of whose sections one reports a fault."""
     return [name for name, section in found.items() if FAULT in section]
 
 
 class Scene:
-    """A command on copies of a repository, and what it says and leaves where nothing stops it: the first time, and when it's
-    asked for once more. It uses and puts so many answers, and the last of them, so many, behind what it does to the repository;
-    or, where `uses` is none, it changes what is remembered at once."""
+    """A command on copies of a repository, and what it prints and leaves if nothing stops it: the first time, and when it's run once
+    more. It uses and puts so many answers, and the last of them, so many, after what it does to the repository. If `uses` is none, it
+    changes what is cached at once."""
 
     def __init__(self, program, folder, name, base, words, uses=0, behind=0):
         self.program, self.name, self.base, self.words = program, name, base, words
@@ -190,8 +190,8 @@ class Scene:
     # ---- what a stopped command may leave
 
     def judge(self, work, told):
-        """What a command left that something stopped, or didn't, in a word. Then the same command is asked for once more, and has to do
-        what it does where nothing stops it."""
+        """What a command left that something stopped, or didn't, in a word. Then the same command is run once more, and has to do what it
+        does if nothing stops it."""
         if told.err.startswith(FORGOTTEN):
             return "forgotten and " + self.where_forgotten().judge(work, told._replace(err=told.err.removeprefix(FORGOTTEN)))
         left = left_in(work)
@@ -201,7 +201,7 @@ class Scene:
         again = self.run(work)
         check(again == wanted, f"after {told!r:.300}, which left what was {place}, the same command says {again!r:.300}, wanted {wanted!r:.300}")
         found = left_in(work)
-        # A command that is refused remembers nothing more.
+        # A command that is refused caches nothing more.
         book = left.book.migrated() if wanted.status == 3 else then.book
         is_it = "" if found.repository == then.repository else "not "
         check(found == Left(then.repository, book), f"after {told!r:.300}, which left what was {place}, the same command leaves "
@@ -210,7 +210,7 @@ class Scene:
         return place
 
     def where_forgotten(self):
-        """The same command where nothing is remembered, of one that starts with something."""
+        """The same command if nothing is cached, of one that starts with something."""
         check(self.before.answers, f"{self.name}: it forgets, and there is nothing to forget")
         if self.forgotten is None:
             folder = tempfile.mkdtemp(dir=self.copies)
@@ -220,7 +220,7 @@ class Scene:
         return self.forgotten
 
     def place_of(self, left, told):
-        """Where a command left the repository, and what it says and leaves when it's asked for again."""
+        """The state in which a command left the repository, and what it prints and leaves when it's run again."""
         self.check_answers(left)
         if faults_in(sections(told.out)):
             return self.place_of_faults(left, told)
@@ -237,34 +237,34 @@ class Scene:
         check(is_after or told.out == b"" and b"was made" not in told.err, f"it says {told!r:.500} and leaves what was before")
         if self.after.repository == self.before.repository:
             return self.place_where_nothing_changes(left, told)
-        # The disk may refuse a wait behind the last write of a change.
+        # The disk may refuse a wait after the last write of a change.
         place = "after, and was refused" if told.status == 3 and b"taken" not in told.err else "after"
         return (place, self.told_again, self.after_again) if is_after else (self.place_before(left), self.told, self.after)
 
     def place_before(self, left):
-        """Where a command left what is remembered that didn't come to its end."""
+        """The state in which a command left its cached results if it didn't come to its end."""
         return "before" if left.book == self.before.book else "between two transactions"
 
     def is_stopped_behind(self, told):
-        """Whether a commit says that it is made, and of a hook behind it that this was stopped."""
+        """Whether a commit says that it is made, and of a hook after it that this was stopped."""
         whole = sections(self.told.out)
         is_there = told.out == b"".join(section for name, section in whole.items() if name != "Behind") + whole.get("Behind", b"")[-len(b"commit N\n"):]
         return self.behind > 0 and told.status == 0 and is_there and REFUSED.fullmatch(told.err) is not None
 
     def place_where_nothing_changes(self, left, told):
-        """A command that changes nothing but what is remembered has printed nothing until that is done."""
+        """A command that changes only what is cached has printed nothing until that is done."""
         is_after = left.book == self.after.book
         check(is_after or told.out == b"", f"it says {told!r:.500} and leaves {left!r:.1500}")
         return ("after", self.told_again, self.after_again) if is_after else (self.place_before(left), self.told, self.after)
 
     def check_answers(self, left):
-        """Each answer that is remembered is one that a child told: it was there before, or it comes to be there while nothing
-        stops the command."""
+        """Each answer that is cached is one that a child gave: it was there before, or it comes to be there while nothing stops the
+        command."""
         known = {row for book in self.books if book for row in book.answers}
         check(set(left.answers) <= known, f"an answer is remembered that no child told: {left.answers!r:.1500}")
 
     def check_book(self, left, told):
-        """What is remembered is that behind one of the transactions that the command makes, and is before or behind that of the
+        """What is cached is that after one of the transactions that the command makes, and is before or after that of the
         repository as this is."""
         steps, change = [at for at, book in enumerate(self.books) if book == left.book], len(self.books) - 1 - self.behind
         check(steps, f"it says {told!r:.500} and remembers what is behind none of its transactions: {left.book!r:.1500}")
@@ -283,7 +283,7 @@ class Scene:
             check(told.err == b"", f"it says {told!r:.500}")
 
     def place_of_faults(self, left, told):
-        """Where a hook's command met a fault the report says so, and the rest is what it is where that hook is skipped."""
+        """If a hook's command met a fault the report says so, and the rest is what it is if that hook is skipped."""
         found, wanted = sections(told.out), sections(self.told.out)
         faulted = faults_in(found)
         is_told = told.status == 1 and TROUBLES.fullmatch(told.err)
@@ -293,15 +293,15 @@ class Scene:
             check(is_same or name in faulted, f"beside a fault it says {section!r}, wanted {wanted[name]!r}")
         without = self.without(faulted, told)
         check(left.repository == without.repository, f"with faults of {faulted!r} it leaves {left.repository!r:.900}, wanted {without.repository!r:.900}")
-        # What met a fault isn't remembered. Before a commit hooks of several stages have answered.
+        # What met a fault isn't cached. Before a commit hooks of several stages have answered.
         is_same = self.words[0] == "commit" or left.book == without.book
         check(is_same, f"with faults of {faulted!r} it leaves {left.book!r:.900}, wanted {without.book!r:.900}")
         is_after = left.repository == self.after.repository and self.words[0] == "commit"
         return ("after a fault", self.told_again, self.after_again) if is_after else ("a fault", self.told, self.after)
 
     def without(self, faulted, told):
-        """What the command leaves where these hooks' commands met a fault: what the others changed and answered. Before a commit such a
-        hook refuses it."""
+        """What the command leaves if these hooks' commands met a fault: what the others changed and answered. Before a commit such a hook
+        refuses it."""
         if self.words[0] == "commit":
             is_made = re.search(rb"^commit \d+$", told.out, re.MULTILINE)
             return self.after if is_made else self.refused_commit(sections(told.out), faulted)
@@ -337,8 +337,8 @@ class Scene:
         check(left_alone(work) == then, "the file of the database alone isn't the repository behind the next command")
 
     def check_folder(self, work):
-        """What is left beside the store behind the command that was asked for again. A run that was stopped leaves its mark, which the next
-        one takes away that starts a child."""
+        """What is left next to the store after the command that was run again. A run that was stopped leaves its mark. The next command
+        that starts a child removes it."""
         known = {os.path.basename(name) for name in (STORE, LOG, LOCK, SCRATCH)} | {"scratch.run", "scratch.old"}
         found = set(os.listdir(os.path.join(work, ".hookhost")))
         check(found <= known, f"in its folder it leaves {sorted(found)!r}")
@@ -404,7 +404,7 @@ def scenes_of(program, folder, only, hooks=HOOKS):
         ("rm", base, ["rm", "e", "d"]), ("run", to_run, list(RUN), 3), ("accept", base, ["accept"]),
         ("commit", to_commit, ["commit", "-m", "second"], 3, 1), ("refused commit", to_refuse, ["commit", "-m", "refused"], 2),
         ("forget", base, ["forget"], None), ("status", base, ["status"]),
-        # What is used, numbered anew and dropped, and how many may be.
+        # What is used, numbered again and dropped, and how many may be.
         ("run that uses", to_use, list(RUN), 3), ("run that numbers anew", to_number, list(RUN), 3),
         ("run that drops", to_drop, list(RUN), 3), ("commit that uses", to_commit_anew, ["commit", "-m", "second"], 3, 1),
         ("limit", base, ["memory", "--limit=2"], None),

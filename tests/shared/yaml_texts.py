@@ -1,5 +1,5 @@
-"""The tables of YAML texts that the reader of crates/yaml_profile is held to: tests/rows/tables/yaml_profile.py has the texts that
-are read, tests/rows/tables/yaml_profile_refused.py those that are refused."""
+"""The tables of YAML texts with which the reader of crates/yaml_profile is tested. tests/rows/tables/yaml_profile.py has the texts that
+are read, and tests/rows/tables/yaml_profile_refused.py those that are refused."""
 import os
 import re
 

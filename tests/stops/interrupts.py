@@ -1,18 +1,19 @@
 #!/usr/bin/env python3
-"""Interrupts the built program by signals, on a terminal and without one, and looks at what it prints and leaves.
+"""Interrupts the built program by signals, on a terminal and without one, and checks what it prints and leaves.
 
 Usage: tests/stops/interrupts.py [--all] [--only=WORD] [PROGRAM]   (default: crates/hookhost/out/hookhost)
 
-While a child waits that says when it has begun, SIGINT, SIGTERM and SIGHUP come: to the whole foreground group, as a terminal sends
-them for its keys and where it is closed, and to the program alone, as `kill` does. In the middle of its work, between two children and
-within a call of the store, they come to the program alone, and so does SIGPIPE, before a call that strace counts.
+SIGINT, SIGTERM and SIGHUP come while a child waits that says when it has begun. They come to the whole foreground group, as a terminal
+sends them for its keys and when it is closed. They also come to the program alone, as `kill` sends them. In the middle of its work,
+between two children and within a call of the store, they come to the program alone. So does SIGPIPE, before a call that strace counts.
 
-However it ends, the next command isn't refused, the repository is the one before the command or the one after it, what is
-remembered is that behind one of its transactions, and standard output has nothing or the whole report. On a terminal no child
-outlives the program; without one it may, and the next run is what it is without it. Where nobody reads standard output the change stands all the same. Where who starts the program has it ignore SIGCHLD, no
-child can be waited for: each is a fault of its hook, and nothing of it is remembered.
+However the program ends, the next command isn't refused, and the repository is the one before the command or the one after it. What
+is cached is what one of its transactions left, and standard output has nothing or the whole report. On a terminal no child outlives
+the program. Without one it may, and the next run gives what it gives without it. If nobody reads standard output, the change is kept
+all the same. If the program is started with SIGCHLD ignored, no child can be waited for: each is a fault of its hook, and nothing of
+it is cached.
 
-Without --all one in several calls of those that strace counts is played, always the same ones.
+Without --all it tries only one in several of the calls that strace counts, always the same ones.
 """
 import collections
 import fcntl
@@ -42,7 +43,7 @@ WORDS = [word for word in sys.argv[1:] if not word.startswith("--")]
 PROGRAM = os.path.abspath(WORDS[0] if WORDS else program("hookhost"))
 WORKERS, ONE_IN, LIMIT = 2, 23, 60
 SIGNALS = [signal.SIGINT, signal.SIGTERM, signal.SIGHUP]
-# A child that tells that it has begun, and waits until it may go on. It does both only where it's told so, and else nothing.
+# A child that says that it has begun, and waits until it may go on. It does both only if it's given the variable, and otherwise nothing.
 WAITS = """sh -c '[ -z "$BEGUN" ] || { echo $$ > $BEGUN; until [ -e $BEGUN.go ]; do sleep 0.01; done; }; exec cat "$@"' --"""
 WAITING_HOOKS = HOOKS.replace(b"entry: cat,", b'entry: "%s",' % WAITS.replace('"', '\\"').encode())
 
@@ -95,7 +96,7 @@ class Played:
 
 
 def begin(terminal):
-    """In the new process: signals end it, and the terminal is its own."""
+    """Runs in the new process: signals end it, and the terminal is its own."""
     for number in (*SIGNALS, signal.SIGQUIT, signal.SIGPIPE):
         signal.signal(number, signal.SIG_DFL)
     if terminal is not None:
@@ -129,7 +130,7 @@ WAYS = {
 
 
 def interrupted(name, way):
-    """What is wrong where a signal comes so while the command's first child waits, or None."""
+    """What is wrong if a signal comes so while the command's first child waits, or None."""
     scene, (number, on_terminal, send) = SCENES[name], WAYS[way]
     with tempfile.TemporaryDirectory(dir=QUICK) as folder:
         work = scene.copy(folder)
@@ -141,7 +142,7 @@ def interrupted(name, way):
             check(ends_soon(played.child), "its child outlives it")
         outlives = is_at_work(played.child)
         if outlives:
-            # The next commands work beside it, and find nothing of it.
+            # The next commands work next to it, and find nothing of it.
             try:
                 left = left_in(work)
                 is_before = left.repository == scene.before.repository and left.book in scene.books
@@ -162,7 +163,7 @@ def interrupted(name, way):
 # ---- between its calls
 
 def signalled(name, number, call, at):
-    """The same where the signal comes to the program before a call."""
+    """The same if the signal comes to the program before a call."""
     scene = SCENES[name]
     with tempfile.TemporaryDirectory(dir=QUICK) as folder:
         work = scene.copy(folder)
@@ -174,7 +175,7 @@ def signalled(name, number, call, at):
 
 
 def unread(name):
-    """The same where nobody reads standard output."""
+    """The same if nobody reads standard output."""
     scene = SCENES[name]
     with tempfile.TemporaryDirectory(dir=QUICK) as folder:
         work = scene.copy(folder)
@@ -193,13 +194,13 @@ def unread(name):
 
 
 def ignore_ends():
-    """In the new process: the system keeps of no child how it ended."""
+    """Runs in the new process: the system keeps no child's exit status."""
     begin(None)
     signal.signal(signal.SIGCHLD, signal.SIG_IGN)
 
 
 def unwaited(name):
-    """The same where it starts with SIGCHLD ignored."""
+    """The same if it starts with SIGCHLD ignored."""
     scene = SCENES[name]
     with tempfile.TemporaryDirectory(dir=QUICK) as folder:
         work = scene.copy(folder)
@@ -226,7 +227,7 @@ def cases():
 
 
 def tried(case):
-    """A case, and what became of it, or what is wrong."""
+    """A case, and its outcome, or what is wrong."""
     look, *words = case
     try:
         return case, look(*words), None
@@ -247,7 +248,7 @@ def main():
     global SCENES
     start = time.monotonic()
     adopt_orphans()
-    # Who starts this in the background may have it ignore some, and the program with it.
+    # The shell that starts this in the background may have it, and the program with it, ignore some signals.
     for number in (*SIGNALS, signal.SIGQUIT):
         signal.signal(number, signal.SIG_DFL)
     with tempfile.TemporaryDirectory(dir=QUICK) as folder:

@@ -1,26 +1,25 @@
 #!/usr/bin/env python3
-"""Stops the built program at each of its system calls, and looks at what it leaves.
+"""Stops the built program at each of its system calls, and checks what it leaves.
 
 Usage: tests/stops/stops.py [--all] [--only=WORD] [PROGRAM]   (default: crates/hookhost/out/hookhost)
 
-Each command of tests/shared/stops_repository.py is played on copies of a repository. Of its system calls from the first one in its folder on,
-which strace counts by their names, each in turn is
+Each command of tests/shared/stops_repository.py is run on copies of a repository. strace counts its system calls by their names, from
+the first one in its folder on. Each in turn is
 
   kill    not made: the program is killed before it
   EIO ..  refused with an error that such a call may meet
   ENOSPC+ refused, and so is each later call that takes room on the disk
-  half    handed half of the bytes that it asks for, by tests/stops/stops_short.c, alone or all of them
+  half    given half of the bytes that it asks for, by tests/stops/stops_short.c, alone or all of them
 
-What is left has to be the repository before the command or the one after it, to SQLite and to the program, and what is
-remembered is that behind one of its transactions: each use and each put is one, and so is the migration of a store of version
-1, which leaves version 1 or version 2 with all that was there. A reply that tells of a commit, or of anything that was done,
-tells of what is there. Each answer that is remembered is one that a child told. The same command asked for once more, with
-nothing in its way, does what it does where nothing ever stopped it. A command that can't look for a checkout of
-Git says that it forgets what is remembered, and is then one in a repository that remembers nothing.
+What is left has to be the repository before the command or the one after it, as SQLite and the program read it. What is cached has to be
+what one of its transactions left. Each use and each put is one. So is the migration of a store of version 1, which leaves version 1 or
+version 2 with all that was there. If a reply reports a commit, or anything that was done, it is there. Each cached answer is one
+that a child gave. The same command, run again with nothing in its way, does what it does if nothing ever stopped it. A command that
+can't look for a checkout of Git says that it drops what is cached, and is then one in a repository without cached results.
 
-Without --all it plays each call that changes something of `commit` and `accept`, of a run that uses answers, of a limit and
-of a migration, and of the others one in several, always the same ones. The log of a killed command holds a change that isn't
-in the database yet: there the next commands are stopped as well.
+Without --all it tries each call that changes something of `commit` and `accept`, of a run that uses answers, of a limit and of a
+migration, and of the others one in several, always the same ones. The log of a killed command holds a change that isn't in the
+database yet: there the next commands are stopped as well.
 """
 import collections
 import itertools
@@ -49,17 +48,18 @@ PROGRAM = os.path.abspath(WORDS[0] if WORDS else program("hookhost"))
 WORKERS = 2
 # Of the calls that aren't played in any case, one in so many is.
 ONE_IN = 7
-# The calls that change what lies on the disk or who may use it, and those that take room there. What can't be written can't be told either.
+# The calls that change what lies on the disk or who may use it, and those that take room there. What can't be written can't be reported
+# either.
 CHANGING = ("write", "pwrite64", "fsync", "fdatasync", "ftruncate", "rename", "renameat", "renameat2", "unlink", "unlinkat", "mkdir", "mkdirat", "rmdir",
             "openat", "flock", "fcntl", "chmod", "fchmod", "fchmodat", "utimensat", "lchown", "fchownat")
 TAKES_ROOM = ("pwrite64", "ftruncate", "mkdir", "mkdirat", "openat", "fsync", "rename", "renameat")
-# The errors by which calls are refused. A refused `close` would be one that Linux doesn't know: it closes the file all the same.
+# The errors by which calls are refused. A refused `close` would be one that Linux doesn't have: it closes the file all the same.
 OF_FILES = ("openat", "read", "pread64", "write", "pwrite64", "fsync", "fdatasync", "ftruncate", "rename", "renameat", "renameat2", "unlink", "unlinkat",
             "mkdir", "mkdirat", "rmdir", "flock", "fcntl", "statx", "getdents64", "chmod")
 ERRORS = {**{call: ("EIO", "ENOSPC", "EINTR") for call in OF_FILES}, "poll": ("EINTR", "ENOMEM"), "wait4": ("EINTR",), "pipe2": ("EMFILE",),
           "clone": ("EAGAIN",), "clone3": ("EAGAIN",), "vfork": ("EAGAIN",)}
 CHOSEN = ("commit", "accept", "run that uses", "run that numbers anew", "limit", "status of version 1")
-# The command that makes a store of version 1 one of version 2 and nothing else: each of its calls is stopped.
+# The command that makes a store of version 1 one of version 2 and does no more: each of its calls is stopped.
 MIGRATING = "status of version 1"
 
 # A stop of a scene: what is done to the call of this name and number. One whose kind is `half` has no name, and counts all.
@@ -69,7 +69,7 @@ Stop = collections.namedtuple("Stop", "scene kind call number")
 # ---- the stops
 
 def injected(stop):
-    """How strace is told."""
+    """The options of strace."""
     if stop.kind == "kill":
         return f"signal=KILL:when={stop.number}"
     error = stop.kind.removesuffix("+")
@@ -88,15 +88,15 @@ def stops_of(scene):
 
 
 def is_played(stop):
-    """Whether a stop is played: all of them, or those of calls that change something in chosen commands, each kill and each
-    short transfer of a migration, and of the others some."""
+    """Whether a stop is played. With --all each is. Otherwise it is if it's of a call that changes something in chosen commands, or each
+    kill and each short transfer of a migration. Of the others some are."""
     is_chosen = stop.scene in CHOSEN and stop.call in CHANGING and stop.kind in ("kill", "EIO", "ENOSPC")
     is_of_migration = stop.scene == MIGRATING and stop.kind in ("kill", "half")
     return ALL or is_chosen or is_of_migration or zlib.crc32(" ".join(map(str, stop)).encode()) % ONE_IN == 0
 
 
 def played(scene, stop, work, short):
-    """What the stopped command says, and whether it was stopped."""
+    """What the stopped command prints, and whether it was stopped."""
     if stop.kind == "half":
         mark = work + ".mark"
         told = told_by([short, str(stop.number), mark, PROGRAM, *scene.words], work)
@@ -165,7 +165,7 @@ def show(result):
 
 
 def tell(results, seconds):
-    """Prints of each command and kind of stop how many were played and where they left the repository."""
+    """Prints of each command and kind of stop how many were played and in which state they left the repository."""
     wrong = sum(text is not None for _, _, text in results)
     for name in SCENES:
         counts = collections.Counter((stop.kind, place) for stop, place, _ in results if stop.scene == name)

@@ -9,14 +9,14 @@ from stops_repository import QUICK, told_by
 
 
 def traced(program, words, work, calls, *inject):
-    """What the words say, and the lines that strace writes of these calls."""
+    """What the words print, and the lines that strace writes of these calls."""
     with tempfile.NamedTemporaryFile(dir=QUICK) as log:
         told = told_by(["strace", "-qq", "-o", log.name, "-e", "signal=none", "-e", f"trace={calls}", *inject, program, *words], work)
         return told, Path(log.name).read_text(errors="replace").splitlines()
 
 
 def calls_of(scene):
-    """The system calls of a command where nothing stops it, from the first one in its folder on, each with its number among those of its
+    """The system calls of a command if nothing stops it, from the first one in its folder on, each with its number among those of its
     name."""
     work = scene.copy(scene.copies)
     told, lines = traced(scene.program, scene.words, work, "all")

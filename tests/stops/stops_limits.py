@@ -1,19 +1,19 @@
 #!/usr/bin/env python3
-"""Plays the commands on a repository with the built program where something runs out, and looks at what they leave.
+"""Checks what commands on a repository leave while something runs out: runs them with the built program.
 
 Usage: tests/stops/stops_limits.py [--all] [--only=WORD] [PROGRAM]   (default: crates/hookhost/out/hookhost)
 
-What runs out, each from nothing up to where the command works: pages of a full disk, which is a tmpfs of its own; the bytes that a
-file may have, where that is a signal and where it is an error; memory that may be mapped; files that may be open; processes of a
-user. And what may not be written: the folder, its files, and a disk that is read alone, by a user whom permissions hold back.
+Each of these runs out, from nothing up to what the command needs: pages of a full disk, which is a tmpfs of its own; the bytes that a
+file may have, with a signal and with an error; memory that may be mapped; files that may be open; processes of a user. And these may not
+be written: the folder, its files, and a read-only disk, by a user who is subject to permissions.
 
-What is left is judged as behind a kill (tests/shared/stops_repository.py): the repository before the command or the one after it,
-what is remembered behind one of its transactions, a refusal that is told, and the same command, with nothing in its way,
-works. A program whose stack can't grow is ended by the system at any moment, and so is killed. A limit holds for the children
-of a run too, which may then tell something else than they do without it; there only what the command is asked for once more
-is compared, once it was forgotten what they told. What needs root, a disk of its own and another user, is told where it can't be played.
+What is left is judged as after a kill (tests/shared/stops_repository.py). The repository is the one before the command or the one
+after it, what is cached is what one of its transactions left, and a refusal is reported. The same command works once the limit is
+gone. A program whose stack can't grow is ended by the system at any moment, which counts as a kill. A limit holds for the children of
+a run too, whose results may then differ from those without it. There only the repeated command is compared, after their results are
+dropped. If something needs root, a disk of its own or another user, and can't be tried, this script says so.
 
-Without --all it plays of bytes and memory one in several limits, always the same ones.
+Without --all it tries only one in several limits of bytes and memory, always the same ones.
 """
 import collections
 import multiprocessing
@@ -40,17 +40,17 @@ WORDS = [word for word in sys.argv[1:] if not word.startswith("--")]
 GIVEN = os.path.abspath(WORDS[0] if WORDS else program("hookhost"))
 WORKERS, ONE_IN = 2, 3
 PAGE = 4096
-# A user who has no other process, so that each counts, and one whom permissions hold back.
+# A user who has no other process, so that each counts, and one who is subject to permissions.
 LONELY, NOBODY = 64_321, 65_534
 IS_ROOT = os.geteuid() == 0
 # Children that need no room on the disk: what one does without it is its own answer.
 SMALL_HOOKS = HOOKS.replace(b"""entry: "sh -c 'echo a line >> $1' --", stages: [prepare""", b"entry: cat, stages: [prepare")
-# What the loader says where there is no room for a library, or for the data of the first thread.
+# What the loader says if there is no room for a library, or for the data of the first thread.
 UNLOADED = (b"error while loading shared libraries", b"cannot allocate TLS data structures")
 
 
 class Limit:
-    """What runs out, and how much of it there is. It is around the command, and nothing of it is there behind it."""
+    """What runs out, and how much of it there is. It is around the command, and nothing of it is there after it."""
 
     def __init__(self, name, amount):
         self.name, self.amount = name, amount
@@ -102,7 +102,7 @@ class FullDisk(Limit):
 
 
 class NotWritable(Limit):
-    """The folder or a file of it may not be written, by a user who has all of it else."""
+    """The folder or a file of it may not be written, by a user who otherwise owns all of it."""
 
     @contextmanager
     def around(self, work):
@@ -118,7 +118,7 @@ class NotWritable(Limit):
 
 
 class ReadOnlyDisk(Limit):
-    """A disk that is read alone."""
+    """A disk that can only be read."""
 
     @contextmanager
     def around(self, work):
@@ -131,7 +131,7 @@ class ReadOnlyDisk(Limit):
 
 
 def give(work, user):
-    """Makes all of a folder a user's."""
+    """Gives all of a folder to a user."""
     if not IS_ROOT:
         return
     for at, _, names in os.walk(work):
@@ -142,8 +142,8 @@ def give(work, user):
 # ---- what is left
 
 def judged_softly(scene, work, told):
-    """The same where children of the command told something else: the history, the staged files and what isn't the hooks' are as
-    before or after, and once that is forgotten the command does what it does without a limit."""
+    """The same if children of the command gave other answers: the history, the staged files and what isn't the hooks' are as before or
+    after. Once that is forgotten, the command does what it does without a limit."""
     left = left_in(work)
     (staged, _, *history), befores, afters = left.repository, scene.before.repository, scene.after.repository
     check((staged, *history) in ((befores[0], *befores[2:]), (afters[0], *afters[2:])), f"it says {told!r:.500} and leaves {left!r:.1000}")
@@ -161,7 +161,7 @@ def judged_softly(scene, work, told):
 
 
 def judged(scene, limit, work):
-    """What a command leaves whose limit this is, in a word."""
+    """What a command with this limit leaves, in a word."""
     before = left_in(work)
     with limit.around(work) as how:
         told = told_within(lambda **how: scene.run(work, **how), how)
@@ -173,7 +173,7 @@ def judged(scene, limit, work):
 
 
 def told_within(run, how):
-    """What a command says, or None where the system had no room for the program itself: it can't be started, or the loader
+    """What a command says, or None if the system had no room for the program itself: it can't be started, or the loader
     says so."""
     try:
         told = run(**how)
@@ -185,7 +185,7 @@ def told_within(run, how):
 
 
 def have_told_otherwise(scene, told):
-    """Whether hooks that met no fault answered something else."""
+    """Whether hooks that met no fault gave other answers."""
     if scene.words[0] not in ("run", "commit") or told.status not in (0, 1) or told.out == scene.told.out:
         return False
     found, wanted = sections(told.out), sections(scene.told.out)
@@ -212,7 +212,7 @@ def least_memory(program, folder):
 
 
 def limits(least):
-    """Those that need no disk of their own."""
+    """The limits that need no disk of their own."""
     yield from (Resource(name, amount) for name in ("bytes of a file", "bytes of a file, by a signal") for amount in FILE_BYTES)
     yield from (Resource("KiB of memory", amount) for amount in range(least - 4 * MEMORY_STEP, least + MOST_MEMORY, MEMORY_STEP))
     yield from (Resource("open files", amount) for amount in FILES)
@@ -246,7 +246,7 @@ def disk_in(folder):
 
 
 def can_have_disks(folder):
-    """Whether a disk can be mounted here: a container may not let root do it."""
+    """Whether a disk can be mounted here: a container may not allow root to do it."""
     try:
         with disk_in(folder):
             return IS_ROOT
@@ -273,7 +273,7 @@ def main():
     begin = time.monotonic()
     adopt_orphans()
     with tempfile.TemporaryDirectory(dir=QUICK) as folder:
-        # Another user can't reach where it was built.
+        # Another user can't reach the folder in which it was built.
         os.chmod(folder, 0o755)
         program = shutil.copy(GIVEN, os.path.join(folder, "hookhost"))
         os.chmod(program, 0o755)
@@ -297,7 +297,7 @@ def show(result):
 
 
 def tell(results, seconds):
-    """Prints of each kind of limit how many were played and where they left the repository."""
+    """Prints of each kind of limit how many were played and in which state they left the repository."""
     wrong = sum(text is not None for *_, text in results)
     for name in dict.fromkeys(limit.name for _, limit, _, _ in results):
         counts = collections.Counter(place for _, limit, place, _ in results if limit.name == name)

@@ -1,17 +1,17 @@
 #!/usr/bin/env python3
-"""Plays calls on stores in real files with the built program, and reads the files with sqlite3.
+"""Checks stores in real files: makes calls on them with the built program, and reads the files with sqlite3.
 
 Usage: tests/store/store.py [PROGRAM [CASE..]]   (default: crates/store_trial/out/store_trial, and all cases; a case by its
 name, with `_`)
 
-A store is played by lines, each answered by a line of fields that tabs part. Beside it runs a model of a store, as a
-few dictionaries and a list of what is remembered (tests/store/store_model.py). The files are read, and damaged, by the
-program sqlite3, which makes stores of version 1 too. A play is killed at random moments, each allocation of a play is
-refused in turn (tests/shared/refuse_allocation.c), and a disk in memory stops at each of its operations in turn.
+A store is driven by lines, each answered by a line of fields with tabs between them. The answers are compared with a model of a
+store: a few dictionaries and a list of cached results (tests/store/store_model.py). The files are read, and damaged, by the program
+sqlite3, which makes stores of version 1 too. A play is killed at random moments. Each allocation of a play is refused in turn
+(tests/shared/refuse_allocation.c). A disk in memory stops at each of its operations in turn.
 
-The cases stand by their topic in tests/store/store_plays.py, store_answers.py, store_versions.py, store_damage.py,
-store_large.py, store_stops.py and store_memory.py, over the programs of store_program.py; what they play is in
-store_cases.py and store_plants.py.
+The cases are, by their topic, in tests/store/store_plays.py, store_answers.py, store_versions.py, store_damage.py, store_large.py,
+store_stops.py and store_memory.py. They use the programs of store_program.py, and their inputs are in store_cases.py and
+store_plants.py.
 """
 import os
 import subprocess

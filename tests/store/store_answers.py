@@ -1,5 +1,6 @@
-"""Cases of tests/store/store.py: the remembered answers, which stand in the order in which they were used, up to a limit; and
-what a use of one writes."""
+"""Cases of tests/store/store.py: the cached answers, which are in the order in which they were used, up to a limit; and what a use of
+one writes.
+"""
 import os
 
 from kept_answers import contents_of, planting, records_of
@@ -10,8 +11,8 @@ from store_program import answers, ask, check, check_file, check_story, commits_
 
 
 def remembers_answers(folder):
-    """What is put is found, by its words and its seen files with their modes and bytes, and by nothing else; another
-    answer to the same takes its place; all of it outlives the process, and a commit; and it can be forgotten."""
+    """What is put is found, by its words and its seen files with their modes and bytes, and by nothing more. Another answer to the same
+    takes its place. All of it outlives the process, and a commit; and it can be forgotten."""
     path, model = os.path.join(folder, "store.db"), model_of(FILLING)
     answers(path, FILLING)
     lines = [line for line, _ in ANSWERS_STORY]
@@ -36,7 +37,7 @@ def remembers_answers(folder):
 
 
 def remembers_many_answers(_folder):
-    """More than anyone would think a book has to make room for."""
+    """More answers than a reader would expect a book to make room for."""
     keys = [f"c | a.txt={number}" for number in range(1100)]
     lines = ["create", *(f"remember {key} | a.txt=x | 0 | {key[-3:]}" for key in keys),
              *(f"recall {key}" for key in keys), "answers", "crash", "open", "answers",
@@ -72,7 +73,7 @@ def keeps_the_answers_that_were_used_last(folder):
 
 
 def tells_the_order_in_the_tables(folder):
-    """Behind each line, in a process of its own."""
+    """The order is compared after each line, in a process of its own."""
     path, model = os.path.join(folder, "store.db"), Model()
     for line in [line for line, _ in LIMIT_STORY if line not in ("open", "close")]:
         begin = [] if line == "create" else ["open"]
@@ -99,7 +100,7 @@ def check_played(path, model, lines):
 
 def writes_no_more_than_a_use(folder):
     """A look-up of the row in front, and one that finds nothing, leave the file as it was, to the byte. One that moves
-    a row, and each other call that changes what is remembered, is one transaction."""
+    a row, and each other call that changes what is cached, is one transaction."""
     for at, (lines, count) in enumerate(USING_PLAYS):
         path, model = planted_with(folder, at, 1)
         with open(path, "rb") as file:
@@ -113,7 +114,8 @@ def writes_no_more_than_a_use(folder):
 
 
 def numbers_the_ticks_anew(folder):
-    """Where a use would pass the greatest tick, and in no other case: in a transaction of its own, in their order."""
+    """They are numbered from 1 on if a use would pass the greatest tick, and in no other case. It is done in a transaction of its own, in
+    their order."""
     for at, (tick, lines, ticks, count) in enumerate(TICK_PLAYS):
         path, model = planted_with(folder, at, tick)
         check_played(path, model, lines)

@@ -16,7 +16,7 @@ SHOWN = ["staged", "head", "log", "fixes", "trees"]
 # Single facts that a store is asked for: paths that are staged in some plays, their folders, and paths below them.
 FACTS = [*(f"look {path}" for path in ["a", "b.txt", "dir/c", "dir", "di", "dir/c/d", "a/b/c", "dir/cd"]), "count", "walk",
          *(f"{word} {number}" for word in ("message", "files") for number in range(3)), "answers", "limit"]
-# What a store shows that has a.txt staged, with the contents 1, and nothing else.
+# What a store shows that has a.txt staged, with the contents 1, and no more.
 ONE_STAGED = ["ok\tplain\ta.txt\t1", "ok", "ok", "ok", "ok"]
 # The statements by which the tables of version 1 are made, in their order; and those of version 2, which has one more.
 FIRST_TABLES = [
@@ -62,8 +62,7 @@ STORY = [
     ("fix-gone b.txt", "ok"),
     ("set", "ok"),
 ]
-# Accepted fixes are committed, and the commit stays where its file is unstaged; then a commit of no files, and two
-# files.
+# Accepted fixes are committed, and the commit stays if its file is unstaged; then a commit of no files, and two files.
 UNSTAGED_STORY = [
     ("create", "ok"),
     ("stage plain a.txt 1", "ok"),
@@ -99,7 +98,7 @@ UNSTAGED_STORY = [
     ("trees", "ok\t1\tplain\ta.txt\t2\t2"),
     ("staged", "ok\tplain\tb.txt\t2\texecutable\ttools/run\t#!/bin/sh\\n"),
 ]
-# A host's commands: what each answers, and what stands staged then.
+# A host's commands: what each answers, and what is staged then.
 HOST_STORY = [
     ("add - a.txt 1", "no store"),
     ("create", "ok"),
@@ -137,9 +136,9 @@ HOST_STORY = [
 # Several changes at once, each list on what those above it left, and what is staged then.
 EDITS = [
     ("add - a.txt 1 | add executable dir/run 2 | add - empty ", "ok\tplain\ta.txt\t1\texecutable\tdir/run\t2\tplain\tempty\t"),
-    # A path twice: the last stands there, with the mode that the one before it gave.
+    # A path twice: the last is there, with the mode that the one before it gave.
     ("add executable a.txt 3 | add - a.txt 4", "ok\texecutable\ta.txt\t4\texecutable\tdir/run\t2\tplain\tempty\t"),
-    # One that is taken out again is staged no more, and the mode that it had isn't remembered.
+    # One that is taken out again is no longer staged, and the mode that it had isn't kept.
     ("add - b.txt 5 | remove b.txt | remove a.txt | add - a.txt 4", "ok\tplain\ta.txt\t4\texecutable\tdir/run\t2\tplain\tempty\t"),
     # A file makes room for a folder, and a folder for a file.
     ("remove a.txt | add - a.txt/b 6 | remove dir/run | add plain dir 1", "ok\tplain\ta.txt/b\t6\tplain\tdir\t1\tplain\tempty\t"),
@@ -151,7 +150,7 @@ EDITED_COUNTS = "7|2|0"
 EDITED = ["create", "stage plain a.txt 1", "stage executable kept 2", "fix kept 3", "set"]
 EDITABLE = ["add - one 4", "add plain two/x 5", "remove a.txt"]
 EDITABLE_COUNTS = ["3|2|1", "5|3|0"]
-# What is refused wherever it stands among these: the refusal as a host answers it, and as the store itself does.
+# What is refused at any place among these: the refusal as a host answers it, and as the store itself does.
 REFUSED_EDITS = [
     ("add -  6", "3\tBadPath\t1", "BadPath\t1"),
     ("add plain /one 6", "3\tBadPath\t2", "BadPath\t2"),
@@ -175,14 +174,14 @@ CONFIG_PATH, MESSAGE = ".pre-commit-config.yaml", ".git/COMMIT_EDITMSG"
 
 
 def configured(*hooks):
-    """A configuration of hooks, each the word of its children, its stage, and how the paths end that it gets: a text,
-    or none where it gets no paths and always runs. It is as a line writes it."""
+    """A configuration of hooks, each the word of its children, its stage, and how the paths end that it gets. That is a text, or none if
+    it gets no paths and always runs. It is as a line writes it."""
     rows = [f"  - {{id: {word}, name: {word.capitalize()}, language: system, entry: {word}, stages: [{stage}], "
             + ("always_run: true}" if ending is None else f"files: '{ending.replace('.', '[.]')}$'}}") for word, stage, ending in hooks]
     return "".join(line + "\\n" for line in ["repos:", "- repo: local", "  hooks:", *rows])
 
 
-# Hooks of the stages of a commit. What the hook behind a commit does is told and no more.
+# Hooks of the stages of a commit. What the hook after a commit does is reported and no more.
 OF_A_COMMIT = [("tidy", "pre-commit", ".txt"), ("sign", "commit-msg", MESSAGE), ("tell", "post-commit", None)]
 # One more, so that each of the four stages has a hook; and two that get the same files in turn.
 OF_FOUR_STAGES = [*OF_A_COMMIT, ("mark", "prepare-commit-msg", MESSAGE)]
@@ -203,7 +202,7 @@ CHILDREN = [
     f"child sign {MESSAGE} | {MESSAGE}=3\\n | {MESSAGE}=m\\n | 1",
     "child tell | | | 0",
 ]
-# A host's runs, acceptances and commits: what each answers, and what stands there then. No row answers for the message
+# A host's runs, acceptances and commits: what each answers, and what is there then. No row answers for the message
 # n, for the contents 5 or for an executable file.
 HOOKS_STORY = [
     ("accept-fixes", "no store"),
@@ -255,8 +254,7 @@ HOOKS_STORY = [
     ("add executable b.txt 1", "ok"),
     ("run-hooks changed", "ok\tfailed"),
 ]
-# What the children of the hooks of four stages answer beside that, and those of a run whose first hook takes blanks
-# from a file.
+# What the children of the hooks of four stages answer in addition, and those of a run whose first hook takes blanks from a file.
 MARKED = "m\\nmarked\\n"
 FOUR_CHILDREN = [
     *CHILDREN,
@@ -265,8 +263,7 @@ FOUR_CHILDREN = [
     f"child sign {MESSAGE} | {MESSAGE}={MARKED} | {MESSAGE}={MARKED}signed\\n | 0",
 ]
 RUN_CHILDREN = ["child trim a.txt | a.txt=x\\t\\n | a.txt=x\\n | 0", "child trim a.txt | a.txt=x\\n | | 0", "child look a.txt | a.txt=x\\n | | 0"]
-# What the hooks of each stage of a commit leave to the next one, and of the runs what each starts, by what is
-# remembered.
+# What the hooks of each stage of a commit leave to the next one, and what each of the runs starts, by what is cached.
 FOUR_STORY = [
     ("create", "ok"),
     (f"stage plain {FOUR_STAGES}", "ok"),
@@ -296,8 +293,8 @@ RUN_STORY = [
     ("run-hooks changed", "ok\tpassed"),
     ("forget-answers", "ok\t3"),
 ]
-# Plays in which a disk stops: of the store's calls, of a host's commands, the last of which needs a child in each stage
-# of a commit, and of runs of two hooks, of which the first keeps a fix and the last start no child.
+# Plays in which a disk stops. One is of the store's calls, and one of a host's commands, the last of which needs a child in each stage of
+# a commit. One is of runs of two hooks, of which the first keeps a fix and the last start no child.
 STOPPED_CALLS = ["create", "stage plain a.txt 1", "stage executable tools/run 2", "blob 3", "fix a.txt 4", "set", "accept", "commit m\\n",
                  "remember c a.txt | a.txt=6 | a.txt=7 | 0 | one", "remember c a.txt | a.txt=6 | | 1", "unstage a.txt", "fix-gone tools/run", "set",
                  "stage plain tools/run 5", "commit n\\n", "forget", "remember d | | | 0",
@@ -307,7 +304,7 @@ STOPPED_COMMANDS = [*FOUR_CHILDREN, "create", f"stage plain {FOUR_STAGES}", "add
                     "accept-fixes", "remove dir/c", "forget-answers", "commit-verified m"]
 STOPPED_RUNS = [*RUN_CHILDREN, "create", f"stage plain {RUN_CONFIG}", "add - a.txt x\\t\\n", "run-hooks changed", "accept-fixes", "run-hooks changed",
                 "run-hooks changed", "forget-answers", "run-hooks changed"]
-# Looking up, remembering and limiting.
+# Looking up, caching and limiting.
 STOPPED_USES = ["create", "remember a | | | 0", "remember b | | | 1", "remember c | | | 2", "recall a |", "recall a |",
                 "recall b |", "set-limit 2", "recall d |", "remember d | | | 3", "recall b |", "remember d | | | 4",
                 "limit-answers 1", "remember e | | | 5", "set-limit 3", "remember f | | | 6", "forget",
@@ -349,8 +346,8 @@ FAULTS = [
     ("6", "TooLarge", "contents, a message or a record of more than 16 MiB"),
     ("7", "TooMany", "more commits, staged files or paths than a store takes"),
 ]
-# The rows of the play of statements, in the order of their keys: the numbers, and those once some are replaced; what is
-# left once some rows are taken out, and what is taken out.
+# The rows of the play of statements, in the order of their keys: the numbers, and those once some are replaced. Then what is left once
+# some rows are taken out, and what is taken out.
 META_ROWS = [
     ("meta", "limit", "2"),
     ("meta", "version", "1"),
@@ -384,7 +381,7 @@ ANSWER_ROWS = [
     ("answers", "two", "one", "four", "three", "0"),
 ]
 ANSWER_ROWS_LEFT = ANSWER_ROWS[1:]
-# The uses stand in the order of their ticks.
+# The uses are in the order of their ticks.
 USE_ROWS = [
     ("uses", "two", "one", "1"),
     ("uses", "one", "two", "2"),
@@ -411,7 +408,7 @@ ONE, TWO = (hashlib.sha256(text).hexdigest() for text in (b"1", b"2"))
 NOT_A_STORE, DAMAGED, SQL = f"refused\t1\tNotAStore\t{NO_STORE}", "refused\t2\tDamaged\t", "refused\t3\tSql\t"
 NO_ROWID = SQL + "no rowid is left"
 TOO_LARGE, TOO_MANY = "refused\t6\tTooLarge\tcontents, a message or a record of more than 16 MiB", "refused\t7\tTooMany\t"
-# What is remembered and found, on the store of FILLING.
+# What is cached and found, on the store of FILLING.
 ANSWERS_STORY = [
     ("answers", "ok\t0"),
     ("recall c a.txt | a.txt=1", "ok\tnone"),
@@ -436,7 +433,7 @@ ANSWERS_STORY = [
 ]
 RECALLED = ["recall c a.txt | a.txt=1", "recall c a.txt b.txt | a.txt=1 b.txt=2", "recall |", "recall c .git/COMMIT_EDITMSG | .git/COMMIT_EDITMSG=m"]
 ANSWERS_LEFT = 4
-# What is left where a limit is met: the answers that were put or found last.
+# What is left if a limit is met: the answers that were put or found last.
 LIMIT_STORY = [
     ("create", "ok"),
     ("limit", "ok\t10000"),
@@ -448,7 +445,7 @@ LIMIT_STORY = [
     ("remember c | | | 3", "ok"),
     ("answers", "ok\t2"),
     ("recall a |", "ok\tnone"),
-    # Found, it is in front, so that the next one goes in place of the other.
+    # Found, it is in front, so that the next one is dropped in place of the other.
     ("recall b |", "ok\t2\t"),
     ("remember d | | | 4", "ok"),
     ("recall c |", "ok\tnone"),
@@ -555,7 +552,7 @@ LARGE_CHILDREN = [
     f"child tell | | | 0 | {LARGE}",
 ]
 # Such an answer stops a run and the hooks before a commit, and leaves what was put before and the rest as it was. Hooks
-# behind a commit are stopped, and the commit is made.
+# after a commit are stopped, and the commit is made.
 LARGE_STORY = [
     ("create", "ok"),
     (f"stage plain {CONFIG}", "ok"),
@@ -586,8 +583,7 @@ LARGE_STORY = [
 
 
 def seen_of_size(size):
-    """Seen files whose record has this size, where that is large: paths of 4,096 bytes, and a shorter one behind
-    them."""
+    """Seen files whose record has this size, if that is large: paths of 4,096 bytes, and a shorter one after them."""
     count, rest = divmod(size - 4, 4096 + 37)
     return [*(f"{at:04096d}" for at in range(count)), "1" * (rest - 37)]
 

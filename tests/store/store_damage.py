@@ -33,7 +33,7 @@ def check_refused(path, name, text, refusal):
 
 
 def check_plants(folder, version, plants):
-    """Each of these refuses a file, which is as it was where that is taken back."""
+    """Each of these refuses a file, which is as it was if that is taken back."""
     whole, before = filled(folder, version)
     path = os.path.join(folder, "store.db")
     for name, text, refusal, repair in plants:
@@ -56,8 +56,7 @@ def refuses_planted_files_of_version_1(folder):
 
 
 def refuses_uses_and_limits_that_break_a_rule(folder):
-    """Whatever one of them lacks or has too much of: it is damaged, and where that is taken back all stands in its
-    order."""
+    """If one of them lacks anything or has too much of it, it is damaged. If that is taken back, all is in its order."""
     path, model = os.path.join(folder, "store.db"), model_over(SECOND_STORE)
     for name, text, refusal, repair in USE_PLANTS:
         ask(path, planting_store(SECOND_STORE))
@@ -84,7 +83,7 @@ def takes_uses_and_limits_within_their_bounds(folder):
 
 
 def refuses_planted_answers(folder):
-    """Each rule of a remembered answer that is broken makes the store damaged, and nothing is changed."""
+    """Each rule of a cached result that is broken makes the store damaged, and nothing is changed."""
     for version in (2, 1):
         whole, before = filled(folder, version)
         path = os.path.join(folder, "store.db")

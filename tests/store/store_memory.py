@@ -22,8 +22,7 @@ def refusing_library(folder):
 
 
 def is_want(answer):
-    """The call, or the command of a host, was refused for want of memory, as which the database's own want comes
-    too."""
+    """The call, or the command of a host, was refused for lack of memory. The database's own lack is reported so too."""
     return answer.startswith(("refused\t4\tOutOfMemory\t", "refused\t1\tOutOfMemory\t", "refused\tStore\t4\t"))
 
 
@@ -35,7 +34,7 @@ def rows_in(model):
 
 @functools.cache
 def shown_when_opened(model):
-    """What is answered where the file of a model is opened, and what it shows then."""
+    """What is answered if the file of a model is opened, and what it shows then."""
     opened = copy.deepcopy(model)
     return [opened.open(), *([] if opened.store is None else opened.shown())]
 
@@ -46,7 +45,7 @@ class RefusedPlay:
     def __init__(self, folder, library, name, planted, play):
         self.folder, self.library, self.name = folder, library, name
         self.course = Course(play, model_over(planted) if planted else Model())
-        # What is left where the program itself gives up at a line, which may be done or not.
+        # What is left if the program itself gives up at a line, which may be done or not.
         models = list(zip(self.course.models, self.course.models[1:]))
         self.given_up = [[before, *after.states(copy.deepcopy)] for before, after in models]
         self.behind = {}
@@ -55,7 +54,7 @@ class RefusedPlay:
             ask(self.file, planting_store(planted))
 
     def course_behind(self, at, is_done):
-        """The course of the lines behind one that was refused, or that is a commit whose last hooks were stopped."""
+        """The course of the lines after one that was refused, or that is a commit whose last hooks were stopped."""
         if (at, is_done) not in self.behind:
             model, after = (copy.deepcopy(self.course.models[each]) for each in (at + is_done, at + 1))
             # A store that can't be closed is closed all the same, and fixes that can't be set wait no more.
@@ -101,8 +100,7 @@ class RefusedPlay:
         return is_refused, is_noticed
 
     def check_file(self, path, models, place):
-        """The file holds what one of the models does, to the order of what is remembered where SQL made it, and can be
-        opened."""
+        """The file holds what one of the models does, up to the order of what is cached if SQL made it, and can be opened."""
         if self.file:
             found = rows_of(path)
             models = [model for model in models if rows_in(model) == found]
@@ -114,7 +112,7 @@ class RefusedPlay:
 
 
 def refuses_each_allocation(refused):
-    """How many allocations of a play there are, and how many of them are noticed where they are refused."""
+    """How many allocations of a play there are, and how many of them are noticed if they are refused."""
     noticed = 0
     with ThreadPoolExecutor(max_workers=len(os.sched_getaffinity(0))) as pool:
         for start in range(1, 1000000, 64):
@@ -126,7 +124,7 @@ def refuses_each_allocation(refused):
 
 def refuses_for_want_of_memory(folder):
     """Each allocation of a play of every call is refused in turn; and of plays on planted stores, after which their
-    order is told."""
+    order is reported."""
     library = refusing_library(folder)
     for name, planted, play, least in [
         ("calls", None, REFUSED_PLAY, 100), ("uses", LAST_TICKS, REFUSED_USES, 50),

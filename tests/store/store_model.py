@@ -1,4 +1,4 @@
-"""The model of a store and of a host over it, which tests/store/store.py plays beside the program."""
+"""The model of a store and of a host over it, with which tests/store/store.py compares the program."""
 import copy
 import random
 
@@ -22,12 +22,12 @@ def path_fault(path):
 
 
 def files_in(texts):
-    """Contents by their paths, and none where a file is gone, of the files that a line of children names."""
+    """Contents by their paths, and none if a file is gone, of the files that a line of children names."""
     return {path: content if equals else None for path, equals, content in (text.partition("=") for text in texts)}
 
 
 def answer_in(text):
-    """The answer that a line remembers, in the order of paths. Its contents are bytes."""
+    """The answer that a line caches, in the order of paths. Its contents are bytes."""
     words, seen, changes, status, output = (part.strip() for part in (text + " |").split("|")[:5])
     files = sorted(files_in(seen.split()).items())
     changed = sorted(files_in(changes.split()).items())
@@ -51,7 +51,7 @@ def changed(tree, changes):
 
 
 def tracked(tree):
-    """The tree's files but for the message."""
+    """The tree's files except the message."""
     return {path: file for path, file in tree.items() if path != MESSAGE}
 
 
@@ -77,7 +77,7 @@ def migrated(book):
 
 
 def store_of(planted):
-    """What a store has that SQL made, and that isn't open."""
+    """What a store that SQL made has, and that isn't open."""
     return {"version": planted.version, "staged": dict(planted.staged), "fixes": {}, "history": list(planted.history),
             "blobs": set(contents_in(planted)), "answers": book_of(planted.answers)}
 
@@ -87,12 +87,12 @@ def begun_message(message):
 
 
 class Model:
-    """What a store holds, and what it answers to a line. Contents and messages stay as the lines write them, but for
-    all contents that are kept, which are bytes."""
+    """What a store holds, and what it answers to a line. Contents and messages stay as the lines write them, except all contents that are
+    kept, which are bytes."""
 
     def __init__(self):
         self.store, self.is_open, self.waiting, self.children = None, False, {}, []
-        # The store behind each answer that a command of the host looked up or put, before its end.
+        # The store after each answer that a command of the host looked up or put, before its end.
         self.passed = []
 
     def play(self, line):
@@ -169,7 +169,7 @@ class Model:
         return self.unstage(path) if path in self.store["staged"] else "refused\t4\tNotStaged\tnone"
 
     def edit_all(self, text):
-        """Makes each change as the command that makes it alone. Where one is refused, none is made."""
+        """Makes each change as the command that makes it alone. If one is refused, none is made."""
         before = copy.deepcopy(self.store)
         for at, (word, _, rest) in enumerate(edit.partition(" ") for edit in text.split(" | ")):
             answer = self.add(*rest.split(" ", 2)) if word == "add" else self.remove(rest)
@@ -234,7 +234,7 @@ class Model:
 
     @staticmethod
     def told(answer):
-        """What is answered where an answer is found."""
+        """What is answered if an answer is found."""
         changes = "".join(f"\t{path}\tgone" if now is None else f"\t{path}\tnow\t{escaped(now)}"
                           for path, now in answer.changes)
         return f"ok\t{answer.status}\t{escaped(answer.output)}{changes}"
@@ -271,9 +271,9 @@ class Model:
         return [(word, ending) for word, at, ending in HOOKS[self.store["staged"][CONFIG_PATH][1]] if at == stage]
 
     def run_stage(self, stage, paths, tree):
-        """The tree that the hooks of a stage leave, of which each gets those of these paths that end as it says, and
-        whether all pass: one that gets none does, else its child has to end with 0 and to change no file but the
-        message's. A child that has no row isn't started; the rows are of plain files."""
+        """The tree that the hooks of a stage leave, and whether all pass. Each hook gets those of these paths that end as it says. One
+        that gets none passes. Otherwise its child has to end with 0 and to change no file but the message's. A child that has no row
+        isn't started. The rows are of plain files."""
         is_passed = True
         for word, ending in self.hooks_of(stage):
             seen = {path: tree[path] for path in sorted(paths) if path in tree and path.endswith(ending)}
@@ -286,8 +286,8 @@ class Model:
         return tree, is_passed
 
     def answered(self, words, seen):
-        """What is remembered for the words and the seen files, or else the answer of a child, which is remembered then;
-        none where no row has one, since it isn't started."""
+        """What is cached for the words and the seen files, otherwise the answer of a child, which is cached then. None if no row has one,
+        since it isn't started."""
         files = [(path, MODES[mode], unescaped(content)) for path, (mode, content) in sorted(seen.items())]
         asked = KeptAnswer([word.encode() for word in words], files, [], 0)
         answer = self.store["answers"].find(key_records(asked))
@@ -308,7 +308,7 @@ class Model:
         return [path for path, file in self.store["staged"].items() if which == "all" or file != head.get(path)]
 
     def keep_fixes(self, tree):
-        """Sets as fixes what became of the staged files in a tree."""
+        """Sets as fixes how the files of a tree differ from the staged ones."""
         after = {path: tree.get(path, (None, None))[1] for path in self.store["staged"]}
         self.set_fixes({path: now for path, now in after.items() if now != self.store["staged"][path][1]})
 
@@ -335,7 +335,7 @@ class Model:
         return None if CONFIG_PATH in self.store["staged"] else NO_CONFIG
 
     def commit_behind_hooks(self, message, stages):
-        """Commits behind the hooks of these stages, between which the files and the message pass on."""
+        """Commits after the hooks of these stages, between which the files and the message pass on."""
         message, tree = begun_message(message), self.store["staged"]
         for stage in stages:
             is_of_message = stage != "pre-commit"
@@ -348,7 +348,7 @@ class Model:
         return self.commit_filled(message)
 
     def commit_filled(self, message):
-        """Commits, unless the message is blank. The plays have no message but those, in which there is nothing to
+        """Commits, unless the message is blank. The plays have only messages in which there is nothing to
         clean."""
         if not message.replace("\\n", "").strip():
             return EMPTY_MESSAGE
@@ -417,11 +417,11 @@ class Model:
         return "ok" + Model.files_of(tree)
 
     def shown(self):
-        """All that an open store shows, or none where there is no store."""
+        """All that an open store shows, or none if there is no store."""
         return None if self.store is None else [getattr(self, word)() for word in SHOWN]
 
     def states(self, state_of):
-        """What the function says of the model, behind each change that the last line made before its end, and then."""
+        """What the function says of the model, after each change that the last line made before its end, and then."""
         end, found = self.store, []
         for self.store in [*self.passed, end]:
             found.append(state_of(self))
@@ -429,8 +429,8 @@ class Model:
 
 
 class Course:
-    """A play beside the model: the model before each line and behind the last one, and what each is answered. It is made
-    once for many runs of the play, and none of its models is changed."""
+    """A play next to the model: the model before each line and after the last one, and what each is answered. It is made once for many
+    runs of the play, and none of its models is changed."""
 
     def __init__(self, play, model):
         self.play, self.models, self.answers = play, [model], []
@@ -440,7 +440,7 @@ class Course:
             self.models.append(after)
 
     def first_other(self, given):
-        """Which of these answers is the first that isn't the model's. As many as there are where all of them are."""
+        """Which of these answers is the first that isn't the model's. As many as there are if all of them are."""
         pairs = enumerate(zip(given, self.answers))
         return next((at for at, (answer, right) in pairs if answer != right), len(given))
 
@@ -471,8 +471,8 @@ def recall_of(answer):
 
 
 def recalled_by(play):
-    """The lines that recall each answer that a play's children, its lines or the stores that it makes tell, each with
-    all that is told to it."""
+    """The lines that recall each answer of a play's children, of its lines or of the stores that it makes, each with all that is answered
+    to it."""
     answers = []
     for line in play:
         word, _, rest = line.partition(" ")
@@ -487,9 +487,9 @@ def recalled_by(play):
 
 
 def lines_behind(play, count, is_open):
-    """The lines that open a store behind a stop, have told what is remembered, go on with the line of the play that was
-    stopped, and have told what stands and is remembered then; where no store was open, with those behind the one that
-    opens it. None where no line was stopped."""
+    """The lines that open a store after a stop, show what is cached, and go on with the line of the play that was stopped. Then they show
+    what the store holds and what is cached. If no store was open, they go on with the lines after the one that opens it. None if no line
+    was stopped."""
     if count == len(play):
         return []
     told, rest = recalled_by(play), play[count:]
@@ -499,12 +499,12 @@ def lines_behind(play, count, is_open):
 
 
 def is_stopped_behind(answer, right):
-    """A commit was made, and only the hooks behind it were stopped."""
+    """A commit was made, and only the hooks after it were stopped."""
     return answer != right and answer == right.replace("\ttold", "\tstopped")
 
 
 def random_answer(chance, paths, contents):
-    """The words and the seen files of a line on an answer, and the rest of one that remembers it."""
+    """The words and the seen files of a line on an answer, and the rest of one that caches it."""
     seen = sorted(chance.sample(paths, chance.randrange(3)))
     files = " ".join(f"{path}={chance.choice(contents)}" for path in seen)
     changes = " ".join(chance.choice([path, f"{path}={chance.choice(contents)}"]) for path in seen if chance.random() < 0.5)

@@ -11,7 +11,7 @@ from store_cases import (DAMAGED, FIRST_TABLES, LAST, MESSAGE, MIDDLE, MODES, NO
 NO_ROWID = SQL + "no rowid is left"
 GREATEST_ROWID = 2 ** 63 - 1
 
-# An answer, the words and seen files of a line that recalls it, and what is told of it.
+# An answer, the words and seen files of a line that recalls it, and what is reported of it.
 PLANTED_ANSWERS = [
     (KeptAnswer([b"c", b"a.txt"], [("a.txt", 0, b"abc")], [], 0), "c a.txt | a.txt=abc", "0\t"),
     (KeptAnswer([b"c"], [("a", 0, b""), ("b/c", 0, b"1")], [("a", b"new"), ("b/c", None)], 255, b"said\n"), "c | a= b/c=1", "255\tsaid\\n\ta\tnow\tnew\tb/c\tgone"),
@@ -44,7 +44,7 @@ PLANTS = [
     ("commits 1, 2 and 4", "INSERT INTO commits VALUES (4, x'6d')", DAMAGED, "DELETE FROM commits WHERE n = 4"),
     ("a commit 0", "INSERT INTO commits VALUES (0, x'6d')", DAMAGED, "DELETE FROM commits WHERE n = 0"),
     ("a commit below 0", "INSERT INTO commits VALUES (-1, x'6d')", DAMAGED, "DELETE FROM commits WHERE n = -1"),
-    # A row more is put in after all others, so behind the greatest rowid there is room for none. Behind the one below
+    # A row more is put in after all others, so after the greatest rowid there is room for none. After the one below
     # it there is.
     *((f"the greatest rowid in {table}", f"UPDATE {table} SET rowid = {2 ** 63 - 1} WHERE {where}", NO_ROWID, f"UPDATE {table} SET rowid = {2 ** 63 - 2} WHERE {where}")
       for table, where in [("blobs", f"digest = x'{ONE}'"), ("staged", "path = 'a.txt'"), ("fixes", "path = 'a.txt'"),
@@ -72,7 +72,7 @@ LARGE_PLANTS = [
     ("a message of more than 16 MiB", "UPDATE commits SET message = zeroblob(16777217) WHERE n = 2", DAMAGED, "UPDATE commits SET message = x'6e0a' WHERE n = 2"),
 ]
 REPAIRED_META = "DELETE FROM meta; INSERT INTO meta VALUES ('version', 2), ('limit', 10000)"
-# Rows of `meta` that tell no version, or one that isn't that of the tables.
+# Rows of `meta` that give no version, or one that isn't that of the tables.
 META_PLANTS = [
     (name, f"DELETE FROM meta{rows and '; INSERT INTO meta VALUES '}{rows}", NOT_A_STORE, REPAIRED_META)
     for name, rows in [
@@ -110,8 +110,8 @@ FIRST_META_PLANTS = [
         ("a version under another name", "('edition', 1)"),
     ]
 ]
-# Answers that stand in a store beside one staged file and one commit, in the order of `THREE_RECALLS`: the last one is
-# in front where nothing else is said.
+# Answers that are in a store next to one staged file and one commit, in the order of `THREE_RECALLS`. Unless stated otherwise, the last
+# one is in front.
 THREE_ANSWERS = [
     KeptAnswer([b"c", b"a.txt"], [("a.txt", 0, b"1")], [("a.txt", b"2")], 0, b"one"),
     KeptAnswer([b"d"], [], [], 3),
@@ -229,7 +229,7 @@ OTHER_FIRST_TABLES = [
     ("the table of uses", TABLES[-1]),
     ("a table less", "DROP TABLE answers"),
 ]
-# What the kit's database itself doesn't open, so that nothing can be said of its tables.
+# What the kit's database itself doesn't open, so that nothing can be reported of its tables.
 OTHER_SCHEMAS = [
     ("a trigger", "CREATE TRIGGER forget AFTER INSERT ON staged BEGIN DELETE FROM fixes; END"),
     ("an index on an expression", "CREATE INDEX lengths ON staged (length(path))"),
@@ -241,8 +241,8 @@ OTHER_SCHEMAS = [
 
 # ---- stores that SQL makes
 
-# A store by its version, its staged files and commits as the model has them, its remembered answers, and in version 2
-# the tick of the first of these, which was used least lately; each further one has a tick more.
+# A store by its version, its staged files and commits as the model has them, and its cached answers. In version 2 also the tick of the
+# first of these, which was used least lately; each further one has a tick more.
 PlantedStore = collections.namedtuple("PlantedStore", "version staged history answers tick", defaults=[1])
 
 

@@ -1,5 +1,6 @@
-"""Cases of tests/store/store.py: stories, line by line, and random plays beside the model, in files that are read by sqlite3
-then; and plays that are killed."""
+"""Cases of tests/store/store.py: stories, line by line, and random plays that are compared with the model, in files that sqlite3 reads
+afterwards; and plays that are killed.
+"""
 import copy
 import os
 import random
@@ -53,7 +54,7 @@ def makes_several_changes_at_once(folder):
 
 
 def makes_none_of_several_changes_where_one_is_refused(folder):
-    """Wherever it stands among them, and whatever refuses it: the file, the fixes and the contents are as they were."""
+    """One change is refused at any place among the others, and by any refusal. The file, the fixes and the contents are as they were."""
     each = [(" | ".join([*EDITABLE[:at], edit, *EDITABLE[at:]]), *refusals, at)
             for edit, *refusals in [*REFUSED_EDITS, *LARGE_EDITS] for at in range(len(EDITABLE) + 1)]
     for by_store, word in enumerate(["edit-all", "stage-all"]):
@@ -160,8 +161,8 @@ def state_when_opened(model):
 
 
 def is_left_whole_by_a_kill(folder):
-    """Killed at random moments, the store is the one after some calls, at least those that were answered, in what it
-    shows and in its rows, in which contents stand that no file has."""
+    """Killed at random moments, the store is the one after some calls, at least those that were answered, in what it shows and in its
+    rows. There are contents in these that no file has."""
     chance = random.Random(1)
     lines = random_play(7, 600)
     # The least of three, so that a busy moment doesn't put the kills after the play's end; and a second at most.

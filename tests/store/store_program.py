@@ -26,7 +26,7 @@ def check(holds, text):
 
 
 def check_story(story, given, place=""):
-    """Each line of a story has the answer that stands beside it."""
+    """Each line of a story has the answer that is next to it."""
     for (line, wanted), answer in zip(story, given):
         check(answer == wanted, f"{place}{line[:200]!r} is answered {answer[:500]!r}, wanted {wanted[:500]!r}")
     check(len(given) >= len(story), f"{place}{len(given)} of {len(story)} lines are answered")
@@ -35,7 +35,7 @@ def check_story(story, given, place=""):
 # ---- the program
 
 def run(path, lines, env=None):
-    """The answers to the lines over a file, the exit status and what stands on standard error."""
+    """The answers to the lines over a file, the exit status and what is on standard error."""
     return run_words([path], lines, env=env)
 
 
@@ -80,7 +80,7 @@ def answered_until_killed(path, lines, seconds):
 
 
 def held_back_by_permissions(folder):
-    """How the program is run as a user whom permissions hold back: one who may do all runs a copy as nobody."""
+    """How the program is run as a user who is subject to permissions: one who may do all runs a copy as nobody."""
     if os.geteuid() != 0:
         return {}
     program = shutil.copy(PROGRAM, os.path.join(folder, "program"))
@@ -99,11 +99,11 @@ def ask(path, text):
 
 
 def change(path, text):
-    """Has sqlite3 change a file, whatever its tables' references say of it."""
+    """Has sqlite3 change a file, with no regard to its tables' references."""
     ask(path, "PRAGMA foreign_keys = OFF; " + text)
 
 
-# How the rows of each table are read; but for the uses, which stand from the front on, in the order of their keys.
+# How the rows of each table are read: in the order of their keys, except the uses, which are from the front on.
 SELECTS = {
     "meta": "SELECT name, value FROM meta ORDER BY name",
     "blobs": "SELECT lower(hex(digest)), hex(bytes) FROM blobs ORDER BY digest",
@@ -121,7 +121,7 @@ def rows_of(path):
     database = sqlite3.connect(path)
     there = [name for name, in database.execute("SELECT name FROM sqlite_schema WHERE type = 'table' ORDER BY name")]
     found = {table: database.execute(SELECTS[table]).fetchall() for table in SELECTS if table in there}
-    # Closed, it leaves no log beside the file, as the program sqlite3 does.
+    # Closed, it leaves no log next to the file, as the program sqlite3 does.
     database.close()
     column = lambda value: "" if value is None else str(value)
     return {table: ["|".join(map(column, row)) for row in rows] for table, rows in found.items()}
@@ -132,8 +132,7 @@ def ticks_in(path):
 
 
 def commits_in_log(path):
-    """How many transactions stand in the log beside a file: each ends with the frame of a page that tells the size of
-    the database."""
+    """How many transactions are in the log next to a file: each ends with the frame of a page that gives the size of the database."""
     if not os.path.exists(path + "-wal"):
         return 0
     with open(path + "-wal", "rb") as file:

@@ -1,5 +1,6 @@
-"""Cases of tests/store/store.py: a disk in memory that stops at each operation on its log or its database file in turn, and
-loses what wasn't synchronized. What is opened then is what stood before a line or what stands behind it."""
+"""Cases of tests/store/store.py: a disk in memory that stops at each operation on its log or its database file in turn, and loses what
+wasn't synchronized. What is opened then is the state before a line or the state after it.
+"""
 import collections
 import copy
 import os
@@ -11,16 +12,16 @@ from store_model import Course, Model, is_stopped_behind, lines_behind, recall_o
 from store_plants import STOPPED_MIGRATION, STOPPED_TICKS
 from store_program import check, rows_of_model, run_words
 
-# What a call answers where the disk stops, and what a command of a host does. Of several changes none is named then.
+# What a call answers if the disk stops, and what a command of a host does. Of several changes none is named then.
 STOPPED = (SQL, "refused\t2\tStore\t3", "refused\tStore\t3\tat\tnone")
-# What may be left where a play stops: a store, or none; how many rows it has, and what it shows and how many rows it has
-# once it is opened; and lines that tell in which order its answers stand, with what is answered to them.
+# What may be left if a play stops: a store, or none. Then how many rows it has, and what it shows and how many rows it has once it is
+# opened. Then lines that show in which order its answers are, with what is answered to them.
 Left = collections.namedtuple("Left", "store state order")
 
 
 def counts_of(store):
-    """The answer to read-tables: the rows of a store's tables but for the contents and the uses, the contents, and that
-    none of them stands under another's digest. In `meta` a store of version 1 has a row less."""
+    """The answer to read-tables: the rows of a store's tables except the contents and the uses, the contents, and that none of them is
+    under another's digest. In `meta` a store of version 1 has a row less."""
     rows = rows_of_model(store)
     count = sum(len(rows[table]) for table in ("meta", "staged", "fixes", "commits", "entries", "answers"))
     return f"ok\t{count}\t{len(rows['blobs'])}\t0"
@@ -42,7 +43,7 @@ def state_of(store):
 
 
 def lines_of_order(store):
-    """Where the limit falls by one, the last answer is gone."""
+    """If the limit falls by one, the last answer is gone."""
     if store is None:
         return []
     model, lines = opened(store), ["answers", "limit"]
@@ -64,7 +65,7 @@ def answered(words, lines):
 
 
 class StoppedPlay:
-    """A play in which the disk stops: its course, and what may be left where it stops at a line, or at none."""
+    """A play in which the disk stops: its course, and what may be left if it stops at a line, or at none."""
 
     def __init__(self, play):
         self.play, self.course, self.told = play, Course(play, Model()), recalled_by(play)
@@ -73,8 +74,7 @@ class StoppedPlay:
         self.left = [[left_as(store) for store in each] for each in [*stores, [models[-1].store]]]
 
     def run(self, which, number):
-        """Plays up to the line at which the disk stops, crashes, opens the store again, and plays on. Answers how many
-        lines stand before that one, or none where no line was stopped."""
+        """Plays up to the line at which the disk stops, crashes, opens the store again, and plays on. Answers how many lines come before that one, or none if no line was stopped."""
         words = [which, str(number)]
         given, status, _ = run_words(words, self.play)
         # On a disk that stopped, no store can be opened.
@@ -87,15 +87,15 @@ class StoppedPlay:
             is_behind = is_stopped_behind(given[at], self.course.answers[at])
             check(is_behind or given[at].startswith(STOPPED), f"{words}: {self.play[at]!r} is answered {given[at]!r}")
             if self.play[at].startswith("execute "):
-                # This is no call on a store, and only makes one for the lines behind it.
+                # This is no call on a store, and only makes one for the lines after it.
                 return at
-            # Where a commit is told, nothing loses it.
+            # If a commit is reported, nothing loses it.
             left = [each for each in left if not is_behind or each.state[1:-1] == left[-1].state[1:-1]]
         self.check_left(words, at, given[:at + 1], left)
         return at if at < len(self.play) else None
 
     def check_left(self, words, at, given, left):
-        """What is opened behind the stop is left there, to the order of its answers, and goes on as the model does."""
+        """What is opened after the stop is left there, up to the order of its answers, and continues as the model does."""
         played, is_open = self.play[:at + 1], self.course.models[at].is_open
         lines = lines_behind(self.play, at, is_open)
         state, given_on = self.state_behind(words, played, given, left[0].state[1:-1] if is_open else [], lines)
@@ -109,9 +109,9 @@ class StoppedPlay:
 
     @staticmethod
     def state_behind(words, played, before, shown, lines_on):
-        """What a store shows, and how many rows it has, that is opened after a crash behind the lines that were played,
-        and crashes again before its rows are counted; and what is answered to further lines then. Until the first crash
-        it has to show this, where one is open. Where there is no store, one is made for these lines."""
+        """What a store shows, and how many rows it has, that is opened after a crash after the lines that were played. It crashes again
+        before its rows are counted. Also what is answered to further lines then. Until the first crash it has to show this, if one is
+        open. If there is no store, one is made for these lines."""
         lines = [*played, *(SHOWN if shown else []), "crash", "read-tables", "open", *SHOWN, "crash", "read-tables"]
         given, status, _ = run_words(words, [*lines, *lines_on])
         check(status == 0 and len(given) == len(lines + lines_on) and given[:len(played)] == before,
@@ -130,15 +130,14 @@ class StoppedPlay:
         return None, made[1:]
 
     def answers_behind(self, at, lines, store):
-        """What the model answers to lines behind a stop that left this store. It runs hooks from scratch wherever no row
-        is remembered, and a fix that waited for the line that was stopped waits no more."""
+        """What the model answers to lines after a stop that left this store. It runs hooks from scratch if no row is cached, and a fix
+        that waited for the line that was stopped waits no more."""
         model = copy.deepcopy(self.course.models[at])
         model.store, model.is_open, model.waiting = copy.deepcopy(store), False, {}
         return [model.play("create" if line == "open" and store is None else line) for line in lines]
 
     def check_lines_behind(self, place, at, lines, given, store):
-        """What stood in the store remembers what was told and nothing else, and all lines are answered as by the
-        model."""
+        """The store has what was answered, and nothing more, and all lines are answered as by the model."""
         for line, answer, right in zip(lines, given, self.answers_behind(at, lines, store)):
             check(answer == right, f"{place}: then {line!r} is answered {answer!r}, wanted {right!r}")
         check(len(given) == len(lines), f"{place}: {len(given)} of {len(lines)} lines are answered then")
@@ -150,7 +149,7 @@ class StoppedPlay:
             check(all(found[line] in self.told[line] for line in kept), f"{place}: {found!r} isn't what the children told")
 
     def stops(self, which):
-        """Where the play stops, as `run` says it, while the disk stops at each of its operations on a file in turn."""
+        """The lines at which the play stops, as `run` gives them, while the disk stops at each of its operations on a file in turn."""
         with ThreadPoolExecutor(max_workers=len(os.sched_getaffinity(0))) as pool:
             stops = []
             while None not in stops:
@@ -160,7 +159,7 @@ class StoppedPlay:
         return stops[:ended]
 
     def writes(self):
-        """Which of the lines change what stands in the store, or make it."""
+        """Which of the lines change what is in the store, or make it."""
         models = enumerate(zip(self.course.models, self.course.models[1:]))
         return {at for at, (before, after) in models if before.store != after.store}
 
@@ -205,16 +204,16 @@ def is_left_before_or_after_new_ticks_by_a_stop(_folder):
 # ---- between two transactions
 
 def has_tick(words, played, tick):
-    """Whether a use has this tick in the store behind these lines and a crash. None may be put in beside it then."""
+    """Whether a use has this tick in the store after these lines and a crash. No other may be put in with the same tick then."""
     given, _, _ = run_words(words, [*played, "crash", f"execute INSERT INTO uses VALUES (x'00', x'00', {tick})"])
     return given[-1].startswith(SQL)
 
 
 def is_whole_between_new_ticks_and_a_use(_folder):
-    """Stops leave a store whose ticks end with the greatest, one whose ticks are numbered anew, and one in which the
+    """Stops leave a store whose ticks end with the greatest, one whose ticks are numbered again, and one in which the
     use has a tick more: all three come."""
     played, found = [*STOPPED_TICKS[:2], LAST], []
-    # Each of them stands for several operations, so that every other one meets all.
+    # Each of them means several operations, so that every other one meets all.
     for number in range(0, 1000, 2):
         words = ["log", str(number)]
         given, status, _ = run_words(words, played)

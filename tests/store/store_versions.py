@@ -35,7 +35,7 @@ def check_migrated(found, before, place):
 
 
 def takes_a_store_of_version_1_over(folder):
-    """One with a commit, a staged file and three answers: all of them are there, and it is of version 2 ever after."""
+    """A store with a commit, a staged file and three answers: all of them are kept, and it stays of version 2."""
     path, model = os.path.join(folder, "store.db"), model_over(FIRST_STORE)
     ask(path, planting_store(FIRST_STORE))
     check_file(path, model.store)
@@ -69,7 +69,7 @@ def change_fields(held):
 
 
 def shown_by_rows(path):
-    """What a store shows whose rows these are."""
+    """What a store with these rows shows."""
     with sqlite3.connect(f"file:{path}?mode=ro", uri=True) as database:
         database.text_factory = bytes
         ask_rows = lambda text: database.execute(text).fetchall()
@@ -89,7 +89,7 @@ def shown_by_rows(path):
 
 
 def opens_each_store_of_an_earlier_program(folder):
-    """Each of the stores that a program of version 1 left shows what stands in its rows, and has these and its uses
+    """Each of the stores that a program of version 1 left shows what is in its rows, and has these and its uses
     then."""
     check(len(stores.names()) == 7, f"the stores are {stores.names()!r}")
     for name in stores.names():
@@ -117,7 +117,7 @@ def numbered_answers(count):
 
 
 def planted_with_answers(path, count):
-    """Makes a store of version 1 of so many answers, and nothing else. Answers them by their uses."""
+    """Makes a store of version 1 of so many answers, and nothing more. Answers them by their uses."""
     told = numbered_answers(count)
     ask(path, "; ".join([*FIRST_TABLES, FIRST_META]))
     ask(path, planting_all(told, version=1))
@@ -129,7 +129,7 @@ def recall_of(answer):
 
 
 def keeps_the_last_10_000_answers_of_version_1(folder):
-    """In the order of their keys, the greatest in front; those before them are dropped, and their contents are kept."""
+    """They are in the order of their keys, the greatest in front. Those before them are dropped, and their contents are kept."""
     for count in (10_000, 10_001, 100_000):
         path = os.path.join(folder, f"{count}.db")
         told = planted_with_answers(path, count)
@@ -166,7 +166,7 @@ def check_left(path, before, place):
 
 
 def leaves_version_1_where_no_rowid_is_left(folder):
-    """A migration puts two rows into `meta`, behind that of the version."""
+    """A migration puts two rows into `meta`, after that of the version."""
     path = os.path.join(folder, "store.db")
     for rowid in (GREATEST_ROWID - 1, GREATEST_ROWID):
         ask(path, planting_store(FIRST_STORE))
@@ -180,7 +180,7 @@ def leaves_version_1_where_no_rowid_is_left(folder):
 
 
 def takes_over_a_version_whose_rowid_leaves_room(folder):
-    """Three rowids behind it are room for both rows, and for the next opening to find one free."""
+    """Three rowids after it are room for both rows, and for the next opening to find one free."""
     path = os.path.join(folder, "store.db")
     ask(path, planting_store(FIRST_STORE))
     ask(path, f"UPDATE meta SET rowid = {GREATEST_ROWID - 3}")
@@ -192,7 +192,7 @@ def takes_over_a_version_whose_rowid_leaves_room(folder):
 
 
 def refuses_what_it_took_over_to_the_last_rowid(folder):
-    """Two rowids behind it are room for both rows, of which the last then has the greatest. It is refused until another
+    """Two rowids after it are room for both rows, of which the last then has the greatest. It is refused until another
     program gives it another one."""
     path, model = os.path.join(folder, "store.db"), model_over(FIRST_STORE)
     ask(path, planting_store(FIRST_STORE))
@@ -220,7 +220,7 @@ def leaves_version_1_where_the_file_may_only_be_read(folder):
 def leaves_one_version_where_the_disk_is_full(folder):
     """No file may become larger than so many bytes: refused, it is of version 1, and taken over, of version 2."""
     path, refused, given = os.path.join(folder, "store.db"), 0, []
-    # The pages of the migration take 24 KiB of the log, behind which it makes room for 256 more.
+    # The pages of the migration take 24 KiB of the log, after which it makes room for 256 more.
     for size in [*range(0, 28_000, 1_000), *range(30_000, 400_000, 60_000)]:
         ask(path, planting_store(FIRST_STORE))
         before, model = rows_of(path), model_over(FIRST_STORE)

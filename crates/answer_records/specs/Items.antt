@@ -1,5 +1,5 @@
--- What is read at the front of the bytes. This serves private functions alone: the readers and the writers of the items of a
--- record.
+-- What is read at the front of the bytes. This serves private functions alone: the readers and writers of the
+-- items of a record.
 use Rattle.std.specs.Prelude.{◌≡◌, ℕ, ◌<◌, ◌≤◌, List, ◌∷◌, ◌++◌, length, Option, IfSome}
 use Rattle.hook_base.specs.declared.file.Mode.{Mode}
 use Rattle.answer_records.specs.declared.record_fault.RecordFault.{RecordFault}
@@ -10,41 +10,41 @@ use Rattle.answer_records.specs.Limits.{IsStorable, most_record_bytes}
 use Rattle.answer_records.specs.Reading.{IsDigest}
 use Rattle.answer_records.specs.Records.{counted_bytes, mode_byte, now_bytes}
 
--- nothing is read only where this holds, or where memory is refused
+-- the bytes aren't read: only if this holds, or if memory is refused
 abbrev pub IsUnread : Type 0 → Unread → Type 0
 IsUnread none unread.NoRecord = none
 IsUnread none unread.OutOfMemory = Unit {0}
 
--- the number of items is more than a record may have
+-- there are more items than a record may have
 abbrev pub IsCountRefusal : ℕ → RecordFault → Type 0
 IsCountRefusal count TooLarge = most_record_bytes < count
 IsCountRefusal count OutOfMemory = Unit {0}
 
--- no item of the kind is spelled at the front of the bytes
+-- the bytes don't begin with the spelling of an item
 pub record BeginsWithNone {X : Type 0} (Is : X → Type 0) (spelling : X → List ℕ) (bytes : List ℕ) : Type 0 where
   pub none : (item : X) (rest : List ℕ) → Is item → IsStorable (spelling item) → ¬ (bytes ≡ spelling item ++ rest)
 
--- no bytes stand behind their number at the front
+-- the bytes don't begin with a number of bytes and then these
 pub record BeginsWithNoBytes (bytes : List ℕ) : Type 0 where
   pub none : (text rest : List ℕ) → IsStorable text → ¬ (bytes ≡ counted_bytes text ++ rest)
 
--- no mode stands at the front
+-- the bytes don't begin with a mode
 pub record LacksMode (bytes : List ℕ) : Type 0 where
   pub none : (mode : Mode) (rest : List ℕ) → ¬ (bytes ≡ mode_byte mode ∷ rest)
 
--- no mode with a digest stands at the front
+-- the bytes don't begin with a mode and a digest
 pub record BeginsWithNoMode (bytes : List ℕ) : Type 0 where
   pub none : (mode : Mode) (digest rest : List ℕ) → IsDigest digest → ¬ (bytes ≡ (mode_byte mode ∷ digest) ++ rest)
 
--- neither the mark of a file that is gone nor one with a digest stands at the front
+-- the bytes begin neither with the mark of a file that is gone nor with that of a digest and the digest
 pub record BeginsWithNoDigest (bytes : List ℕ) : Type 0 where
   pub none : (now : Option (List ℕ)) (rest : List ℕ) → IfSome now IsDigest → ¬ (bytes ≡ now_bytes now ++ rest)
 
--- the record is of no value
+-- the bytes are the record of no value
 pub record HasNoValue {X : Type 0} (IsRecord : X → List ℕ → Type 0) (bytes : List ℕ) : Type 0 where
   pub none : (value : X) → ¬ IsRecord value bytes
 
--- The spellings of two items that are different differ before either ends, and none is empty.
+-- The spellings of two different items differ before either ends, and no spelling is empty.
 pub record IsToldApart {X : Type 0} (Is : X → Type 0) (spelling : X → List ℕ) : Type 0 where
   pub same : (item other : X) (rest more : List ℕ) → Is item → Is other → IsStorable (spelling item) → IsStorable (spelling other) → spelling item ++ rest ≡ spelling other ++ more → (item ≡ other) × (rest ≡ more)
   pub some : (item : X) → 1 ≤ length (spelling item)

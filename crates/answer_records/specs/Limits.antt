@@ -1,4 +1,4 @@
--- How large a record may be, in bytes. Belongs to the module `limits`; its constant is proved to be this by `laws`.
+-- The size limit of a record, in bytes. `laws` proves that the constant of the module `limits` is this.
 use Rattle.std.specs.Prelude.{ℕ, ◌≤◌, List, length}
 use Rattle.hook_base.specs.Limits.{most_file_bytes}
 
@@ -6,6 +6,6 @@ use Rattle.hook_base.specs.Limits.{most_file_bytes}
 abbrev pub most_record_bytes : ℕ
 most_record_bytes = most_file_bytes
 
--- the bytes are no more than those of a record
+-- the bytes are few enough for a record
 abbrev pub IsStorable : List ℕ → Type 0
 IsStorable bytes = length bytes ≤ most_record_bytes

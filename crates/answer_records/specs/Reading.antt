@@ -11,32 +11,32 @@ use Rattle.answer_records.specs.declared.seen_file.SeenFile.{SeenFile}
 use Rattle.answer_records.specs.Limits.{IsStorable, most_record_bytes}
 use Rattle.answer_records.specs.Records.{list_bytes, counted_bytes, seen_bytes, changed_bytes}
 
--- The bytes, all of them, are the record of these items.
+-- These bytes, all of them, are the record of these items.
 pub record IsListOf {X : Type 0} (Is : X → Type 0) (spelling : X → List ℕ) (items : List X) (bytes : List ℕ) : Type 0 where
-  -- each item is one of its kind
+  -- each value is an item
   pub each : AllByRecursion Is items
   pub spelled : bytes ≡ list_bytes spelling items
   pub storable : IsStorable bytes
 
--- The bytes are the record of these items, whose paths rise.
+-- These bytes are the record of these items, whose paths rise.
 pub record IsRisingListOf {X : Type 0} (Is : X → Type 0) (spelling : X → List ℕ) (path_of : X → List ℕ) (items : List X) (bytes : List ℕ) : Type 0 where
   pub listed : IsListOf Is spelling items bytes
   pub rising : IsRisingBy path_of items
 
--- a text that is the path of a file in a tree
+-- the bytes are a text that is the path of a file in a tree
 pub record IsTreePath (path : List ℕ) : Type 0 where
   pub utf8 : IsUtf8 path
   pub legal : IsRepoPath path
 
--- as many bytes as a SHA-256 has
+-- the length is that of a SHA-256
 abbrev pub IsDigest : List ℕ → Type 0
 IsDigest digest = length digest ≡ 32
 
--- the digest of a seen file's contents is one
+-- the digest of the file's contents has this length
 pub record NamesItsContents (file : SeenFile) : Type 0 where
   pub digest : IsDigest file.digest
 
--- the digest of a file's new contents, where it has one, is one
+-- the digest of the file's new contents, if there is one, has this length
 pub record NamesItsNow (file : ChangedFile) : Type 0 where
   pub digest : IfSome file.digest IsDigest
 
@@ -60,11 +60,11 @@ IsSeenRecord = IsRisingListOf IsSeenFile seen_bytes (λ file. file.path)
 abbrev pub IsChangesRecord : List ChangedFile → List ℕ → Type 0
 IsChangesRecord = IsRisingListOf IsChangedFile changed_bytes (λ file. file.path)
 
--- the digest of each file's contents is one
+-- the digests of all contents have the length of a SHA-256
 abbrev pub HaveDigests : List SeenFile → Type 0
 HaveDigests = AllByRecursion NamesItsContents
 
--- the digest of each file's new contents, where it has one, is one
+-- the digests of all new contents have the length of a SHA-256
 abbrev pub HaveNewDigests : List ChangedFile → Type 0
 HaveNewDigests = AllByRecursion NamesItsNow
 
@@ -77,12 +77,12 @@ pub record HaveOneRecord {X : Type 0} (record_of : X → List ℕ) (value other 
 abbrev pub TellsItsValue : {X : Type 0} → (X → List ℕ → Type 0) → Type 0
 TellsItsValue {X} IsRecord = (value other : X) (bytes : List ℕ) → IsRecord value bytes → IsRecord other bytes → value ≡ other
 
--- A reader answers the value whose record the bytes are, and none only where they are the record of no value.
+-- A reader answers the value whose record the bytes are, and none only if they are the record of no value.
 abbrev pub Decodes : {X : Type 0} → (X → List ℕ → Type 0) → List ℕ → Option X → Type 0
 Decodes {X} IsRecord bytes None = (value : X) → ¬ IsRecord value bytes
 Decodes IsRecord bytes (Some value) = IsRecord value bytes
 
--- A record isn't made where it is too large, and only there, or where memory is refused.
+-- A record isn't made only if it is too large, or if memory is refused.
 abbrev pub IsRecordRefusal : List ℕ → RecordFault → Type 0
 IsRecordRefusal bytes TooLarge = most_record_bytes < length bytes
 IsRecordRefusal bytes OutOfMemory = Unit {0}

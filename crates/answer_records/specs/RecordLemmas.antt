@@ -1,4 +1,4 @@
--- Lemmas: a record tells the value that it is of.
+-- Lemmas: a record determines the value that it was made of.
 use Rattle.std.specs.Prelude.{◌≡◌, ℕ, ◌+◌, ◌<◌, ◌≤◌, ◌^◌, List, [], ◌∷◌, ◌++◌, length, Option, None, Some, IfSome, refl}
 use Rattle.std.specs.List.{AllByRecursion, flat_map}
 use Rattle.std.specs.Str.{IsUtf8}
@@ -22,11 +22,11 @@ use Rattle.answer_records.specs.Records.{number_bytes, counted_bytes, list_bytes
 
 -- ---- fields
 
--- lists that are put together of three, the first two apart
+-- equal lists, each put together of three lists, stay equal if the last two are put together first
 pub regrouped : {X : Type 0} (a b rest c d more : List X) → (a ++ b) ++ rest ≡ (c ++ d) ++ more → a ++ (b ++ rest) ≡ c ++ (d ++ more)
 regrouped a b rest c d more e = sym (append_assoc a b rest) ∙ e ∙ append_assoc c d more
 
--- two lists that begin with as many items
+-- two lists whose first parts have the same length
 fronts_same : {X : Type 0} (xs ys rest more : List X) → length xs ≡ length ys → xs ++ rest ≡ ys ++ more → (xs ≡ ys) × (rest ≡ more)
 fronts_same [] [] rest more len e = (refl, e)
 fronts_same [] (y ∷ ys) rest more len e = absurd (omega arith)
@@ -61,7 +61,7 @@ counted_same text other rest more small second e =
 pub counted_length : (text : List ℕ) → length (counted_bytes text) ≡ 4 + length text
 counted_length text = omega (arith, length-append (number_bytes (length text)) text, number_length (length text))
 
--- a text behind its number, and more
+-- a text after its length, and more
 pub tail_length : (text tail : List ℕ) → length (counted_bytes text ++ tail) ≡ 4 + length text + length tail
 tail_length text tail = omega (arith, length-append (counted_bytes text) tail, counted_length text)
 
@@ -83,7 +83,7 @@ mode_same Plain Executable e = absurd (omega arith)
 mode_same Executable Plain e = absurd (omega arith)
 mode_same Executable Executable e = refl
 
--- the bytes of two files that are put together of a path and of what follows it
+-- the bytes of two files, each put together of a path and what follows it
 parts_same : (path other tail second rest more : List ℕ) → length path < 2 ^ 32 → length other < 2 ^ 32
     → (counted_bytes path ++ tail) ++ rest ≡ (counted_bytes other ++ second) ++ more → (path ≡ other) × (tail ++ rest ≡ second ++ more)
 parts_same path other tail second rest more small next e =
@@ -146,7 +146,7 @@ digests_tell_changed = record {
   some = λ item. omega (arith, tail_length item.path (now_bytes item.digest));
 }
 
--- what tells items apart, tells some of them apart
+-- if `IsToldApart` holds for some items, it holds for fewer of them
 pub told_apart_weaker : {X : Type 0} (Is Wider : X → Type 0) (spelling : X → List ℕ) → ((x : X) → Is x → Wider x) → IsToldApart Wider spelling → IsToldApart Is spelling
 told_apart_weaker Is Wider spelling widen told = record {
   same = λ item other rest more is also small second e. told.same item other rest more (widen item is) (widen other also) small second e;
@@ -192,7 +192,7 @@ count_of_list Is spelling told items storable =
 cons_same : {X : Type 0} (item other : X) (items others : List X) → item ≡ other → items ≡ others → (item ∷ items) ≡ (other ∷ others)
 cons_same item other items others first rest = cc
 
--- as many items with the same bytes in front are the same
+-- lists of the same length whose spellings begin the same are the same
 pub items_same : {X : Type 0} (Is : X → Type 0) (spelling : X → List ℕ) → IsToldApart Is spelling → (items others : List X) (rest more : List ℕ)
     → AllByRecursion (Fits Is spelling) items → AllByRecursion (Fits Is spelling) others → length items ≡ length others
     → flat_map spelling items ++ rest ≡ flat_map spelling others ++ more → (items ≡ others) × (rest ≡ more)
@@ -205,7 +205,7 @@ items_same Is spelling told (item ∷ items) (other ∷ others) rest more fits a
     let others_too = items_same Is spelling told items others rest more fits.1 also.1 (omega arith) first.1 in
     (cons_same item other items others first.0 others_too.0, others_too.1)
 
--- the same bytes list the same items
+-- the same bytes have the same items
 pub list_same : {X : Type 0} (Is : X → Type 0) (spelling : X → List ℕ) → IsToldApart Is spelling → (items others : List X) → AllByRecursion Is items
     → AllByRecursion Is others → IsStorable (list_bytes spelling items) → list_bytes spelling items ≡ list_bytes spelling others → items ≡ others
 list_same Is spelling told items others each also storable e =

@@ -17,8 +17,8 @@ use crate::{ChangedFile, RecordFault};
 use hook_base::{Bytes, Items, OutOfMemory, RepoPath};
 use std::alloc::Global;
 
-/// The record of what became of files, in the order in which they are given. `TooLarge` where it would have more than
-/// [`MOST_RECORD_BYTES`](crate::MOST_RECORD_BYTES) bytes, and only there; `OutOfMemory` where memory is refused.
+/// The record of what became of files, in the given order. `TooLarge` exactly if it would have more than
+/// [`MOST_RECORD_BYTES`](crate::MOST_RECORD_BYTES) bytes. `OutOfMemory` if memory is refused.
 #[tactic(auto, unfolding(crate::specs::Records::changes_record))]
 pub fn changes_record(alloc: Global, files: &[ChangedFile]) -> Result<Bytes, RecordFault>
     ensures same { IfOk result (λ bytes. bytes ≡ changes_record files.now) }
@@ -29,8 +29,8 @@ pub fn changes_record(alloc: Global, files: &[ChangedFile]) -> Result<Bytes, Rec
     list_record(alloc, files)
 }
 
-/// The files whose record the bytes are, with paths that rise, or `None` where they are the record of none. `OutOfMemory`
-/// where memory is refused.
+/// The files whose record these bytes are, with paths that rise, or `None` if the bytes aren't such a record.
+/// `OutOfMemory` if memory is refused.
 pub fn read_changes(alloc: Global, bytes: &[u8]) -> Result<Option<Items<ChangedFile>>, OutOfMemory>
     ensures { IfOk result (Decodes IsChangesRecord bytes.now) }
 {
@@ -79,7 +79,7 @@ impl Placed for ChangedFile {
     }
 }
 
-// What a file is now at the front, and what follows it.
+// Reads the new digest of a file at the front, or that the file is gone, and gives the rest.
 fn marked_digest(bytes: &[u8]) -> Option<(Option<[u8; 32]>, &[u8])>
     ensures found { IfSome result (λ read. bytes.now ≡ now_bytes read.0 ++ read.1.now) }
     ensures digest { IfSome result (λ read. IfSome read.0 IsDigest) }

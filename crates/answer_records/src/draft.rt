@@ -1,4 +1,4 @@
-//! A record that is being written.
+//! A record while it is written.
 
 ghost use Rattle.std.specs.Prelude.{◌≡◌, ◌<◌, ◌++◌, IfOk, IfErr, OnOk};
 ghost use Rattle.answer_records.specs.Limits.{IsStorable, most_record_bytes};
@@ -11,7 +11,7 @@ use hook_base::Bytes;
 use std::alloc::Global;
 use std::marker::Model;
 
-/// The front of a record. It never gets larger than a record may be. Contracts see its bytes.
+/// The beginning of a record. It never gets larger than a record may be. Contracts see its bytes.
 #[derive(Drop)]
 pub(crate) struct Draft {
     bytes: Vec<u8>,
@@ -29,7 +29,7 @@ impl Model for Draft {
 }
 
 impl Draft {
-    /// The front of a record of so many items.
+    /// The beginning of a record of `count` items.
     pub(crate) fn of_items(alloc: Global, count: usize) -> Result<Draft, RecordFault>
         ensures number { IfOk result (λ draft. draft ≡ number_bytes count) }
         ensures refused { IfErr result (IsCountRefusal count) }
@@ -53,7 +53,7 @@ impl Draft {
         Ok(())
     }
 
-    /// Adds bytes behind their number.
+    /// Adds the number of bytes, and then the bytes.
     pub(crate) fn put_counted(&mut self, bytes: &[u8]) -> Result<(), RecordFault>
         ensures added { OnOk result (self.new ≡ self.old ++ counted_bytes bytes.now) }
         ensures refused { IfErr result (IsRecordRefusal (self.old ++ counted_bytes bytes.now)) }

@@ -11,7 +11,7 @@ use hook_base::{PathFault, RepoPath};
 use std::alloc::Global;
 use std::str;
 
-/// The number at the front, and what follows it.
+/// The number at the front, and the rest.
 pub(crate) fn number(bytes: &[u8]) -> Option<(u32, &[u8])>
     ensures found { IfSome result (λ read. bytes.now ≡ number_bytes read.0 ++ read.1.now) }
     ensures few { IfSome result (λ read. read.0 < 2 ^ 32) }
@@ -21,7 +21,7 @@ pub(crate) fn number(bytes: &[u8]) -> Option<(u32, &[u8])>
     Some((u32::from_be_bytes(*front), rest))
 }
 
-/// The bytes behind their number at the front, and what follows them.
+/// The bytes at the front, after their number, and the rest.
 pub(crate) fn counted(bytes: &[u8]) -> Option<(&[u8], &[u8])>
     ensures found { IfSome result (λ read. bytes.now ≡ counted_bytes read.0.now ++ read.1.now) }
     ensures few { IfSome result (λ read. length read.0.now < 2 ^ 32) }
@@ -31,7 +31,7 @@ pub(crate) fn counted(bytes: &[u8]) -> Option<(&[u8], &[u8])>
     rest.split_at_checked(count as usize)
 }
 
-/// The digest at the front, and what follows it.
+/// The digest at the front, and the rest.
 pub(crate) fn digest_at(bytes: &[u8]) -> Option<(&[u8; 32], &[u8])>
     ensures found { IfSome result (λ read. bytes.now ≡ read.0.now ++ read.1.now) }
     ensures digest { IfSome result (λ read. IsDigest read.0.now) }
@@ -40,7 +40,7 @@ pub(crate) fn digest_at(bytes: &[u8]) -> Option<(&[u8; 32], &[u8])>
     bytes.split_first_chunk::<32>()
 }
 
-/// The path of a file in a tree that the bytes are.
+/// Reads bytes as the path of a file in a tree.
 pub(crate) fn tree_path(alloc: Global, bytes: &[u8]) -> Result<RepoPath, Unread>
     ensures path { IfOk result (λ path. (path ≡ bytes.now) × IsTreePath bytes.now) }
     ensures unread { IfErr result (IsUnread (¬ IsTreePath bytes.now)) }
@@ -55,7 +55,7 @@ pub(crate) fn tree_path(alloc: Global, bytes: &[u8]) -> Result<RepoPath, Unread>
     }
 }
 
-// The path of a commit's message, if the text is that.
+// Reads a text as the path of a commit's message.
 fn message_path(alloc: Global, text: &str) -> Result<RepoPath, Unread>
     ensures path { IfOk result (λ path. (path ≡ text.now) × (text.now ≡ message_path)) }
     ensures unread { IfErr result (IsUnread (¬ (text.now ≡ message_path))) }

@@ -1,4 +1,4 @@
-//! Laws of what the contracts cite. Each is a function that gives nothing: what it ensures is a theorem.
+//! Laws about what the contracts cite. Each is a function without a result: what it ensures is a theorem.
 
 ghost use Rattle.std.specs.Prelude.{◌≡◌, ℕ, List};
 ghost use Rattle.hook_base.specs.declared.change.Change.{Change};
@@ -11,39 +11,39 @@ ghost use Rattle.answer_records.specs.Records.{changed_of_changes, changes_recor
 
 use crate::MOST_RECORD_BYTES;
 
-/// The limit of the code is the one that the definitions name.
+/// The limit in the code is that of the definitions.
 pub fn the_limit_is_that_defined()
     ensures { MOST_RECORD_BYTES ≡ most_record_bytes }
 {}
 
-/// Bytes are the record of one value at most: so what is read of a record is what it was made of.
+/// Bytes are the record of one value at most: what is read from a record is what it was made of.
 pub fn bytes_are_the_record_of_one_value()
     ensures words { TellsItsValue IsWordsRecord }
     ensures seen { TellsItsValue IsSeenRecord }
     ensures changes { TellsItsValue IsChangesRecord }
 {}
 
-/// No two lists of words have one record.
+/// Two different lists of words have different records.
 pub fn a_record_tells_its_words()
     ensures { (words others : List (List ℕ)) → HaveOneRecord words_record words others → words ≡ others }
 {}
 
-/// No two lists of seen files have one record.
+/// Two different lists of seen files have different records.
 pub fn a_record_tells_its_seen_files()
     ensures { (files others : List SeenFile) → HaveDigests files → HaveDigests others → HaveOneRecord seen_record files others → files ≡ others }
 {}
 
-/// No two lists of changed files have one record.
+/// Two different lists of changed files have different records.
 pub fn a_record_tells_its_changed_files()
     ensures { (files others : List ChangedFile) → HaveNewDigests files → HaveNewDigests others → HaveOneRecord changes_record files others → files ≡ others }
 {}
 
-/// Files with one record have the same paths and modes, and the digests of their contents are the same.
+/// Files with the same record have the same paths, modes and digests of their bytes.
 pub fn seen_files_of_one_record_are_alike()
     ensures { (files others : List File) → HaveOneRecord seen_record (seen_of_files files) (seen_of_files others) → seen_of_files files ≡ seen_of_files others }
 {}
 
-/// Changes with one record are of the same paths, and the digests of what the files are now are the same.
+/// Changes with the same record have the same paths and the same digests of the new bytes.
 pub fn changes_of_one_record_are_alike()
     ensures { (changes others : List Change) → HaveOneRecord changes_record (changed_of_changes changes) (changed_of_changes others) → changed_of_changes changes ≡ changed_of_changes others }
 {}

@@ -1,11 +1,13 @@
-//! The records of a remembered answer: bytes for the words of a command, for the files that its child saw and for what became
-//! of them, and the way back.
+//! The records of a cached result: the words of a command, the files that its child saw and what became of
+//! files, as bytes, and the way back.
 //!
-//! [`words_record`], [`seen_record`] and [`changes_record`] make the bytes, and [`read_words`], [`read_seen`] and
-//! [`read_changes`] read them. A record names contents by their SHA-256 (`SeenFile`, `ChangedFile`), which the caller takes
-//! of them. It has at most [`MOST_RECORD_BYTES`] bytes. The contracts cite `specs/Records.antt` (the bytes of each record),
-//! `specs/Reading.antt` (which bytes are the record of a value) and `specs/Limits.antt`; `specs/Items.antt` serves private
-//! functions only. [`laws`] says that a record tells the value that it is of.
+//! [`words_record`], [`seen_record`] and [`changes_record`] make the bytes, and [`read_words`], [`read_seen`]
+//! and [`read_changes`] read them. A record has the SHA-256 of contents instead of these (`SeenFile`,
+//! `ChangedFile`), and the caller computes it. It has at most [`MOST_RECORD_BYTES`] bytes.
+//!
+//! The contracts cite `specs/Records.antt` (the bytes of each record), `specs/Reading.antt` (which bytes are
+//! the record of a value) and `specs/Limits.antt`; `specs/Items.antt` serves private functions alone.
+//! [`laws`] says that a record determines the value that it was made of.
 #![tactic(auto)]
 
 mod changed_file;

@@ -2,5 +2,6 @@
 
 use hook_base::MOST_FILE_BYTES;
 
-/// The most bytes that a record may have: as many as a file, 16 MiB. One of just so many may be.
+/// The most bytes that a record may have: as many as a file, 16 MiB. A record of exactly this size is
+/// allowed.
 pub const MOST_RECORD_BYTES: usize = MOST_FILE_BYTES;

@@ -25,7 +25,7 @@ pub(crate) fn list_record<T: Item>(alloc: Global, items: &[T]) -> Result<Bytes, 
     Ok(draft.into_bytes())
 }
 
-/// The items whose record the bytes are.
+/// The items whose record these bytes are.
 pub(crate) fn read_list<T: Item>(alloc: Global, bytes: &[u8]) -> Result<Vec<T>, Unread>
     ensures found { IfOk result (λ items. IsListOf T.is_item T.spelling items.items bytes.now) }
     ensures unread { IfErr result (IsUnread (HasNoValue (IsListOf T.is_item T.spelling) bytes.now)) }

@@ -1,4 +1,4 @@
-//! The reasons why a record isn't made.
+//! The reasons why a record can't be made.
 
 ghost use Rattle.std.specs.Prelude.{◌≡◌};
 ghost use Rattle.answer_records.specs.declared.record_fault.RecordFault.TheVariants.{OutOfMemory};
@@ -7,7 +7,7 @@ use hook_base::OutOfMemory as Refused;
 use std::alloc::{AllocError, AllocFailed};
 use thiserror::Error;
 
-/// Why a record isn't made.
+/// Why a record can't be made.
 #[derive(Clone, Copy, Debug, PartialEq, Eq, Error)]
 pub enum RecordFault {
     /// It would have more than [`MOST_RECORD_BYTES`](crate::MOST_RECORD_BYTES) bytes.

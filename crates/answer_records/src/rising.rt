@@ -11,7 +11,7 @@ use hook_base::{Items, OutOfMemory};
 use std::alloc::Global;
 use std::cmp::Ordering;
 
-/// The items whose record the bytes are, with paths that rise.
+/// The items whose record these bytes are, with paths that rise.
 pub(crate) fn read_rising<T: Placed>(
     alloc: Global,
     bytes: &[u8],

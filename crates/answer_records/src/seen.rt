@@ -17,8 +17,8 @@ use crate::{RecordFault, SeenFile};
 use hook_base::{Bytes, Items, Mode, OutOfMemory, RepoPath};
 use std::alloc::Global;
 
-/// The record of files that a child saw, in the order in which they are given. `TooLarge` where it would have more than
-/// [`MOST_RECORD_BYTES`](crate::MOST_RECORD_BYTES) bytes, and only there; `OutOfMemory` where memory is refused.
+/// The record of files that a child saw, in the given order. `TooLarge` exactly if it would have more than
+/// [`MOST_RECORD_BYTES`](crate::MOST_RECORD_BYTES) bytes. `OutOfMemory` if memory is refused.
 #[tactic(auto, unfolding(crate::specs::Records::seen_record))]
 pub fn seen_record(alloc: Global, files: &[SeenFile]) -> Result<Bytes, RecordFault>
     ensures same { IfOk result (λ bytes. bytes ≡ seen_record files.now) }
@@ -29,8 +29,8 @@ pub fn seen_record(alloc: Global, files: &[SeenFile]) -> Result<Bytes, RecordFau
     list_record(alloc, files)
 }
 
-/// The files whose record the bytes are, with paths that rise, or `None` where they are the record of none. `OutOfMemory`
-/// where memory is refused.
+/// The files whose record these bytes are, with paths that rise, or `None` if the bytes aren't such a record.
+/// `OutOfMemory` if memory is refused.
 pub fn read_seen(alloc: Global, bytes: &[u8]) -> Result<Option<Items<SeenFile>>, OutOfMemory>
     ensures { IfOk result (Decodes IsSeenRecord bytes.now) }
 {
@@ -79,7 +79,7 @@ impl Placed for SeenFile {
     }
 }
 
-// The mode and the digest at the front, and what follows them.
+// The mode and the digest at the front, and the rest.
 fn mode_and_digest(bytes: &[u8]) -> Option<(Mode, &[u8; 32], &[u8])>
     ensures found { IfSome result (λ read. bytes.now ≡ (mode_byte read.0 ∷ read.1.now) ++ read.2.now) }
     ensures digest { IfSome result (λ read. IsDigest read.1.now) }
@@ -90,7 +90,7 @@ fn mode_and_digest(bytes: &[u8]) -> Option<(Mode, &[u8; 32], &[u8])>
     Some((mode, digest, rest))
 }
 
-// The mode at the front, and what follows it.
+// The mode at the front, and the rest.
 fn mode_at(bytes: &[u8]) -> Option<(Mode, &[u8])>
     ensures found { IfSome result (λ read. bytes.now ≡ mode_byte read.0 ∷ read.1.now) }
     ensures none { IfNone result (LacksMode bytes.now) }
@@ -102,7 +102,7 @@ fn mode_at(bytes: &[u8]) -> Option<(Mode, &[u8])>
     }
 }
 
-// The byte that stands for a mode.
+// The byte that encodes a mode.
 fn byte_of(mode: Mode) -> u8
     ensures { result ≡ mode_byte mode }
 {

@@ -2,13 +2,13 @@
 
 use hook_base::{Mode, RepoPath};
 
-/// A file that a child saw, by the digest of its contents.
+/// A file that a child saw, with the digest of its bytes.
 #[derive(Clone, Debug, Drop, PartialEq, Eq)]
 pub struct SeenFile {
-    /// Where it stands.
+    /// The file's path.
     pub path: RepoPath,
-    /// Whether it is to be run as a program.
+    /// Whether it is executable.
     pub mode: Mode,
-    /// The SHA-256 of its contents.
+    /// The SHA-256 of its bytes.
     pub digest: [u8; 32],
 }

@@ -1,4 +1,4 @@
-//! The reasons why no record is read.
+//! The reasons why bytes aren't read as a record.
 
 ghost use Rattle.std.specs.Prelude.{◌≡◌};
 ghost use Rattle.answer_records.specs.declared.unread.Unread.TheVariants.{OutOfMemory};
@@ -6,7 +6,7 @@ ghost use Rattle.answer_records.specs.declared.unread.Unread.TheVariants.{OutOfM
 use hook_base::OutOfMemory as Refused;
 use std::alloc::{AllocError, AllocFailed};
 
-/// Why no record is read.
+/// Why bytes aren't read as a record.
 #[derive(Clone, Copy, Debug, PartialEq, Eq)]
 pub(crate) enum Unread {
     /// The bytes are the record of no value.

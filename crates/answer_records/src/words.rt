@@ -14,8 +14,8 @@ use hook_base::{Bytes, Items, OutOfMemory, Text};
 use std::alloc::Global;
 use std::str;
 
-/// The record of the words of a command, in their order. `TooLarge` where it would have more than
-/// [`MOST_RECORD_BYTES`](crate::MOST_RECORD_BYTES) bytes, and only there; `OutOfMemory` where memory is refused.
+/// The record of the words of a command, in their order. `TooLarge` exactly if it would have more than
+/// [`MOST_RECORD_BYTES`](crate::MOST_RECORD_BYTES) bytes. `OutOfMemory` if memory is refused.
 #[tactic(auto, unfolding(crate::specs::Records::words_record))]
 pub fn words_record(alloc: Global, words: &[Text]) -> Result<Bytes, RecordFault>
     ensures same { IfOk result (λ bytes. bytes ≡ words_record words.now) }
@@ -25,7 +25,8 @@ pub fn words_record(alloc: Global, words: &[Text]) -> Result<Bytes, RecordFault>
     list_record(alloc, words)
 }
 
-/// The words whose record the bytes are, or `None` where they are the record of none. `OutOfMemory` where memory is refused.
+/// The words whose record these bytes are, or `None` if the bytes aren't such a record. `OutOfMemory` if
+/// memory is refused.
 pub fn read_words(alloc: Global, bytes: &[u8]) -> Result<Option<Items<Text>>, OutOfMemory>
     ensures { IfOk result (Decodes IsWordsRecord bytes.now) }
 {

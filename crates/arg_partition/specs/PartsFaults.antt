@@ -1,4 +1,5 @@
--- The numbers of the reasons why a command can't be cut into parts.
+-- The numbers of the reasons why a command can't be cut into parts (docs/REFERENCE.md, "The parts of a
+-- command").
 use Rattle.std.specs.Prelude.{ℕ}
 use Rattle.arg_partition.specs.declared.parts_fault.PartsFault.{PartsFault}
 use Rattle.arg_partition.specs.declared.parts_fault.PartsFault.TheVariants.{TooLong, OutOfMemory}

@@ -1,4 +1,4 @@
--- Laws of parts: there is one list of them, and it has each name once.
+-- Laws of parts: there is only one list of them, and it has each name once.
 use Rattle.std.specs.Prelude.{◌≡◌, ℕ, ◌+◌, ◌-◌, ◌<◌, ◌≤◌, ◌&&◌, Bool, true, false, nat_le, List, [], ◌∷◌, ◌++◌, length, drop, slice_range, All, refl}
 use Rattle.std.specs.List.{flat_map}
 use Rattle.std.proofs.Common.{◌∙◌, inl, inr, ap, sym, subst, arith}
@@ -13,7 +13,7 @@ use Rattle.std.proofs.lemmas.List.Sums.{sum_by-append}
 use Rattle.arg_partition.specs.declared.cut.Cut.{Cut}
 use Rattle.arg_partition.specs.Parts.{Adjoin, AreParts, IsPart, can_be_part, command_length, fits, names_of}
 
--- ---- names that fit fit without the last of them
+-- ---- names that fit also fit without the last of them
 
 length-front : (front more : List (List ℕ)) → command_length front ≤ command_length (front ++ more)
 length-front [] more = omega arith
@@ -60,7 +60,7 @@ adjoin-le fits most names start end (cut ∷ cuts) some adjoin parts =
     let begins = adjoin.0 in
     omega arith
 
--- no part ends before another that begins where it does
+-- no part ends before another that begins at the same name
 no_sooner : (words names : List (List ℕ)) (limit most : ℕ) (cut other : Cut) → IsPart (fits words limit) most names cut → IsPart (fits words limit) most names other → cut.start ≡ other.start → cut.end < other.end → other.end ≤ length names → ⊥
 no_sooner words names limit most cut other part more begins sooner within =
     let full = part.full (omega arith) in

@@ -1,7 +1,7 @@
--- Words in quotes, as Python's shlex.join writes them.
+-- Words in quotes, as Python's `shlex.quote` writes those that need quotes; `shlex.join` uses it.
 use Rattle.std.specs.Prelude.{ℕ, ◌==◌, if◌then◌else◌, List, [], ◌∷◌, ◌++◌}
 
--- a character in single quotes: a single quote ends them, stands in double quotes, and begins them again
+-- a character in single quotes; a single quote closes them, is written in double quotes, and opens them again
 abbrev pub quoted_character : ℕ → List ℕ
 quoted_character c = if c == 39 then 39 ∷ 34 ∷ 39 ∷ 34 ∷ 39 ∷ [] else c ∷ []
 
@@ -13,7 +13,7 @@ quoted_characters (c ∷ cs) = quoted_character c ++ quoted_characters cs
 abbrev pub quoted : List ℕ → List ℕ
 quoted word = 39 ∷ (quoted_characters word ++ 39 ∷ [])
 
--- words in single quotes, each with a blank behind it
+-- words in single quotes, each followed by a blank
 abbrev pub all_quoted : List (List ℕ) → List ℕ
 all_quoted [] = []
 all_quoted (word ∷ words) = quoted word ++ 32 ∷ all_quoted words

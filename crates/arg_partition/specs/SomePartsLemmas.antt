@@ -1,4 +1,4 @@
--- A command whose names each fit has parts.
+-- Lemmas: a command whose names each fit has parts.
 use Rattle.std.proofs.Common.{◌≡◌, ◌∙◌, ℕ, ◌+◌, ◌-◌, ◌<◌, ◌≤◌, Bool, true, false, not, zero, suc, if◌then◌else◌, List, [], ◌∷◌, ◌++◌, Option, None, Some, length, take, drop, get_or, nat_le, position, slice_range, All, inl, inr, ap, refl, arith}
 use Rattle.std.proofs.lemmas.Bool.{cases_order}
 use Rattle.std.proofs.lemmas.Bool.Decides.{nat_tests}
@@ -24,7 +24,7 @@ range-more names start end forward within =
 range-one : (names : List (List ℕ)) (at : ℕ) → at < length names → slice_range names at (at + 1) ≡ get_or names at [] ∷ []
 range-one names at within = range-more names at at (omega arith) within ∙ ap (λ before. before ++ get_or names at [] ∷ []) (range-none names at)
 
--- ---- names that fit
+-- ---- names that each fit
 
 none_before : (p : List ℕ → Bool) (names : List (List ℕ)) → position p names ≡ None → length names ≤ position_or_len p names
 none_before p names none = grind (arith, nat_tests)
@@ -47,16 +47,16 @@ one_can fits most names at some none within =
     let fit : fits (slice_range names at (at + 1)) ≡ true = rw (range-one names at within) (each_fits fits names at none within) in
     rw (few, fit) refl
 
--- ---- one part: as many names as can be one
+-- ---- one part, with as many names as it can have
 
--- the part that begins at `start`
+-- a part that begins at `start`
 record SomePart (fits : List (List ℕ) → Bool) (most : ℕ) (names : List (List ℕ)) (start : ℕ) : Type 0 where
   end : ℕ
   part : IsPart fits most names (record { start = start; end = end })
   forward : start < end
   within : end ≤ length names
 
--- it takes names until one can't be added, or there are `left` no more
+-- the part takes names until the next doesn't fit; `left` names may still be added
 part_from : (fits : List (List ℕ) → Bool) (most : ℕ) (names : List (List ℕ)) (start end left : ℕ) → start < end → end + left ≡ length names → can_be_part fits most names start end ≡ true → SomePart fits most names start
 part_from fits most names start end zero forward all can = record {
   end = end;
@@ -83,7 +83,7 @@ record SomePartsFrom (fits : List (List ℕ) → Bool) (most : ℕ) (names : Lis
   adjoin : Adjoin start cuts (length names)
   parts : All (IsPart fits most names) cuts
 
--- at most one part for each of the names that are left
+-- there is at most one part for each of the names that are left
 parts_from : (fits : List (List ℕ) → Bool) (most : ℕ) (names : List (List ℕ)) (start left : ℕ) → 1 ≤ most → too_long_at fits names ≡ None → start ≤ length names → length names ≤ start + left → SomePartsFrom fits most names start
 parts_from fits most names start zero some none within few = record { cuts = []; adjoin = omega arith; parts = All-nil (IsPart fits most names) }
 parts_from fits most names start (suc left) some none within few =

@@ -1,4 +1,4 @@
--- The numbers of the reasons why a text can't be cut into words.
+-- The numbers of the reasons why a text can't be cut into words (docs/REFERENCE.md, "The words of an entry").
 use Rattle.std.specs.Prelude.{ℕ}
 use Rattle.arg_partition.specs.declared.words_fault.WordsFault.{WordsFault}
 use Rattle.arg_partition.specs.declared.words_fault.WordsFault.TheVariants.{OpenQuote, NothingEscaped, OutOfMemory}

@@ -1,4 +1,5 @@
--- Laws of words: the bounds of the definition are never short, and each list of words can be written, and is read back.
+-- Laws of words: the bounds in the definition are never too small, and each list of words can be written and
+-- read back.
 use Rattle.std.specs.Prelude.{◌≡◌, ℕ, zero, suc, ◌≤◌, ◌==◌, Bool, true, false, if◌then◌else◌, List, [], ◌∷◌, ◌++◌, Ok, Err, ⊤, length, chars, encode_utf8, encode_utf8_all, map, refl}
 use Rattle.std.proofs.Common.{◌∙◌, inl, inr, ap, sym, arith}
 use Rattle.std.proofs.lemmas.List.{append_assoc, append-nil}
@@ -6,9 +7,9 @@ use Rattle.std.proofs.lemmas.Bool.Decides.{eqb_tells}
 use Rattle.arg_partition.specs.Quoted.{all_quoted, quoted_character, quoted_characters}
 use Rattle.arg_partition.specs.Words.{Front, Reading, adding, bare_escape, before, double_quoted, double_quoted_escape, front_word, is_blank, piece, piece_and_rest, single_quoted, word_and_rest, word_within, words_of, words_of_characters, words_within}
 
--- ---- what is left behind a piece
+-- ---- what is left after a piece
 
--- at most so many characters are left
+-- at most this many characters are left
 abbrev LeavesAtMost : ℕ → Front → Type 0
 LeavesAtMost most (Ok (bytes, behind)) = length behind ≤ most
 LeavesAtMost most (Err fault) = ⊤
@@ -26,7 +27,7 @@ leaves-more : (few most : ℕ) (front : Front) → few ≤ most → LeavesAtMost
 leaves-more few most (Ok (bytes, behind)) less leaves = omega arith
 leaves-more few most (Err fault) less leaves = tt
 
--- a character more
+-- one character more may be left
 leaves-one : (most : ℕ) (front : Front) → LeavesAtMost most front → LeavesAtMost (suc most) front
 leaves-one most front leaves = leaves-more most (suc most) front (omega arith) leaves
 
@@ -58,9 +59,9 @@ piece_leaves c rest =
     (leaves-if (length rest) (c == 34) _ _ (double_leaves rest)
     (leaves-if (length rest) (c == 92) _ _ (bare_leaves rest) (omega arith)))
 
--- ---- a word is its first piece and the word behind it
+-- ---- a word is its first piece and the rest of the word
 
--- two functions agree on texts of at most so many characters
+-- two functions agree on texts of at most this many characters
 abbrev Agree : {A : Type 0} → ℕ → (List ℕ → A) → (List ℕ → A) → Type 0
 Agree most one other = (text : List ℕ) → length text ≤ most → one text ≡ other text
 
@@ -69,7 +70,7 @@ piece-same : (most : ℕ) (front : Front) (one other : List ℕ → Front) → L
 piece-same most (Ok (bytes, behind)) one other leaves same = ap (adding bytes) (same behind leaves)
 piece-same most (Err fault) one other leaves same = refl
 
--- on behind a character in the same way, where what goes on agrees on what is left
+-- a character has the same effect before two continuations that agree on the text that is left
 word-same : (c : ℕ) (rest : List ℕ) (one other : List ℕ → Front) → Agree (length rest) one other
     → (if is_blank c then Ok ([], c ∷ rest) else piece_and_rest (piece c rest) one)
     ≡ (if is_blank c then Ok ([], c ∷ rest) else piece_and_rest (piece c rest) other)
@@ -107,7 +108,7 @@ piece_and_rest_leaves : (most : ℕ) (front : Front) (rest : List ℕ → Front)
 piece_and_rest_leaves most (Ok (bytes, behind)) rest leaves on = leaves-adding most bytes (rest behind) (on behind leaves)
 piece_and_rest_leaves most (Err fault) rest leaves on = tt
 
--- what is left of a text behind pieces of words is no more than was there
+-- the pieces of a word leave no more of a text than there was
 word_leaves : (most : ℕ) (text : List ℕ) → LeavesAtMost (length text) (word_within most text)
 unfolding word_within
 word_leaves zero text = omega arith
@@ -118,7 +119,7 @@ word_leaves (suc most) (c ∷ rest) =
     (piece_and_rest_leaves (length rest) (piece c rest) (word_within most) (piece_leaves c rest)
     (λ text short. leaves-more (length text) (length rest) _ short (word_leaves most text))))
 
--- a word that is begun takes a character at least
+-- a word that is begun takes at least one character
 begun_leaves : (c : ℕ) (rest : List ℕ) → is_blank c ≡ false → LeavesAtMost (length rest) (front_word (c ∷ rest))
 unfolding front_word
 begun_leaves c rest begins =
@@ -132,7 +133,7 @@ followed-same : (most : ℕ) (front : Front) (one other : List ℕ → Reading) 
 followed-same most (Ok (bytes, behind)) one other leaves same = ap (before bytes) (same behind leaves)
 followed-same most (Err fault) one other leaves same = refl
 
--- the words behind a character, by what reads the text that is left
+-- a character has the same effect before two readings that agree on the text that is left
 words-same : (c : ℕ) (rest : List ℕ) (one other : List ℕ → Reading) → Agree (length rest) one other
     → (if is_blank c then one rest else word_and_rest (front_word (c ∷ rest)) one)
     ≡ (if is_blank c then other rest else word_and_rest (front_word (c ∷ rest)) other)
@@ -180,11 +181,11 @@ piece_and_rest-adding : (bytes : List ℕ) (front : Front) (rest : List ℕ → 
 piece_and_rest-adding bytes (Ok (held, behind)) rest = sym (adding-append bytes held (rest behind))
 piece_and_rest-adding bytes (Err fault) rest = refl
 
--- a word from within a single-quoted run on
+-- the rest of a word from within single quotes on
 abbrev from_quoted : List ℕ → Front
 from_quoted text = piece_and_rest (single_quoted text) front_word
 
--- a single quote ends the run; another one in double quotes follows it, and then the next run
+-- a single quote closes the quotes; one in double quotes follows, and then the next quotes open
 a_quote : (rest : List ℕ) → front_word (34 ∷ 39 ∷ 34 ∷ 39 ∷ rest) ≡ adding (encode_utf8 39) (from_quoted rest)
 a_quote rest =
     word_on 34 (39 ∷ 34 ∷ 39 ∷ rest)
@@ -198,7 +199,7 @@ in_quotes c rest =
       | inr other ↦ rw other.0 (rw other.0 (piece_and_rest-adding (encode_utf8 c) (single_quoted rest) front_word))
     ]
 
--- characters in quotes are taken as they are
+-- characters in single quotes are kept as they are
 all_in_quotes : (text rest : List ℕ)
     → from_quoted (quoted_characters text ++ 39 ∷ rest) ≡ adding (encode_utf8_all text) (front_word rest)
 all_in_quotes [] rest = refl
@@ -208,7 +209,7 @@ all_in_quotes (c ∷ cs) rest =
     ∙ (ap (adding (encode_utf8 c)) (all_in_quotes cs rest)
     ∙ adding-append (encode_utf8 c) (encode_utf8_all cs) (front_word rest)))
 
--- a word in quotes, with a blank behind it
+-- a word in quotes, followed by a blank
 quoted_word : (text rest : List ℕ)
     → front_word (39 ∷ (quoted_characters text ++ 39 ∷ 32 ∷ rest)) ≡ Ok (encode_utf8_all text, 32 ∷ rest)
 quoted_word text rest =

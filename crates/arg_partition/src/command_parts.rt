@@ -1,4 +1,4 @@
-//! The parts of a command.
+//! The parts of a command, cut greedily like those of pre-commit's `pre_commit.xargs.partition`.
 
 ghost use Rattle.std.specs.Prelude.{◌≡◌, ◌⊎◌, ◌+◌, ◌<◌, ◌≤◌, ℕ, [], ◌∷◌, true, None, Some, IfOk, IfErr, length, not, position, slice_index};
 ghost use Rattle.arg_partition.specs.Parts.{AreParts, IsPart, fits, too_long_at};
@@ -9,12 +9,13 @@ use crate::{Cut, PartsFault};
 use hook_base::{Items, OutOfMemory, RepoPath, Text};
 use std::alloc::Global;
 
-/// The parts of a command, whose words are followed by names: each part is the words with the names of a cut. A command has
-/// the bytes of its words and names and one byte between neighbours, and is at most `limit` bytes long with at most `most`
-/// names. Each part takes as many names as it can, in their order. Without names there is one part without names.
+/// The parts of a command whose words are followed by names: each part is the words and the names of one cut.
+/// The length of a command is the bytes of its words and names, and one byte between neighbours. A part is at
+/// most `limit` bytes long and has at most `most` names. Each takes as many of the next names as it can.
+/// Without names there is one part without names.
 ///
-/// `TooLong` where a name doesn't fit with the words alone, with the index of the first such name, or where there are no
-/// names and the words don't fit, with the index 0. `OutOfMemory` where memory is refused.
+/// `TooLong` if a name doesn't fit with the words alone, with the index of the first such name. Without names
+/// it means that the words don't fit, with the index 0. `OutOfMemory` if memory is refused.
 pub fn parts(
     alloc: Global,
     words: &[Text],
@@ -37,7 +38,7 @@ pub fn parts(
     Ok(Items::from(cuts))
 }
 
-// The parts of names that each fit the room alone.
+// The parts of names that each fit into the room alone.
 fn cuts_of(
     alloc: Global,
     room: Room,

@@ -1,10 +1,10 @@
 //! A part of a list of names.
 
-/// A part of a list of names: those from the index `start` on, before the index `end`.
+/// A part of a list of names: from the index `start` up to, but not including, the index `end`.
 #[derive(Clone, Copy, Debug, PartialEq, Eq)]
 pub struct Cut {
     /// The index of the first name.
     pub start: usize,
-    /// The index behind the last name.
+    /// The index after the last name.
     pub end: usize,
 }

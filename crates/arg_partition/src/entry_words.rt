@@ -11,13 +11,14 @@ use hook_base::{Items, Text};
 use std::alloc::{AllocError, Global};
 use std::mem;
 
-/// The words of an entry, as Python's `shlex.split` cuts them: blanks (space, tab, carriage return, line feed) part them;
-/// what stands in single quotes is taken as it is, and so in double quotes, but for a backslash before a quote or a
-/// backslash, which it escapes; outside quotes a backslash takes the next character as it is. Pieces side by side join, and
-/// `''` alone is a word without characters. There are no comments and no variables.
+/// The words of an entry, as Python's `shlex.split` cuts them (POSIX mode, without comments). Blanks (space,
+/// tab, carriage return, line feed) separate words. Text in single quotes is kept as it is. So is text in
+/// double quotes, but there a backslash escapes `"` and `\`. Outside quotes a backslash keeps the next
+/// character as it is. Adjacent pieces join, and `''` alone is an empty word. There are no comments and no
+/// variables.
 ///
-/// `NothingEscaped` where the text ends behind a backslash that, outside quotes or in double quotes, has nothing after it to
-/// escape, `OpenQuote` where it ends inside quotes otherwise, and `OutOfMemory` where memory is refused.
+/// `NothingEscaped` if the text ends after a backslash that, outside quotes or in double quotes, has nothing
+/// to escape. `OpenQuote` if it ends inside quotes otherwise. `OutOfMemory` if memory is refused.
 pub fn words(alloc: Global, text: &str) -> Result<Items<Text>, WordsFault>
     ensures cut { IfOk result (λ words. words_of text.now ≡ Ok words) }
     ensures refused { IfErr result (λ fault. (fault ≡ WordsFault.OutOfMemory) ⊎ (words_of text.now ≡ Err fault)) }
@@ -32,7 +33,7 @@ pub fn words(alloc: Global, text: &str) -> Result<Items<Text>, WordsFault>
     begun.ended(place)
 }
 
-// The words that are done, and what is begun of the next.
+// The finished words, and the characters so far of the next one.
 #[derive(Drop)]
 struct Begun {
     words: Vec<Text>,
@@ -50,7 +51,7 @@ impl Begun {
         }
     }
 
-    // Takes what the step gives.
+    // Applies what a step yields.
     fn take(&mut self, alloc: Global, step: Step) -> Result<(), AllocError>
         ensures { IfOk result (λ _. (rest : List ℕ) →
             resumed self.new.words.items (string_bytes self.new.word) (⟦<Place as Reads>⟧.words step.place rest)
@@ -71,7 +72,7 @@ impl Begun {
         }
     }
 
-    // The words of a text that ends at this place.
+    // The words of a text that ends in this state.
     fn ended(self, place: Place) -> Result<Items<Text>, WordsFault>
         ensures { MatchResult result
             (λ words. resumed self.words.items (string_bytes self.word) (⟦<Place as Reads>⟧.words place []) ≡ Ok words)

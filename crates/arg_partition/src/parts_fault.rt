@@ -11,8 +11,8 @@ use thiserror::Error;
 /// Why a command can't be cut into parts.
 #[derive(Clone, Copy, Debug, PartialEq, Eq, Error)]
 pub enum PartsFault {
-    /// With the words alone the name at this index doesn't fit, and each name before it does. Where there are no names the
-    /// words don't fit, and the index is 0.
+    /// The name at this index doesn't fit with the words alone, and each name before it does. If there are no
+    /// names, the words don't fit, and the index is 0.
     #[error("the name at index {0} does not fit the command")]
     TooLong(usize),
     /// Memory was refused.
@@ -21,7 +21,7 @@ pub enum PartsFault {
 }
 
 impl PartsFault {
-    /// The refusal's number: 1 or 2.
+    /// The number of the fault: 1 or 2.
     pub fn number(&self) -> u8
         ensures { result ≡ number_of self.now }
     {

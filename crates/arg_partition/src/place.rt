@@ -1,4 +1,4 @@
-//! Where a character of an entry stands.
+//! The states in which the characters of an entry are read.
 
 ghost use Rattle.std.specs.Prelude.{ℕ, List};
 ghost use Rattle.arg_partition.specs.Words.{Reading, bare_escape, double_quoted, double_quoted_escape, single_quoted, words_of_characters};
@@ -6,24 +6,25 @@ ghost use Rattle.arg_partition.specs.WordsSoFar.{from_piece, from_word};
 
 /// What contracts say of a state in which a text is read.
 pub(crate) trait Reads {
-    /// The words that it makes of the rest of the text. Where a word is begun, the first is what the rest adds to it.
+    /// The words that the state makes of the rest of the text. Within a word, the first is what the rest adds
+    /// to that word.
     ghost words: { Self → List ℕ → Reading };
 }
 
-/// Where a character of an entry stands.
+/// The state in which a character of an entry is read.
 #[derive(Clone, Copy)]
 pub(crate) enum Place {
-    /// Behind a word or at the start: no word is begun.
+    /// After a word or at the start: no word is begun.
     Between,
     /// In a word, outside quotes.
     Bare,
-    /// Behind a backslash outside quotes.
+    /// After a backslash outside quotes.
     Escaped,
     /// In single quotes.
     Single,
     /// In double quotes.
     Double,
-    /// Behind a backslash in double quotes.
+    /// After a backslash in double quotes.
     DoubleEscaped,
 }
 

@@ -1,21 +1,21 @@
-//! What a command may still take.
+//! The room that is left in a command.
 
 ghost use Rattle.std.specs.Prelude.{◌≡◌, ◌+◌, ◌<◌, [], ◌∷◌, false, not, MatchOption, position};
 ghost use Rattle.arg_partition.specs.Rooms.{Leaves, Takes, fits_room};
 
 use hook_base::{RepoPath, Text};
 
-/// What a command may still take.
+/// The room that is left in a command.
 #[derive(Clone, Copy)]
 pub(crate) struct Room {
-    /// The bytes that it may still take.
+    /// The number of bytes left.
     pub(crate) left: usize,
-    /// Whether it has a word already, so that a byte stands before the next.
+    /// Whether the command has a word already, so that a separating byte comes before the next.
     pub(crate) begun: bool,
 }
 
 impl Room {
-    /// What a command of at most `limit` bytes may take behind its words, or `None` where these don't fit.
+    /// The room that a command of at most `limit` bytes has after its words, or `None` if these don't fit.
     pub(crate) fn behind(limit: usize, words: &[Text]) -> Option<Room>
         ensures { MatchOption result (fits_room (record { left = limit; begun = false }) words.now ≡ false) (λ room. Leaves (record { left = limit; begun = false }) words.now room) }
     {
@@ -29,7 +29,7 @@ impl Room {
         Some(room)
     }
 
-    /// What is left behind the word, or `None` where it doesn't fit.
+    /// The room that is left after the word, or `None` if it doesn't fit.
     pub(crate) fn after(self, word: &str) -> Option<Room>
         ensures { Takes self word.now result }
     {
@@ -49,7 +49,7 @@ impl Room {
         self.after(name.as_str()).is_some()
     }
 
-    /// The index of the first name that alone doesn't fit.
+    /// The index of the first name that doesn't fit alone.
     pub(crate) fn misfit(self, names: &[RepoPath]) -> Option<usize>
         ensures { result ≡ position (λ name. not (fits_room self (name ∷ []))) names.now }
     {

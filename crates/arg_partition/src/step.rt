@@ -1,4 +1,4 @@
-//! What one character of an entry does.
+//! The effect of one character of an entry.
 
 ghost use Rattle.std.specs.Prelude.{◌≡◌, ℕ, List, ◌∷◌, [], encode_utf8};
 ghost use Rattle.arg_partition.specs.Words.{Reading, before, double_quoted, double_quoted_escape, is_blank, piece, single_quoted, words_of_characters};
@@ -6,20 +6,20 @@ ghost use Rattle.arg_partition.specs.WordsSoFar.{from_piece, from_word, resumed}
 
 use crate::place::{Place, Reads};
 
-/// What a character gives to the words.
+/// What a character adds to the words.
 #[derive(Clone, Copy)]
 pub(crate) enum Gain {
     /// Nothing.
     Nothing,
-    /// The character, for the word that it begins or goes on.
+    /// The character, which begins or continues a word.
     Character(char),
-    /// A backslash and the character, for the word that is begun.
+    /// A backslash and the character, which continue a word.
     BackslashAndCharacter(char),
-    /// The word that is begun, which ends here.
+    /// The end of the word that is begun.
     Word,
 }
 
-/// What a character gives to the words, and the place behind it.
+/// What a character adds to the words, and the state after it.
 #[derive(Clone, Copy)]
 pub(crate) struct Step {
     pub(crate) gain: Gain,
@@ -37,7 +37,7 @@ impl Reads for Step {
     ] };
 }
 
-/// What the character does at its place.
+/// The effect of the character in a state.
 pub(crate) fn step_of(place: Place, c: char) -> Step
     ensures { (rest : List ℕ) → ⟦<Step as Reads>⟧.words result rest ≡ ⟦<Place as Reads>⟧.words place (c ∷ rest) }
 {
@@ -74,7 +74,7 @@ fn bare(c: char) -> Step
     unquoted(c)
 }
 
-// What a character outside quotes does that is no blank.
+// The effect of a character outside quotes that isn't a blank.
 fn unquoted(c: char) -> Step
     ensures { (rest : List ℕ) → ⟦<Step as Reads>⟧.words result rest ≡ from_piece (piece c rest) }
 {
@@ -105,7 +105,8 @@ fn double(c: char) -> Step
     }
 }
 
-// A backslash in double quotes escapes a quote or a backslash, and otherwise stays.
+// In double quotes, a backslash before a double quote or a backslash escapes it, and any other stays
+// (Python's module `shlex`, "Parsing Rules").
 fn double_escaped(c: char) -> Step
     ensures { (rest : List ℕ) → ⟦<Step as Reads>⟧.words result rest ≡ from_piece (double_quoted_escape (c ∷ rest)) }
 {
@@ -118,7 +119,7 @@ fn double_escaped(c: char) -> Step
     }
 }
 
-// The character is one of the word's.
+// The character is added to the word.
 fn adds(c: char, place: Place) -> Step
     ensures gain { result.gain ≡ Gain.Character c }
     ensures place { result.place ≡ place }
@@ -129,7 +130,7 @@ fn adds(c: char, place: Place) -> Step
     }
 }
 
-// The character only leads to the place.
+// The character only changes the state.
 fn leads(place: Place) -> Step
     ensures gain { result.gain ≡ Gain.Nothing }
     ensures place { result.place ≡ place }
@@ -140,7 +141,7 @@ fn leads(place: Place) -> Step
     }
 }
 
-// Whether words may end at the character: at a space, a tab, a carriage return and a line feed.
+// Whether the character is a blank, which separates words: a space, tab, carriage return or line feed.
 fn is_blank(c: char) -> bool
     ensures { result ≡ is_blank c }
 {

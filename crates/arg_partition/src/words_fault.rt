@@ -11,10 +11,10 @@ use thiserror::Error;
 /// Why a text can't be cut into words. A text has at most one of the first two faults.
 #[derive(Clone, Copy, Debug, PartialEq, Eq, Error)]
 pub enum WordsFault {
-    /// The text ends inside quotes, and not as for `NothingEscaped`.
+    /// The text ends inside quotes, but `NothingEscaped` doesn't apply.
     #[error("a quote is open at the end")]
     OpenQuote,
-    /// The text ends behind a backslash that, outside quotes or in double quotes, has nothing after it to escape.
+    /// The text ends after a backslash that, outside quotes or in double quotes, has nothing to escape.
     #[error("a backslash at the end escapes nothing")]
     NothingEscaped,
     /// Memory was refused.
@@ -23,7 +23,7 @@ pub enum WordsFault {
 }
 
 impl WordsFault {
-    /// The refusal's number, from 1 to 3.
+    /// The number of the fault, from 1 to 3.
     pub fn number(&self) -> u8
         ensures { result ≡ number_of self.now }
     {

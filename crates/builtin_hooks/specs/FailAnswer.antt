@@ -3,7 +3,7 @@ use Rattle.std.specs.Prelude.{ℕ, List, [], ◌++◌, codes}
 use Rattle.std.specs.List.{join_with_byte}
 use Rattle.child_port.specs.declared.answer.Answer.{Answer}
 
--- the entry, an empty line, and the files a line each
+-- the entry, an empty line, and the files, a line each
 abbrev pub fail_output : List ℕ → List (List ℕ) → List ℕ
 fail_output entry files = entry ++ codes "\n\n" ++ join_with_byte 10 files ++ codes "\n"
 

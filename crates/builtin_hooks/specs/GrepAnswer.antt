@@ -13,7 +13,7 @@ abbrev pub is_empty : List ℕ → Bool
 is_empty [] = true
 is_empty (byte ∷ bytes) = false
 
--- a path and a line's number, each with a colon
+-- a path and a line's number, a colon after each
 abbrev pub place_text : List ℕ → ℕ → List ℕ
 place_text path number = path ++ codes ":" ++ decimal number ++ codes ":"
 
@@ -23,7 +23,7 @@ place_text path number = path ++ codes ":" ++ decimal number ++ codes ":"
 abbrev pub line_text : Line → List ℕ
 line_text line = place_text line.path line.number ++ without_returns_after line.bytes ++ codes "\n"
 
--- those of the lines in which the pattern is found
+-- those lines in which the pattern is found
 abbrev pub found_lines : Search → List Line → List Line
 found_lines search lines = filter (λ line. is_found search line.bytes) lines
 
@@ -32,7 +32,8 @@ found_lines_text search lines = flat_map line_text (found_lines search lines)
 
 -- ---- a whole file at once
 
--- the line in which the match begins, whole, and the match from its first line feed on
+-- the line in which the match begins, whole, and the match from its first line feed on, as pre-commit's
+-- languages/pygrep.py prints them
 abbrev pub match_line_text : Line → List ℕ → List ℕ
 match_line_text line found = place_text line.path line.number ++ line.bytes ++ from_line_feed found ++ codes "\n"
 
@@ -42,13 +43,13 @@ match_text path bytes (Some (begin, end)) = match_line_text (line_at path begin 
 
 -- ---- the answer
 
--- what is printed of a file where the files with a match are asked for
+-- what is printed of a file if the files with a match are asked for
 abbrev pub found_text : Search → List ℕ → List ℕ → List ℕ
 found_text search path bytes =
     if search.multiline then match_text path bytes (first_match search bytes)
     else found_lines_text search (numbered path 1 (lines_of bytes))
 
--- the path of a file of which nothing is printed so
+-- the path of a file of which nothing would be printed by `found_text`
 abbrev pub unfound_text : List ℕ → List ℕ → List ℕ
 unfound_text path found = if is_empty found then path ++ codes "\n" else []
 
@@ -65,7 +66,7 @@ entry_text search path (Some entry) = file_text search path entry.bytes
 abbrev pub grep_output : Search → List (List ℕ) → List File → List ℕ
 grep_output search files tree = flat_map (λ path. entry_text search path (entry_of path tree)) files
 
--- the hook fails where anything is printed
+-- the hook fails if anything is printed
 abbrev pub status_of : List ℕ → ℕ
 status_of output = if is_empty output then 0 else 1
 

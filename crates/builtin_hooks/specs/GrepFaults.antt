@@ -1,4 +1,5 @@
--- Why an entry and its arguments make no `Grep`: the numbers of the reasons, and the reason for an error of `regex`.
+-- Why an entry and its arguments make no `Grep`: the numbers of the reasons, and the reason for an error of
+-- `regex`.
 use Rattle.std.specs.Prelude.{◌≡◌, ℕ}
 use Rattle.builtin_hooks.specs.declared.grep_fault.GrepFault.{GrepFault}
 use Rattle.builtin_hooks.specs.declared.grep_fault.GrepFault.TheVariants.{NotAPattern, BadArg, OutOfMemory}
@@ -13,15 +14,16 @@ number_of NotAPattern = 1
 number_of BadArg = 2
 number_of OutOfMemory = 3
 
--- memory was refused, or else the entry isn't taken as a pattern
+-- memory was refused, otherwise the entry isn't taken as a pattern
 abbrev pub of_pattern : Error → GrepFault
 of_pattern (library.Syntax error) = NotAPattern
 of_pattern library.CompiledTooBig = NotAPattern
 of_pattern library.Internal = NotAPattern
 of_pattern library.OutOfMemory = OutOfMemory
 
--- the fault is that of an error which `regex` may give for this text as it is to be read: one of syntax only where the
--- grammar reads no pattern there or one that nests too deep, one of size only where there is a pattern
+-- The fault is that of an error which `regex` may give for this text, read under its flags. It is one of
+-- syntax only if the grammar reads no pattern there, or one that nests too deep. It is one of size only if
+-- there is a pattern.
 abbrev pub IsGrepRefusal : Search → GrepFault → Type 0
 IsGrepRefusal search fault =
     (error : Error) × IsRefusal (config_of search) search.text error × IsRightKind (config_of search) search.text error × (fault ≡ of_pattern error)

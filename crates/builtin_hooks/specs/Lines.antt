@@ -5,7 +5,7 @@ use Rattle.std.specs.List.{count_by, position_or_len, slice_split}
 abbrev pub is_line_feed : ℕ → Bool
 is_line_feed byte = byte == 10
 
--- what stands between line feeds, before the first and behind the last
+-- the bytes between line feeds, before the first and after the last
 abbrev pub pieces_of : List ℕ → List (List ℕ)
 pieces_of bytes = slice_split is_line_feed bytes
 
@@ -14,7 +14,8 @@ without_empty_last [] = []
 without_empty_last ([] ∷ []) = []
 without_empty_last (piece ∷ pieces) = piece ∷ without_empty_last pieces
 
--- the lines of a file, without their line feeds: behind the last line feed there is one only where anything stands there
+-- the lines of a file, without their line feeds; after the last line feed there is one only if bytes follow
+-- it
 abbrev pub lines_of : List ℕ → List (List ℕ)
 lines_of bytes = without_empty_last (pieces_of bytes)
 
@@ -30,12 +31,12 @@ numbered path number [] = []
 numbered path number (line ∷ lines) =
     record { path = path; number = number; bytes = line } ∷ numbered path (number + 1) lines
 
--- how many line feeds stand before an index
+-- how many line feeds are before an index
 abbrev pub line_feeds_before : ℕ → List ℕ → ℕ
 line_feeds_before index bytes = count_by is_line_feed (take index bytes)
 
--- the line in which an index lies: a line feed lies in the line that it ends, and behind the last byte lies the line that
--- begins there, or goes on to there
+-- The line in which an index lies. A line feed lies in the line that it ends. The index after the last byte
+-- lies in the line that begins or goes on there.
 abbrev pub line_at : List ℕ → ℕ → List ℕ → Line
 line_at path index bytes = record {
   path = path;
@@ -47,7 +48,7 @@ line_at path index bytes = record {
 abbrev pub from_line_feed : List ℕ → List ℕ
 from_line_feed bytes = drop (position_or_len is_line_feed bytes) bytes
 
--- the byte before the rest, left out where nothing follows a carriage return
+-- the byte and the rest, but not a carriage return that nothing follows
 abbrev pub before_rest : ℕ → List ℕ → List ℕ
 before_rest byte [] = if byte == 13 then [] else byte ∷ []
 before_rest byte (next ∷ rest) = byte ∷ next ∷ rest

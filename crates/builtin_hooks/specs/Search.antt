@@ -1,4 +1,5 @@
--- What a hook of the language `pygrep` searches for (pre-commit.com, "pygrep"), and where the grammar of `regex` finds it.
+-- What a hook of the language `pygrep` searches for (pre-commit.com, "pygrep"), and where the grammar of
+-- `regex` finds it.
 use Rattle.std.specs.Prelude.{ℕ, Bool, false, ◌||◌, List, Option, None, Some, chars, codes, is_some, option_map}
 use Rattle.std.specs.List.{list_all, list_any}
 use Rattle.std.specs.Str.{bytes_eq}
@@ -7,8 +8,8 @@ use Rattle.regex_syntax.specs.declared.Config.{Config}
 use Rattle.regex_syntax.specs.Grammar.{read}
 use Rattle.regex_syntax.specs.Verdict.{default_config, default_flags}
 
--- the text of a pattern, and what the arguments say: whether letters are found in either case, whether a file is searched
--- as a whole, and whether the files without a match are asked for
+-- The text of a pattern, and what the arguments say. Letters are found in either case, a file is searched as
+-- a whole, or the files without a match are asked for.
 pub record Search : Type 0 where
   pub text : List ℕ
   pub ignore_case : Bool
@@ -42,7 +43,7 @@ has_multiline args = list_any is_multiline args
 abbrev pub has_negate : List (List ℕ) → Bool
 has_negate args = list_any is_negate args
 
--- the entry, with what the arguments say, in any order and as often as they like
+-- the entry with what the arguments say, in any order and repeated
 abbrev pub search_of : List ℕ → List (List ℕ) → Search
 search_of entry args = record {
   text = entry;
@@ -53,8 +54,9 @@ search_of entry args = record {
 
 -- ---- what is found
 
--- how the grammar reads the text: letters in either case where they are ignored; where a file is searched as a whole, `^`
--- and `$` are found at the ends of lines too, and `.` is a line feed too; bytes that are no UTF-8 are searched as well
+-- How the grammar reads the text: letters in either case if that is asked for (Python's `re.IGNORECASE`). If
+-- a file is searched as a whole, `^` and `$` are found at the ends of lines too, and `.` is a line feed too
+-- (`re.MULTILINE` and `re.DOTALL`). Bytes that aren't UTF-8 are searched as well.
 abbrev pub config_of : Search → Config
 config_of search = record default_config {
   flags = record default_flags {

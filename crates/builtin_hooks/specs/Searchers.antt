@@ -1,4 +1,5 @@
--- What private functions say of a search: which pattern a searcher has, and the lines that it has found so far.
+-- What private functions say about a search: which pattern a searcher has, and the lines that it has found so
+-- far.
 use Rattle.std.specs.Prelude.{◌≡◌, ℕ, ◌+◌, List, [], ◌∷◌, Option, None, Some, IsSomeAnd}
 use Rattle.regex.specs.Patterns.{Re, SameCaptures}
 use Rattle.builtin_hooks.specs.declared.flags.Flags.{Flags}
@@ -19,14 +20,14 @@ search_with text flags = record {
 abbrev pub SearchesFor : Search → Re → Type 0
 SearchesFor search pattern = IsSomeAnd (pattern_of search) (SameCaptures pattern)
 
--- the lines of the bytes in which the pattern is found, where the first of the bytes' lines has this number
+-- the lines of the bytes in which the pattern is found, if the first of the bytes' lines has this number
 abbrev pub found_from : Search → List ℕ → ℕ → List ℕ → List Line
 found_from search path number bytes = found_lines search (numbered path number (lines_of bytes))
 
 abbrev pub line_of : List ℕ → FoundLine → Line
 line_of path found = record { path = path; number = found.number; bytes = found.line.now }
 
--- the first of these lines, with what stands behind it, or none where there is none
+-- the first of these lines, with the bytes after it, or none if there is none
 abbrev pub IsFirstFound : Search → ℕ → List ℕ → Option FoundLine → Type 0
 IsFirstFound search number bytes None = (path : List ℕ) → found_from search path number bytes ≡ []
 IsFirstFound search number bytes (Some found) =

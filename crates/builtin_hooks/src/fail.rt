@@ -9,8 +9,9 @@ use child_port::Answer;
 use hook_base::{Bytes, Changes, OutOfMemory, RepoPath};
 use std::alloc::Global;
 
-/// What a hook of the language `fail` answers where it is handed these files: status 1, and as output its entry, an empty
-/// line, and the files a line each. It changes nothing. `OutOfMemory` where memory is refused.
+/// What a hook of the language `fail` answers for these files: status 1, and as output its entry, an empty
+/// line, and the files, a line each (pre-commit.com, "fail"). It changes nothing. `OutOfMemory` if memory is
+/// refused.
 pub fn fail_answer(alloc: Global, entry: &str, files: &[RepoPath]) -> Result<Answer, OutOfMemory>
     ensures { IfOk result (λ answer. answer ≡ fail_answer entry.now files.now) }
 {

@@ -13,17 +13,17 @@ use std::alloc::Global;
 /// A line in which a pattern is found.
 #[derive(Clone, Copy)]
 pub struct FoundLine<'a> {
-    /// Its number.
+    /// Its number in the file, from 1.
     number: usize,
     /// Its bytes, without its line feed.
     line: &'a [u8],
-    /// The bytes behind it.
+    /// The bytes after it and its line feed.
     after: &'a [u8],
 }
 
 ghost use Rattle.builtin_hooks.specs.Searchers.{IsFirstFound};
 
-/// The first line in which the pattern is found, where the first line of the bytes has this number.
+/// The first line in which the pattern is found, if the first line of the bytes has this number.
 #[tactic(auto, using(crate::proofs::LineLemmas::found_here, crate::proofs::LineLemmas::found_later))]
 pub fn first_found_line<'a>(
     searcher: &mut Searcher<'_>,
@@ -53,7 +53,7 @@ pub fn first_found_line<'a>(
     None
 }
 
-// The first line without its line feed, and the bytes behind it.
+// The first line without its line feed, and the bytes after that.
 #[tactic(auto, using(crate::proofs::FeedLemmas::lines_cut, crate::proofs::FeedLemmas::lines_last))]
 fn first_line(bytes: &[u8]) -> (&[u8], &[u8])
     requires { bytes.now ≢ [] }
@@ -68,7 +68,7 @@ fn first_line(bytes: &[u8]) -> (&[u8], &[u8])
     }
 }
 
-/// The lines in which the pattern is found, each with the file's path and its number.
+/// Prints the lines in which the pattern is found, each with the file's path and its number.
 pub fn push_found_lines(
     alloc: Global,
     output: &mut Vec<u8>,

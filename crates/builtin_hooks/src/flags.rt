@@ -16,7 +16,7 @@ pub struct Flags {
 }
 
 impl Flags {
-    /// What these arguments say. One that isn't known says nothing.
+    /// What these arguments say. An unknown one says nothing.
     pub fn of(args: &[&str]) -> Flags
         ensures ignore_case { result.ignore_case ≡ list_any (λ arg. is_ignore_case arg.now) args.now }
         ensures multiline { result.multiline ≡ list_any (λ arg. is_multiline arg.now) args.now }
@@ -48,7 +48,7 @@ fn have_negate(args: &[&str]) -> bool
     args.iter().any(|arg| is_negate(arg))
 }
 
-/// Whether each argument is one that says something.
+/// Whether each argument is a known one.
 pub fn are_known(args: &[&str]) -> bool
     ensures { result ≡ list_all (λ arg. is_known arg.now) args.now }
 {

@@ -18,7 +18,8 @@ use regex::bytes::Regex;
 use std::alloc::Global;
 use std::marker::Model;
 
-/// The pattern of a hook of the language `pygrep`, built, with what its arguments say. Contracts see its text and these.
+/// The compiled pattern of a hook of the language `pygrep`, with what its arguments say. Contracts see its
+/// text and its flags.
 #[derive(Debug, Drop)]
 pub struct Grep {
     regex: Regex,
@@ -38,11 +39,15 @@ impl Model for Grep {
 }
 
 impl Grep {
-    /// Builds the pattern of an entry under its arguments. These are `-i` and `--ignore-case` (letters are found in either
-    /// case), `--multiline` (a file is searched as a whole, where `^` and `$` are found at the ends of lines too and `.` is
-    /// a line feed too) and `--negate` (the files without a match are asked for), in any order, each as often as it likes.
-    /// Another argument is `BadArg`, whatever the entry is; an entry that `regex` doesn't take is `NotAPattern`, which it is
-    /// for `regex` to say.
+    /// Compiles the pattern of an entry under its arguments (pre-commit.com, "pygrep"):
+    ///
+    /// - `-i` and `--ignore-case`: letters are found in either case (Python's `re.IGNORECASE`);
+    /// - `--multiline`: a file is searched as a whole. `^` and `$` are found at the ends of lines too
+    ///   (`re.MULTILINE`), and `.` is a line feed too (`re.DOTALL`);
+    /// - `--negate`: the files without a match are asked for.
+    ///
+    /// They may come in any order, and repeated. Another argument is `BadArg`, whatever the entry is. An
+    /// entry that `regex` doesn't take is `NotAPattern`.
     #[tactic(auto, using(crate::proofs::ArgLemmas::known_said, crate::proofs::SearchLemmas::searched_reads))]
     pub fn build(alloc: Global, entry: &str, args: &[&str]) -> Result<Grep, GrepFault>
         ensures built { IfOk result (λ grep. grep ≡ search_of entry.now (map (λ arg. arg.now) args.now)) }
@@ -59,13 +64,19 @@ impl Grep {
         Ok(Grep { regex, flags })
     }
 
-    /// What a hook of this pattern answers for files of the tree, in the order in which they are named; one that the tree
-    /// lacks counts for nothing. The output is, for each line in which the pattern is found, the file's path, a colon, the
-    /// line's number, a colon, the line without the carriage returns at its end, and a line feed. A line is searched without
-    /// its line feed. With `--multiline` it is, for each file in which the pattern is found, the same place, the whole line in
-    /// which the first match begins, the match from its first line feed on, and a line feed. With `--negate` it is the path
-    /// of each file of which nothing would be printed without it, and a line feed. The status is 1 where there is any
-    /// output, else 0, and nothing changes. `OutOfMemory` where memory is refused.
+    /// What a hook of this pattern answers for files of the tree, in the order in which they are named. A
+    /// file that the tree lacks counts for nothing.
+    ///
+    /// What the output has depends on the arguments, and each piece ends with a line feed:
+    ///
+    /// - by default, for each line in which the pattern is found, `PATH:NUMBER:` and the line without the
+    ///   carriage returns at its end. A line is searched without its line feed, and numbers begin at 1;
+    /// - with `--multiline`, for each file in which the pattern is found, `PATH:NUMBER:`, the whole line in
+    ///   which the first match begins, and the match from its first line feed on;
+    /// - with `--negate`, the path of each file of which nothing would be printed without it.
+    ///
+    /// The status is 1 if there is any output, otherwise 0, and nothing changes. `OutOfMemory` if memory is
+    /// refused.
     pub fn answer(
         &self,
         alloc: Global,
@@ -108,7 +119,7 @@ fn built(alloc: Global, entry: &str, flags: Flags) -> Result<Regex, GrepFault>
     )
 }
 
-// A hook fails where anything is printed.
+// A hook fails if anything is printed.
 fn status_of(output: &[u8]) -> u8
     ensures { result ≡ status_of output.now }
 {

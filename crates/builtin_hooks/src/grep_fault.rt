@@ -7,10 +7,10 @@ ghost use Rattle.builtin_hooks.specs.declared.grep_fault.GrepFault.TheVariants.{
 use std::alloc::AllocError;
 use thiserror::Error;
 
-/// Why an entry and its arguments make no [`Grep`](crate::Grep). Where both are wrong, `BadArg` is named.
+/// Why an entry and its arguments make no [`Grep`](crate::Grep). If both are wrong, it is `BadArg`.
 #[derive(Clone, Copy, Debug, PartialEq, Eq, Error)]
 pub enum GrepFault {
-    /// The entry is no pattern, nests too deep, or would be too large once it is built.
+    /// The entry is no pattern, nests too deep, or is too big once it is compiled.
     #[error("the entry is no pattern")]
     NotAPattern,
     /// An argument is none of `-i`, `--ignore-case`, `--multiline` and `--negate`.

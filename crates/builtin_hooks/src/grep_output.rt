@@ -45,7 +45,7 @@ fn push_file(
     }
 }
 
-// The path of a file of which nothing would be printed.
+// Prints the path of a file of which nothing would be printed.
 fn push_unfound(
     output: &mut Vec<u8>,
     searcher: &mut Searcher<'_>,

@@ -1,4 +1,4 @@
-//! Where line feeds stand in bytes.
+//! Line feeds and carriage returns in bytes.
 
 ghost use Rattle.std.specs.Prelude.{◌≡◌, ◌≤◌, length};
 ghost use Rattle.std.specs.List.{position_or_len};
@@ -6,7 +6,7 @@ ghost use Rattle.builtin_hooks.specs.Lines.{is_line_feed, from_line_feed, withou
 
 use bstr::ByteSlice;
 
-/// The index of the first line feed, or the number of bytes where there is none.
+/// The index of the first line feed, or the number of bytes if there is none.
 #[tactic(auto, using(crate::proofs::FeedLemmas::feed_found, crate::proofs::FeedLemmas::feed_none))]
 pub fn line_feed_or_end(bytes: &[u8]) -> usize
     ensures place { result ≡ position_or_len is_line_feed bytes.now }
@@ -18,7 +18,7 @@ pub fn line_feed_or_end(bytes: &[u8]) -> usize
     }
 }
 
-/// The bytes from their first line feed on, or none where there is none.
+/// The bytes from their first line feed on, or none if there is none.
 pub fn from_line_feed(bytes: &[u8]) -> &[u8]
     ensures { result.now ≡ from_line_feed bytes.now }
 {

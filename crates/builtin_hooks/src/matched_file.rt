@@ -14,14 +14,14 @@ use std::alloc::Global;
 /// A line of a file.
 #[derive(Clone, Copy)]
 struct Line<'a> {
-    /// Its number, from 1 on.
+    /// Its number, from 1.
     number: usize,
     /// Its bytes, without its line feed.
     line: &'a [u8],
 }
 
-/// The first match, behind the start of the line in which it begins, with the file's path and the line's number. Nothing
-/// where there is no match.
+/// Prints the file's path, the line's number, the line in which the first match begins, and the match from
+/// its first line feed on. Nothing if there is no match.
 pub fn push_first_match(
     alloc: Global,
     output: &mut Vec<u8>,
@@ -42,7 +42,7 @@ pub fn push_first_match(
     Ok(())
 }
 
-// The line in which the byte at an index stands, or which ends there.
+// The line that an index is in: a line feed is in the line that it ends.
 #[tactic(auto, using(crate::proofs::PlaceLemmas::same_start))]
 fn line_at(bytes: &[u8], index: usize) -> Line<'_>
     requires { index ≤ length bytes.now }

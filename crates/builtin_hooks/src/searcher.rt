@@ -1,4 +1,4 @@
-//! The searches of one call, with the matcher that they share.
+//! A search for one pattern, with the matcher that the files of one call share.
 
 ghost use Rattle.std.specs.Prelude.{◌≡◌, IfSome, option_map};
 ghost use Rattle.regex.specs.Bytes.{match_haystack, match_span, matcher_pattern};
@@ -30,7 +30,7 @@ impl<'g> Model for Searcher<'g> {
 }
 
 impl<'g> Searcher<'g> {
-    /// Searches by this matcher, which was made for the text and the flags.
+    /// A searcher with this matcher, which was made for the text and the flags.
     pub fn new(matcher: Matcher<'g>, text: &'g str, flags: Flags) -> Searcher<'g>
         requires { SearchesFor (search_with text.now flags) (matcher_pattern matcher) }
         ensures { result ≡ search_with text.now flags }

@@ -1,4 +1,4 @@
-//! Bytes that are written behind others.
+//! Adds bytes after those of an output.
 
 ghost use Rattle.std.specs.Prelude.{◌≡◌, ◌++◌, OnOk};
 ghost use Rattle.builtin_hooks.specs.GrepAnswer.{place_text};
@@ -6,7 +6,7 @@ ghost use Rattle.builtin_hooks.specs.GrepAnswer.{place_text};
 use hook_base::{OutOfMemory, RepoPath};
 use std::alloc::Global;
 
-/// The bytes as they are.
+/// Adds the bytes as they are.
 pub fn push(output: &mut Vec<u8>, bytes: &[u8]) -> Result<(), OutOfMemory>
     ensures { OnOk result (output.new.items ≡ output.old.items ++ bytes.now) }
 {
@@ -14,7 +14,7 @@ pub fn push(output: &mut Vec<u8>, bytes: &[u8]) -> Result<(), OutOfMemory>
     Ok(())
 }
 
-/// The path and the line's number, each with a colon.
+/// Adds the path and the line's number, a colon after each.
 pub fn push_place(
     alloc: Global,
     output: &mut Vec<u8>,

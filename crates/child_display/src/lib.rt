@@ -1,8 +1,10 @@
-//! What is shown on a terminal while a child runs: one line with its command, which is cleared when the child has ended.
+//! What is shown on a terminal while a child runs: one line with its command, which is cleared when the child
+//! has ended.
 //!
-//! [`line_of_child`] is that line as bytes, and [`line_of_hook`] where it is known which hook the child is of. `ShownChildren` is
-//! the trait `Children` over other children, and shows the line of each while it runs; it tells what they tell. Which hook that is
-//! the run says. The contracts cite `specs/Lines.antt`.
+//! [`line_of_child`] gives that line, and [`line_of_hook`] gives it if it is known to which hook the child
+//! belongs. `ShownChildren` implements the trait `Children` over other children: it shows the line of each
+//! while it runs, and answers what they answer. The run says which hook that is. The contracts cite
+//! `specs/Lines.antt`.
 #![tactic(auto)]
 
 mod columns;

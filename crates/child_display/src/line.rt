@@ -1,4 +1,4 @@
-//! The line of a child.
+//! The line that is shown for a child.
 //!
 //! The contracts cite `specs/Lines.antt`.
 
@@ -11,14 +11,16 @@ use hook_base::{OutOfMemory, Text};
 use std::alloc::Global;
 use unicode_width::UnicodeWidthChar;
 
-// A terminal doesn't go on in the next line, where the text is wider than it is, and does so again.
+// DEC's private mode 7 (DECAWM), reset and set: whether text that is wider than the terminal goes on in its
+// next line.
 const WRAPPING_OFF: &str = "\u{1b}[?7l";
 
 const WRAPPING_ON: &str = "\u{1b}[?7h";
 
-/// The line of a child with these words, before which so many were started, on a terminal with so many columns. The words
-/// are cut to the columns, as `unicode_width` gives them for single characters; a control character is shown as a question
-/// mark. Should the terminal be narrower, it cuts the line itself. `OutOfMemory` where memory is refused.
+/// The line of a child with these words, after `before` other children were started, on a terminal with
+/// `columns` columns. The text is cut to the columns, by the widths that `unicode_width` gives for single
+/// characters; a control character is shown as a question mark. A narrower terminal cuts the line itself.
+/// `OutOfMemory` if memory is refused.
 pub fn line_of_child(
     alloc: Global,
     words: &[Text],
@@ -31,8 +33,8 @@ pub fn line_of_child(
     line_of_text(alloc, text.as_str(), columns)
 }
 
-/// The same of a child that is of this hook, which the line names before the words: its place among the hooks of its stage, how many
-/// these are, and what it is called.
+/// The same for a child of this hook, which the line names before the words: its place among the hooks of its
+/// stage, how many these are, and its name.
 pub fn line_of_hook(
     alloc: Global,
     hook: &ShownHook,
@@ -55,7 +57,8 @@ fn line_of_text(alloc: Global, text: &str, columns: usize) -> Result<String, Out
     Ok(line)
 }
 
-/// What clears the line: the cursor goes to its beginning, and what stands from there on is erased.
+/// What clears the line: the cursor goes to its beginning, and everything from there on is erased (ECMA-48,
+/// section 8.3.41, EL).
 pub fn clearing() -> &'static str
     ensures { result.now ≡ clearing }
 {
@@ -91,7 +94,7 @@ fn hook_head(alloc: Global, hook: &ShownHook, before: u64) -> Result<String, Out
     Ok(text)
 }
 
-// Puts each word behind a blank.
+// Appends each word after a blank.
 fn push_words(text: &mut String, words: &[Text]) -> Result<(), OutOfMemory>
     ensures { OnOk result (string_bytes text.new ≡ string_bytes text.old ++ flat_map (λ word. 32 ∷ word) words.now) }
 {
@@ -102,7 +105,7 @@ fn push_words(text: &mut String, words: &[Text]) -> Result<(), OutOfMemory>
     Ok(())
 }
 
-// Puts the text's characters at the line's end as they are shown, up to the first that doesn't fit.
+// Appends the text's characters to the line as they are shown, up to the first that doesn't fit.
 fn push_cut(line: &mut String, text: &str, columns: usize) -> Result<(), OutOfMemory>
     ensures { OnOk result (string_bytes line.new ≡ string_bytes line.old ++ encode_utf8_all (cut_to columns (chars text.now))) }
 {

@@ -12,29 +12,30 @@ use std::io::Write;
 /// A terminal on which a line is shown.
 #[derive(Debug, Drop)]
 pub struct Terminal<W> {
-    /// Whence the line takes its memory.
+    /// Where the line takes its memory from.
     pub alloc: Global,
-    /// What writes on it.
+    /// The writer to the terminal.
     pub writer: W,
     /// How many columns it has.
     pub columns: usize,
 }
 
-/// Children that hand each call on to others, and show its command on a terminal while they run it, where there is one:
-/// the line of `line_of_hook`, or of `line_of_child` where no run has said which hook its children are of, which is cleared when the
-/// call has ended. What a terminal doesn't take isn't shown, and nothing where memory is refused.
+/// Children that pass each call on to other children, and show its command on a terminal, if there is one,
+/// while it runs. The line is that of `line_of_hook`, or of `line_of_child` if no run has said to which hook
+/// its children belong. It is cleared when the call has ended. What a terminal doesn't take isn't shown, and
+/// nothing is shown if memory is refused.
 #[derive(Debug, Drop)]
 pub struct ShownChildren<C: Children, W: Write> {
     inner: C,
     terminal: Option<Terminal<W>>,
-    // The hook that the next child is of.
+    // The hook to which the next child belongs.
     hook: Option<ShownHook>,
 }
 
 impl<C: Children, W: Write> ShownChildren<C, W> {
     ghost use Rattle.child_port.specs.Telling.{SameTells};
 
-    /// The children, shown on the terminal, or on none.
+    /// Shows these children on the terminal, or nowhere if there is none.
     pub fn new(inner: C, terminal: Option<Terminal<W>>) -> Self
         ensures tells { SameTells (C.tells inner) (⟦<ShownChildren<C, W> as Children>⟧.tells result) }
         ensures calls { ⟦<ShownChildren<C, W> as Children>⟧.call_count result ≡ C.call_count inner }
@@ -128,7 +129,7 @@ impl<W: Write> Terminal<W> {
         self.write(clearing());
     }
 
-    // A terminal that takes nothing more is no reason for anything.
+    // An error of the terminal is ignored: nothing depends on what it shows.
     fn write(&mut self, text: &str) {
         let _written = self.writer.write_all(text.as_bytes());
         let _flushed = self.writer.flush();

@@ -1,13 +1,13 @@
-//! The hook of which a terminal tells.
+//! The hook that a terminal shows.
 
 use hook_base::Text;
 
-/// The hook of which a terminal tells while a child of it runs.
+/// The hook that a terminal shows while one of its children runs.
 #[derive(Debug, Drop)]
 pub struct ShownHook {
-    /// What it is called.
+    /// Its name.
     pub name: Text,
-    /// Its place among the hooks of its stage, of which the first has 1.
+    /// Its place among the hooks of its stage, counted from 1.
     pub place: usize,
     /// How many hooks its stage has.
     pub stage_hooks: usize,

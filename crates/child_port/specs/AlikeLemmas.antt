@@ -1,4 +1,4 @@
--- Lemmas: `==` of answers and of outcomes says that they are the same.
+-- Lemmas: `==` of answers and of outcomes holds exactly if they are the same.
 use Rattle.std.specs.Prelude.{◌≡◌, ℕ, List, refl}
 use Rattle.std.specs.Bool.{Decides}
 use Rattle.std.specs.Cmp.Lexicographic.{bytes_decides, pointwise_decides}

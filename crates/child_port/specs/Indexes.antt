@@ -9,11 +9,11 @@ use Rattle.hook_base.specs.Trees.{path_of}
 abbrev pub indexed_path : List File → ℕ → List ℕ
 indexed_path tree index = get_or (map path_of tree) index []
 
--- the path is that of a file at one of the indexes
+-- the path is that of the file at one of the indexes
 abbrev pub is_indexed : List File → List ℕ → List ℕ → Bool
 is_indexed tree indexes path = list_any (λ index. bytes_eq (indexed_path tree index) path) indexes
 
--- the indexes, in any order and some perhaps more than once, are those of the tree's files whose path passes a test
+-- the indexes, in any order and perhaps repeated, are those of the tree's files whose path passes a test
 pub record AreIndexesOf (keeps : List ℕ → Bool) (tree : List File) (indexes : List ℕ) : Type 0 where
   pub within : All (λ index. index < length tree) indexes
   pub same : map (λ row. is_indexed tree indexes row.path) tree ≡ map (λ row. keeps row.path) tree

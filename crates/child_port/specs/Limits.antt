@@ -1,4 +1,4 @@
--- The limit of a child, in bytes. Belongs to the module `limits`; its constant is proved to be this by `laws`.
+-- The limit of a child's output, in bytes. `laws` proves that the constant of the module `limits` is this.
 use Rattle.std.specs.Prelude.{ℕ}
 
 -- the most bytes that both outputs of a child may have together: 1 MiB

@@ -1,4 +1,4 @@
--- Lemmas: the seen files are a part of the tree, in its order, and what they hold at a path.
+-- Lemmas: the seen files are a part of the tree, in its order, and what they have at a path.
 use Rattle.std.specs.Prelude.{◌≡◌, ℕ, Bool, true, false, if◌then◌else◌, List, [], ◌∷◌, Option, None, Some, refl}
 use Rattle.std.specs.List.{filter}
 use Rattle.std.specs.Str.{bytes_eq}
@@ -15,7 +15,7 @@ use Rattle.hook_base.specs.Trees.{IsPartOf, IsRising, entry_of, path_of}
 abbrev pub files_where : (List ℕ → Bool) → List File → List File
 files_where keeps tree = filter (λ row. keeps row.path) tree
 
--- what a tree holds at a path, where the path passes
+-- what a tree has at a path, if the path passes
 abbrev held_if : Bool → List ℕ → List File → Option FileEntry
 held_if kept path tree = if kept then entry_of path tree else None
 

@@ -1,4 +1,4 @@
--- Two relations of words, seen files and outcomes that tell the same.
+-- Two relations of words, seen files and outcomes hold for the same ones.
 use Rattle.std.specs.Prelude.{ℕ, List}
 use Rattle.child_port.specs.declared.answer.Outcome.{Outcome}
 use Rattle.hook_base.specs.declared.file.File.{File}

@@ -1,4 +1,4 @@
--- Lemmas: to tell the same is an equivalence.
+-- Lemmas: `SameTells` is an equivalence.
 use Rattle.std.specs.Prelude.{ℕ, List}
 use Rattle.child_port.specs.declared.answer.Outcome.{Outcome}
 use Rattle.child_port.specs.Telling.{SameTells}

@@ -3,7 +3,7 @@
 use crate::Fault;
 use hook_base::{Bytes, Changes};
 
-/// What a completed child gave.
+/// What a completed child answered.
 #[derive(Clone, Debug, Drop, PartialEq, Eq)]
 pub struct Answer {
     /// Its exit code, from 0 to 255.
@@ -17,8 +17,8 @@ pub struct Answer {
 /// What became of a child.
 #[derive(Clone, Debug, Drop, PartialEq, Eq)]
 pub enum Outcome {
-    /// It completed, and gave this.
+    /// It completed with this answer.
     Done(Answer),
-    /// It failed. It gave nothing.
+    /// It failed, and has no answer.
     Failed(Fault),
 }

@@ -1,11 +1,12 @@
-//! The trait of whatever starts children.
+//! The trait of everything that starts children.
 
 use crate::{News, Outcome};
 use hook_base::{OutOfMemory, Text, Tree};
 
-/// Whatever starts children and tells what became of each.
+/// Starts children, and reports what became of each.
 ///
-/// Which outcomes it may tell for the words of a command and the files that its child has seen is fixed for its life.
+/// Which outcomes it may report for the words of a command and the files that its child has seen is fixed for
+/// its life.
 pub trait Children {
     ghost use Rattle.std.specs.Prelude.{◌≡◌, ◌+◌, ◌≤◌, ◌<◌, ◌^◌, ◌-◌, ℕ, List, IfOk, OnOk, OnErr};
     ghost use Rattle.hook_base.specs.declared.file.File.{File};
@@ -14,17 +15,18 @@ pub trait Children {
     ghost use Rattle.child_port.specs.Outcomes.{faults_in};
     ghost use Rattle.child_port.specs.Telling.{SameTells};
 
-    /// The outcomes that it may tell for words and seen files.
+    /// The outcomes that it may report for words and seen files.
     ghost tells: { Self → List (List ℕ) → List File → Outcome → Type 0 };
 
-    /// How many outcomes it has told.
+    /// How many outcomes it has reported.
     ghost call_count: { Self → ℕ };
 
     /// How many of them were faults.
     ghost fault_count: { Self → ℕ };
 
-    /// Runs the words as a child on the tree, and tells what became of it. The child is known by its words and by the
-    /// files of the tree that it has seen. `OutOfMemory` where memory is refused, which counts as no call.
+    /// Runs the words as a child on the tree, and reports what became of it. The child is identified by its
+    /// words and the files of the tree that it has seen. `OutOfMemory` if memory is refused, which doesn't
+    /// count as a call.
     fn run(&mut self, words: &[Text], tree: &Tree, seen: &Tree) -> Result<Outcome, OutOfMemory>
         requires countable { call_count self.old < 2 ^ 64 - 1 }
         requires seen_of_tree { IsPartOf seen.now tree.now }
@@ -35,21 +37,21 @@ pub trait Children {
         ensures refused_faults { OnErr result (fault_count self.new ≡ fault_count self.old) }
         ensures same { SameTells (tells self.old) (tells self.new) };
 
-    /// How many outcomes it has told.
+    /// How many outcomes it has reported.
     fn calls(&self) -> u64
         ensures { result ≡ call_count self.now };
 
-    /// How many of the outcomes that it has told were faults.
+    /// How many of the outcomes that it has reported were faults.
     fn faults(&self) -> u64
         ensures { result ≡ fault_count self.now };
 
-    /// Whether it hears what a run says of itself. Where it doesn't, as by default, nothing need be said.
+    /// Whether it listens to the news of a run. If not, which is the default, the run needn't send any.
     fn hears(&self) -> bool {
         false
     }
 
-    /// Hears what a run says of itself while it goes on, and by default does nothing. It decides nothing: which outcomes it may
-    /// tell stays, and nothing counts as told.
+    /// Receives the news of a run while that goes on; by default it ignores them. News decide nothing: the
+    /// outcomes that may be reported stay the same, and so do the counts.
     fn hear(&mut self, _news: News)
         ensures calls { call_count self.new ≡ call_count self.old }
         ensures faults { fault_count self.new ≡ fault_count self.old }

@@ -1,18 +1,18 @@
-//! Children of which one call fails, for tests.
+//! Children with one call that fails, for tests.
 
 ghost use Rattle.std.specs.Prelude.{◌≡◌, ◌≤◌};
 
 use crate::{Children, Fault, Outcome};
 use hook_base::{OutOfMemory, Text, Tree};
 
-/// Children that hand each call on to others, but for one, which fails with a fault and isn't handed on.
+/// Children that pass each call on to others, except one, which fails with a fault.
 #[derive(Debug, Drop)]
 pub struct FuseChildren<C: Children> {
     inner: C,
-    // Which of its own calls fails, and with what.
+    // The number of the call that fails, and its fault.
     kth: u64,
     fault: Fault,
-    // How many outcomes the inner ones had told at first, how many are told now, and how many of these are faults.
+    // How many outcomes were reported at first, how many by now, and how many of those are faults.
     begun: u64,
     told: u64,
     failed: u64,
@@ -25,8 +25,9 @@ impl<C: Children> FuseChildren<C> {
     ghost use Rattle.child_port.specs.Fuses.{FuseTells};
     ghost use Rattle.child_port.specs.Telling.{SameTells};
 
-    /// Children that tell what the inner ones do, but fail their `k`th call with the fault. Their own calls are counted
-    /// from 1, so with 0 none fails; a refusal of memory is no call. Their counts begin at those of the inner ones.
+    /// Children that report what the inner ones report, except that their `k`th call fails with the fault.
+    /// Their own calls are counted from 1, so with 0 none fails. A refusal of memory isn't a call. Their
+    /// counts begin at those of the inner ones.
     pub fn new(inner: C, k: u64, fault: Fault) -> Self
         ensures tells { SameTells (FuseTells (C.tells inner) fault) (⟦<FuseChildren<C> as Children>⟧.tells result) }
         ensures calls { ⟦<FuseChildren<C> as Children>⟧.call_count result ≡ C.call_count inner }

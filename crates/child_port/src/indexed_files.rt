@@ -8,8 +8,9 @@ ghost use Rattle.child_port.specs.SeenLemmas.{files_where};
 use hook_base::{OutOfMemory, Tree};
 use std::alloc::{AllocError, Global};
 
-/// The files of the tree at these indexes, which share their contents with it. Indexes that rise cost least: each file is put
-/// behind the last then, and where they are all of the tree, it is copied.
+/// The files of the tree at these indexes, which share their contents with it. Rising indexes are the
+/// cheapest: each file is then added after the last one, and if they are all indexes of the tree, the tree is
+/// copied.
 pub(crate) fn indexed_files(
     alloc: Global,
     tree: &Tree,
@@ -25,7 +26,7 @@ pub(crate) fn indexed_files(
     }
 }
 
-// Whether the indexes rise from the first file to the last and leave none out; some may stand there more than once.
+// Whether all indexes of the tree occur in rising order, with any others in between.
 fn are_all(tree: &Tree, indexes: &[usize]) -> bool
     requires { All (λ index. index < length tree.now) indexes.now }
     ensures { IsTrue result → tree.now ≡ files_where (is_indexed tree.now indexes.now) tree.now }

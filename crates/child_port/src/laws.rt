@@ -1,11 +1,11 @@
-//! Laws of what the contracts cite. Each is a function that gives nothing: what it ensures is a theorem.
+//! Laws about what the contracts cite. Each is a function without a result: what it ensures is a theorem.
 
 ghost use Rattle.std.specs.Prelude.{◌≡◌};
 ghost use Rattle.child_port.specs.Limits.{most_output_bytes};
 
 use crate::MOST_OUTPUT_BYTES;
 
-/// The limit of the code is the one that the definitions name.
+/// The limit in the code is that of the definitions.
 pub fn the_limit_is_that_defined()
     ensures { MOST_OUTPUT_BYTES ≡ most_output_bytes }
 {}

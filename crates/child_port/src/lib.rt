@@ -1,11 +1,15 @@
-//! The children that a run starts: what one answers, how it can fail, and the trait `Children` of whatever starts them.
+//! The children that a run starts: what a child answers, how it can fail, and the trait `Children` of
+//! everything that starts them.
 //!
-//! `Outcome` is what became of one child, `Answer` what a completed one gave, `Fault` how it failed. [`seen_of`] says which
-//! files a child has seen, [`is_stray`] whether an answer changes others, and [`plain_word`] which path a word may be. `News` is what
-//! a run says of itself while it goes on.
-//! `TableChildren` answers by a table of `TableRow`s, and `FuseChildren` as others do but for one call. The contracts cite
-//! `specs/Telling.antt`, `specs/Outcomes.antt`, `specs/Seen.antt`, `specs/Tables.antt`, `specs/Fuses.antt` and
-//! `specs/Limits.antt`. [`laws`] says that the limit of the code is that of the definitions.
+//! `Outcome` is what became of a child, `Answer` what a completed one answered, and `Fault` how one failed.
+//! [`seen_of`] says which files a child has seen, [`is_stray`] whether an answer changes others, and
+//! [`plain_word`] which path a word may be. `News` is what a run reports of itself while it goes on.
+//! `TableChildren` answers from a table of `TableRow`s, and `FuseChildren` answers as others do, except for
+//! one call.
+//!
+//! The contracts cite `specs/Telling.antt`, `specs/Outcomes.antt`, `specs/Seen.antt`, `specs/Tables.antt`,
+//! `specs/Fuses.antt` and `specs/Limits.antt`. [`laws`] says that the limit in the code is that of the
+//! definitions.
 #![tactic(auto)]
 
 mod answer;

@@ -1,13 +1,13 @@
-//! What a run says of itself while it goes on.
+//! What a run reports of itself while it goes on.
 
-/// What a run says to whoever starts its children, while it goes on.
+/// What a run reports to whatever starts its children, while it goes on.
 #[derive(Clone, Copy, Debug)]
 pub enum News<'a> {
-    /// The report goes on with these bytes: all that it says of some hooks that have ended.
+    /// The report continues with these bytes: all that it says of some hooks that have ended.
     Report(&'a [u8]),
     /// The next children are of the hook with this id.
     Hook {
-        /// Its place among the hooks of the run, of which the first has 1.
+        /// Its place among the hooks of the run, counted from 1.
         place: usize,
         /// How many hooks the run has.
         hooks: usize,

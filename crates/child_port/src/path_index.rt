@@ -1,4 +1,4 @@
-//! Where in a tree the file at a path stands that is given as a text.
+//! The index in a tree of the file whose path is given as text.
 
 ghost use Rattle.std.specs.Prelude.{◌≡◌, ◌<◌, None, Some, MatchOption, length, map, slice_get};
 ghost use Rattle.hook_base.specs.Trees.{IsRising, entry_of, path_of};
@@ -6,8 +6,8 @@ ghost use Rattle.hook_base.specs.Trees.{IsRising, entry_of, path_of};
 use hook_base::Tree;
 use std::cmp::Ordering;
 
-/// The index of the file at a path, or `None` where none stands there. The file at the index `near` is looked at first, so
-/// that who asks for one path after another need not search for each.
+/// The index of the file at a path, or `None` if there is none. The file at the index `near` is tried first,
+/// so looking up one path after another needs no search.
 pub(crate) fn path_index(tree: &Tree, path: &str, near: usize) -> Option<usize>
     ensures place { MatchOption result (entry_of path.now tree.now ≡ None) (λ index. (index < length tree.now) × (slice_get (map path_of tree.now) index ≡ Some path.now)) }
     ensures rising { IsRising tree.now }
@@ -18,7 +18,7 @@ pub(crate) fn path_index(tree: &Tree, path: &str, near: usize) -> Option<usize>
     halves_index(tree, path)
 }
 
-// The same, found by halves, since the paths rise.
+// The same by binary search, since the paths rise.
 fn halves_index(tree: &Tree, path: &str) -> Option<usize>
     ensures place { MatchOption result (entry_of path.now tree.now ≡ None) (λ index. (index < length tree.now) × (slice_get (map path_of tree.now) index ≡ Some path.now)) }
     ensures rising { IsRising tree.now }

@@ -9,9 +9,10 @@ use crate::seen_indexes::seen_indexes;
 use hook_base::{OutOfMemory, RepoPath, Text, Tree};
 use std::alloc::{AllocError, Global};
 
-/// The files of the tree that a child of this command has seen: those whose path is one of the words, one leading `./`
-/// of the word apart, or one of the `extra` paths, or all of them where it sees the `whole`. An extra path that the tree
-/// lacks adds none. The tree shares the files; `OutOfMemory` where memory is refused.
+/// The files of the tree that a child of this command has seen: all of them if it sees the `whole`. Otherwise
+/// they are those at `extra` paths, and those whose path is one of the words without one leading `./`. An
+/// extra path that the tree lacks adds none. The files are shared with the tree. `OutOfMemory` if memory is
+/// refused.
 pub fn seen_of(
     alloc: Global,
     words: &[Text],
@@ -29,8 +30,8 @@ pub fn seen_of(
     indexed_files(alloc, tree, indexes.as_slice())
 }
 
-/// Whether an answer strays: it names a file in its changes that its child hasn't seen, be it with the bytes that stand
-/// there already. It takes no memory.
+/// Whether an answer strays: its changes name a file that its child hasn't seen, even one with the bytes that
+/// it had already. It allocates nothing.
 pub fn is_stray(answer: &Answer, seen: &Tree) -> bool
     ensures { result ≡ is_stray answer.now seen.now }
 {

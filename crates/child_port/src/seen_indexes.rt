@@ -1,4 +1,4 @@
-//! Where in the tree the files stand that a command's words and further paths name.
+//! The indexes in a tree of the files that a command's words and further paths name.
 
 ghost use Rattle.std.specs.Prelude.{◌||◌, [], List, ℕ, Bool, IfOk, OnOk};
 ghost use Rattle.std.specs.Str.{bytes_eq};
@@ -10,8 +10,9 @@ use crate::plain_word;
 use hook_base::{OutOfMemory, RepoPath, Text, Tree};
 use std::alloc::{AllocError, Global};
 
-/// The indexes of the files whose path is one of the extra ones or of the words, one leading `./` of the word apart: in the
-/// order of the extra paths and then of the words, and once for each that names the file.
+/// The indexes of the files whose path is an extra one, or one of the words without one leading `./`. They
+/// are in the order of the extra paths and then of the words, and a file named more than once is listed each
+/// time.
 pub(crate) fn seen_indexes(
     alloc: Global,
     words: &[Text],
@@ -28,7 +29,7 @@ pub(crate) fn seen_indexes(
     Ok(indexes)
 }
 
-// The same of the extra paths alone.
+// The same for the extra paths alone.
 fn extra_indexes(alloc: Global, extra: &[RepoPath], tree: &Tree) -> Result<Vec<usize>, OutOfMemory>
     ensures { IfOk result (λ indexes. AreIndexesOf (is_seen_path [] extra.now) tree.now indexes.items) }
 {
@@ -40,8 +41,9 @@ fn extra_indexes(alloc: Global, extra: &[RepoPath], tree: &Tree) -> Result<Vec<u
     Ok(indexes)
 }
 
-// Adds the index of the file at a path, where there is one, and answers the index at which the next name is looked for first:
-// the names of a command come in the order of the paths, so that each is mostly that of the file behind the last.
+// Adds the index of the file at a path, if there is one, and answers the index to try first for the next
+// name. The names of a command are in the order of the paths, so the next one is mostly that of the next
+// file.
 fn push_index(
     indexes: &mut Vec<usize>,
     tree: &Tree,

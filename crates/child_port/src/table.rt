@@ -1,4 +1,4 @@
-//! Children that answer by a table, for tests and for programs that start none.
+//! Children that answer from a table, for tests and for programs that start none.
 
 ghost use Rattle.std.specs.Prelude.{◌≡◌, ◌+◌, ◌<◌, ◌^◌};
 
@@ -6,8 +6,8 @@ use crate::table_outcome::table_outcome;
 use crate::{Children, Outcome, TableRow};
 use hook_base::{Items, OutOfMemory, Text, Tree};
 
-/// Children that answer by a table: the first row with equal words and equal seen files. Where there is none, the child
-/// isn't started.
+/// Children that answer from a table, by the first row with the same words and seen files. If there is none,
+/// the child isn't started.
 #[derive(Debug, Drop)]
 pub struct TableChildren {
     rows: Items<TableRow>,
@@ -20,7 +20,7 @@ impl TableChildren {
     ghost use Rattle.child_port.specs.Tables.{TableTells};
     ghost use Rattle.child_port.specs.Telling.{SameTells};
 
-    /// Children that answer by these rows. They have told nothing yet.
+    /// Children that answer from these rows. They have reported nothing yet.
     pub fn new(rows: Items<TableRow>) -> TableChildren
         ensures tells { SameTells (TableTells rows) (⟦<TableChildren as Children>⟧.tells result) }
         ensures no_calls { ⟦<TableChildren as Children>⟧.call_count result ≡ 0 }
@@ -29,7 +29,8 @@ impl TableChildren {
         TableChildren::with_calls(rows, 0)
     }
 
-    /// Children that answer by these rows, and count as if they had told `calls` outcomes already, none of them a fault.
+    /// Children that answer from these rows, and count as if they had reported `calls` outcomes already, none
+    /// of them a fault.
     pub fn with_calls(rows: Items<TableRow>, calls: u64) -> TableChildren
         ensures tells { SameTells (TableTells rows) (⟦<TableChildren as Children>⟧.tells result) }
         ensures calls { ⟦<TableChildren as Children>⟧.call_count result ≡ calls }

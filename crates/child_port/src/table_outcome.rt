@@ -6,8 +6,8 @@ ghost use Rattle.child_port.specs.Tables.{TableTells};
 use crate::{Fault, Outcome, TableRow};
 use hook_base::{OutOfMemory, Text, Tree};
 
-/// What the first row of the words and the seen files answers; where there is none, the child isn't started.
-/// `OutOfMemory` where memory is refused.
+/// What the first row for the words and the seen files answers; if there is none, the child isn't started.
+/// `OutOfMemory` if memory is refused.
 pub(crate) fn table_outcome(
     rows: &[TableRow],
     words: &[Text],

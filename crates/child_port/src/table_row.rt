@@ -3,7 +3,7 @@
 use crate::Answer;
 use hook_base::{Items, Text, Tree};
 
-/// What a child of these words answers once it has seen these files.
+/// What a child of these words answers if it has seen these files.
 #[derive(Debug, Drop)]
 pub struct TableRow {
     /// The words of its command.
@@ -18,7 +18,7 @@ impl TableRow {
     ghost use Rattle.std.specs.Prelude.{◌↔◌, IsTrue};
     ghost use Rattle.child_port.specs.Tables.{IsRowFor};
 
-    /// Whether this row is that of the words and the seen files.
+    /// Whether the row is for these words and these seen files.
     pub(crate) fn is_for(&self, words: &[Text], seen: &Tree) -> bool
         ensures { IsTrue result ↔ IsRowFor words.now seen.now self.now }
     {

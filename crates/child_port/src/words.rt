@@ -3,7 +3,7 @@
 ghost use Rattle.std.specs.Prelude.{◌≡◌};
 ghost use Rattle.child_port.specs.Seen.{plain_word};
 
-/// A word of a command without one leading `./`: the path that it may be of a file in the tree. A further `./` stays.
+/// A word of a command without one leading `./`: the path of the file that it may name. A further `./` stays.
 pub fn plain_word(word: &str) -> &str
     ensures { result.now ≡ plain_word word.now }
 {

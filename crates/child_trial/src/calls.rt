@@ -12,7 +12,7 @@ use std::alloc::Global;
 use store_faults::FIRST_LIMIT;
 use trial_rows::{Row, Stop, number_of, only, text_of};
 
-/// A tree, the children that run on it, and what runs of hooks remember of these.
+/// A tree, the children that run on it, and the results of these that runs of hooks cached.
 #[derive(Drop)]
 pub(crate) struct Play {
     alloc: Global,
@@ -22,7 +22,7 @@ pub(crate) struct Play {
 }
 
 impl Play {
-    /// No files yet.
+    /// A play without files.
     pub(crate) fn new(alloc: Global, children: ProcessChildren<HostRuntime>) -> Play {
         Play {
             alloc,
@@ -50,7 +50,7 @@ impl Play {
         }
     }
 
-    // A file of these bytes.
+    // Puts a file with these bytes.
     fn file(&mut self, arguments: &[Vec<u8>], mode: Mode) -> Result<Vec<u8>, Stop> {
         let [path, bytes] = arguments else {
             return Err(Stop::BadLine);
@@ -59,7 +59,7 @@ impl Play {
         self.put(path.as_slice(), mode, bytes)
     }
 
-    // A file of so many letters x.
+    // Puts a file with this number of letters `x`.
     fn letters(&mut self, arguments: &[Vec<u8>]) -> Result<Vec<u8>, Stop> {
         let [path, count] = arguments else {
             return Err(Stop::BadLine);
@@ -82,7 +82,7 @@ impl Play {
         Ok(Vec::new(self.alloc))
     }
 
-    // The path of a commit's message is the one that no text names.
+    // `RepoPath::read` refuses the path of a commit's message, so that is compared here.
     fn path_of(&self, path: &[u8]) -> Result<RepoPath, Stop> {
         let message = RepoPath::message(self.alloc)?;
         if path == message.as_str().as_bytes() {
@@ -91,19 +91,19 @@ impl Play {
         Ok(RepoPath::read(self.alloc, text_of(path)?)?)
     }
 
-    // A child of these words.
+    // Runs a child with these words.
     fn run(&mut self, arguments: &[Vec<u8>]) -> Result<Vec<u8>, Stop> {
         let outcome = self.outcome_of(arguments)?;
         let (calls, faults) = (self.children.calls(), self.children.faults());
         outcome_text(self.alloc, outcome, calls, faults)
     }
 
-    // A child of these words, of whose answer the numbers alone are told, for a script that measures.
+    // Runs a child with these words, and answers only the numbers of its result, for a script that measures.
     fn measure(&mut self, arguments: &[Vec<u8>]) -> Result<Vec<u8>, Stop> {
         measured_text(self.alloc, self.outcome_of(arguments)?)
     }
 
-    // A run of a configuration's hooks on all files.
+    // Runs a configuration's hooks on all files.
     fn hooks(&mut self, arguments: &[Vec<u8>]) -> Result<Vec<u8>, Stop> {
         let [configuration, how] = arguments else {
             return Err(Stop::BadLine);
@@ -121,7 +121,8 @@ impl Play {
         run_text(self.alloc, &ran)
     }
 
-    // How many outcomes the children have told, how many of them are faults, and how many answers are remembered.
+    // How many outcomes the children have reported, how many of them are faults, and how many results are
+    // cached.
     fn counts(&mut self) -> Result<Vec<u8>, Stop> {
         let (calls, faults) = (self.children.calls(), self.children.faults());
         let remembered = self.book.len();
@@ -129,7 +130,7 @@ impl Play {
         Ok(text.as_str().as_bytes().to_vec(self.alloc)?)
     }
 
-    // What was in the way of a child, as its place and the error there. Empty where nothing was.
+    // What hindered a child, as its place and the error there. Empty if nothing did.
     fn told(&self, trouble: Option<&Trouble>) -> Result<Vec<u8>, Stop> {
         let Some(trouble) = trouble else {
             return Ok(Vec::new(self.alloc));

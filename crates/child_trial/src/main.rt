@@ -1,9 +1,11 @@
-//! The program `child_trial`: keeps a tree of files and runs real children on it in the folder that its one word names,
-//! each as a line of standard input says, and answers each by a line. `tests/children/children.py` drives it.
+//! The program `child_trial`: keeps a tree of files and runs real children on it, in the folder that its only
+//! argument names. Each line of standard input says what to do and is answered by a line.
+//! `tests/children/children.py` drives it.
 //!
-//! How a line is written says the crate `trial_rows`. At a line that is no call the program ends with the exit status 2.
-//! Where the variable `CHILD_TRIAL_READS` is `everything`, no file is taken for unchanged by its times; where `CHILD_TRIAL_AT_END`
-//! is `removed`, the folder is removed at the end; else each child is watched by the file that `CHILD_TRIAL_CALLS` names.
+//! The crate `trial_rows` says how a line is written. At a line that isn't a call the program ends with the
+//! exit status 2. If the variable `CHILD_TRIAL_READS` is `everything`, no file is assumed unchanged because
+//! of its times. If `CHILD_TRIAL_AT_END` is `removed`, the folder is removed at the end. Otherwise each child
+//! is watched by the file that `CHILD_TRIAL_CALLS` names.
 #![tactic(auto)]
 
 mod calls;
@@ -18,7 +20,7 @@ use std::process::ExitCode;
 use std::{env, io};
 use trial_rows::{Row, Stop, answer_line};
 
-// The variables that say how much is read, which file each child is watched by, and what becomes of the folder.
+// The variables that say how much is read, which file watches each child, and what becomes of the folder.
 const READS: &str = "CHILD_TRIAL_READS";
 
 const CALLS: &str = "CHILD_TRIAL_CALLS";
@@ -35,7 +37,7 @@ fn main(rt: HostRuntime) -> ExitCode {
     }
 }
 
-// Children as the environment says.
+// The children that the environment asks for.
 fn children_of(
     rt: &HostRuntime,
     folder: String,

@@ -5,8 +5,9 @@ use hook_base::{Change, OutOfMemory};
 use std::alloc::{AllocError, Global};
 use trial_rows::Stop;
 
-/// An outcome and the counts after it: `calls=N faults=N`, a blank, and then `memory`, a fault's name, or a status with
-/// the output and each change, parted by blanks, bytes in hexadecimal digits after a mark.
+/// An outcome and the counts after it: `calls=N faults=N`, a blank, and then `memory`, a fault's name, or a
+/// status with the output and each change. Blanks separate these, and bytes are in hexadecimal digits after a
+/// mark.
 pub(crate) fn outcome_text(
     alloc: Global,
     outcome: Result<Outcome, OutOfMemory>,
@@ -24,8 +25,8 @@ pub(crate) fn outcome_text(
     Ok(bytes)
 }
 
-/// The numbers of an outcome: its status, how long its output is, and how many files changed. Nothing where there is no
-/// answer.
+/// The numbers of an outcome: its status, the length of its output, and how many files changed. Nothing if
+/// there is no answer.
 pub(crate) fn measured_text(
     alloc: Global,
     outcome: Result<Outcome, OutOfMemory>,

@@ -1,4 +1,4 @@
-//! Runs of hooks over children, and what is told of them.
+//! Runs of hooks over children, and what is shown of them.
 
 use hook_base::{Items, Tree};
 use hook_config::Stage;
@@ -6,7 +6,7 @@ use hook_run::{HooksRun, Reuse, RunAsk, RunOut, RunRefusal};
 use std::alloc::Global;
 use trial_rows::Stop;
 
-/// The ask of a run of all hooks of `pre-commit` on all files.
+/// An ask that runs all hooks of `pre-commit` on all files.
 pub(crate) fn ask_of(alloc: Global, tree: &Tree, how: &[u8]) -> Result<RunAsk, Stop> {
     let mut candidates = Vec::new(alloc);
     for index in 0..tree.len() {

@@ -1,11 +1,11 @@
--- How many answers may be remembered, as the command line takes it.
+-- How many cached results a repository may keep, as the command line takes the number.
 use Rattle.std.specs.Prelude.{ℕ, ◌≤◌}
 
--- the most answers that may be remembered
+-- the greatest limit
 abbrev pub most_limit : ℕ
 most_limit = 100000
 
--- so many answers may be remembered
+-- the number is a limit that the command line takes
 pub record IsAnswerLimit (number : ℕ) : Type 0 where
   pub at_least : 1 ≤ number
   pub at_most : number ≤ most_limit

@@ -120,7 +120,7 @@ abbrev pub run_with_options_app : App
 run_with_options_app =
     with_choice (with_rule (with_rule (with_rule (new_app (codes "run")) (flag_rule (codes "all-files"))) stage_rule) (flag_rule (codes "fresh")))
 
--- behind them `[ID]`
+-- after them `[ID]`
 abbrev pub run_app : App
 run_app = with_rule run_with_options_app (new_rule (codes "ID"))
 
@@ -129,7 +129,7 @@ abbrev pub run_files_with_options_app : App
 run_files_with_options_app =
     with_choice (with_rule (with_rule (with_rule (new_app (codes "run-files")) only_rule) stage_rule) (flag_rule (codes "fresh")))
 
--- behind them `[--paths-from=FILE] [PATH..]`
+-- after them `[--paths-from=FILE] [PATH..]`
 abbrev pub run_files_app : App
 run_files_app = with_rule (with_rule run_files_with_options_app paths_from_rule) (optional_words_rule (codes "PATH"))
 
@@ -164,7 +164,7 @@ forget_app = new_app (codes "forget")
 abbrev pub with_commands : App → List App → App
 with_commands = fold (λ app command. with_subcommand app command.top)
 
--- the program without its name, which wants a command, or says its version
+-- the program without its name: it needs a command, and has a version
 abbrev pub hookhost_base : App
 hookhost_base = on_top (λ s. record s {
   has_version = true;
@@ -195,29 +195,30 @@ word_in id rows = unwrap_or (first_of id rows) []
 abbrev pub words_in : Text → List Row → List Text
 words_in id rows = unwrap_or (all_of id rows) []
 
--- whether a flag is given, of which `clap` says "true" or "false"
+-- whether a flag is given: its value is then "true"
 abbrev pub flag_in : Text → List Row → Bool
 flag_in name rows = bytes_eq (word_in name rows) (codes "true")
 
--- the mode that `--chmod` asks for: `+x` is one, and where nothing is asked for that is an answer too
+-- the mode that `--chmod` asks for. `Some None` means that it is left out, `None` that its value can't be
+-- taken
 abbrev pub mode_in : Option Text → Option (Option Mode)
 mode_in None = Some None
 mode_in (Some text) = if bytes_eq text (codes "+x") then Some (Some Executable) else None
 
--- the stage that `--hook-stage` asks for, `pre-commit` where nothing is asked for
+-- the stage that `--hook-stage` asks for, `pre-commit` if it is left out
 abbrev pub stage_in : Option Text → Option StageChoice
 stage_in None = Some PreCommit
 stage_in (Some text) =
     if bytes_eq text (codes "pre-commit") then Some PreCommit else (if bytes_eq text (codes "manual") then Some Manual else None)
 
--- when a report has colors, as `--color` asks for it, `auto` where nothing is asked for
+-- when a report has colors, as `--color` asks for it, `auto` if it is left out
 abbrev pub color_in : Option Text → Option ColorChoice
 color_in None = Some Auto
 color_in (Some text) =
     if bytes_eq text (codes "auto") then Some Auto
     else (if bytes_eq text (codes "always") then Some Always else (if bytes_eq text (codes "never") then Some Never else None))
 
--- the staged files that `run` is about
+-- the staged files that the hooks of `run` may get
 abbrev pub files_in : List Row → FileChoice
 files_in rows = if flag_in (codes "all-files") rows then All else Changed
 
@@ -226,24 +227,25 @@ abbrev pub number_in : Text → Option ℕ
 number_in text =
     if is_unsigned_in 0 (2 ^ 32 - 1) text then Some (digits_value 10 (without_leading_plus text)) else None
 
--- the limit of remembered answers that a text tells: decimal digits, which a `+` may precede, of a number from 1 to 100,000
+-- the limit that a text writes: decimal digits, which a `+` may precede, of a number from 1 to 100,000
 abbrev pub limit_number : Text → Option ℕ
 limit_number text =
     if is_unsigned_in 1 most_limit text then Some (digits_value 10 (without_leading_plus text)) else None
 
--- the limit that `--limit` asks for, and where nothing is asked for that is an answer too
+-- the limit that `--limit` asks for. `Some None` means that it is left out, `None` that its value can't be
+-- taken
 abbrev pub limit_in : Option Text → Option (Option ℕ)
 limit_in None = Some None
 limit_in (Some text) = option_map Some (limit_number text)
 
--- the bytes that `--fixed` or `--commit` asks for: those of a commit by its number, and not both beside one another
+-- the bytes that `--fixed` or `--commit` asks for, a commit's by its number; both together can't be taken
 abbrev pub version_in : Bool → Option Text → Option FileVersion
 version_in true None = Some Fixed
 version_in false None = Some Staged
 version_in true (Some text) = None
 version_in false (Some text) = option_map Committed (number_in text)
 
--- where the paths stand: in words, or in the file that `--paths-from` names, and in one of the two
+-- where the paths are written: in words or in the file that `--paths-from` names, and not in both
 abbrev pub source_in : List Text → Option Text → Option PathSource
 source_in [] None = None
 source_in (word ∷ words) None = Some (Words (word ∷ words))
@@ -311,7 +313,7 @@ cat_line rows =
 abbrev pub show_line : List Row → Option Line
 show_line rows = option_map (λ (number : ℕ). line.LookUp (Show number)) (number_in (word_in (codes "N") rows))
 
--- without a limit something is looked up, and with one something is changed
+-- `memory` without a limit is a look-up, and with one a change
 abbrev pub memory_by : Option ℕ → Line
 memory_by None = line.LookUp Memory
 memory_by (Some limit) = line.Update (Limit limit)
@@ -340,7 +342,7 @@ line_by name rows =
     else (if bytes_eq name (codes "commit") then commit_line rows
     else (if bytes_eq name (codes "forget") then Some (line.Update Forget) else None))))))))))))))))
 
--- what the words ask for that `clap` gets: a command with its values, as it finds them
+-- what the words that `clap` gets ask for: a command with its values, as it finds them
 abbrev pub line_in : List Text → Option Line
 line_in words = option_and_then (λ p. line_by p.0 p.1) (subcommand_of hookhost_app words)
 
@@ -355,7 +357,7 @@ abbrev pub value_fault : {T : Type 0} → Option T → Kinds
 value_fault None = InvalidValue ∷ []
 value_fault (Some value) = []
 
--- what `clap` refuses of the words that it gets, and then a value
+-- what is refused of the words that `clap` gets: what `clap` refuses, otherwise a value
 abbrev pub line_fault_of : List Text → Kinds
 line_fault_of words = or_else (fault_of hookhost_app words) (value_fault (line_in words))
 
@@ -363,6 +365,6 @@ line_fault_of words = or_else (fault_of hookhost_app words) (value_fault (line_i
 abbrev pub line_fault : List Text → Kinds
 line_fault words = line_fault_of (words_for_clap words)
 
--- the value where there is one, and else its refusal, or want of memory
+-- the result is the value that is asked for, or an error: that the value can't be taken, or want of memory
 abbrev pub IsValueOf : {T : Type 0} → Option T → Result T Error → Type 0
 IsValueOf asked result = MatchResult result (λ value. asked ≡ Some value) (HasKind (value_fault asked))

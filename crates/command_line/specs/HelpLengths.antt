@@ -6,11 +6,11 @@ use Rattle.clap.specs.Words.{Text}
 use Rattle.command_line.specs.declared.help_length.HelpLength.{HelpLength}
 use Rattle.command_line.specs.declared.help_length.HelpLength.TheVariants.{Short, Whole}
 
--- `-h`, behind which more letters may stand: `clap` takes it first
+-- `-h`, maybe with more letters after it: `clap` reads the `h` first
 abbrev pub is_short_help : Text → Bool
 is_short_help word = starts_with nat_eq word (codes "-h")
 
--- the first word that asks for help decides, and where none does it doesn't matter
+-- the first word that asks for help decides; if none does, the result isn't used
 abbrev pub help_asked : List Text → HelpLength
 help_asked [] = Whole
 help_asked (word ∷ words) =

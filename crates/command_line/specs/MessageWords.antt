@@ -1,4 +1,5 @@
--- The words of a line as `clap` gets them: to it a value that begins with `-` is an option, unless it is joined to its own.
+-- The words of a line as `clap` gets them. It reads a value that begins with `-` as an option, unless the
+-- value is joined to its option's name.
 use Rattle.std.specs.Prelude.{List, [], ◌∷◌, ◌++◌, codes, if◌then◌else◌}
 use Rattle.std.specs.Str.{bytes_eq}
 use Rattle.clap.specs.Words.{Text}
@@ -7,12 +8,12 @@ use Rattle.clap.specs.Words.{Text}
 abbrev pub joined_message : Text → Text
 joined_message message = codes "-m=" ++ message
 
--- the words behind `-m`, whose first is the message
+-- `-m` and the words after it, the first of which is the message
 abbrev pub message_joined : List Text → List Text
 message_joined [] = codes "-m" ∷ []
 message_joined (message ∷ words) = joined_message message ∷ words
 
--- the word behind the first `-m` is its message, where no `--` stands before
+-- the word after the first `-m` is its message, unless `--` comes before it
 abbrev pub words_for_clap : List Text → List Text
 words_for_clap [] = []
 words_for_clap (word ∷ words) =

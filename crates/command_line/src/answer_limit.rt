@@ -1,4 +1,4 @@
-//! How many answers may be remembered.
+//! How many cached results a repository may keep.
 //!
 //! The contracts cite `specs/AnswerLimit.antt`.
 
@@ -9,7 +9,7 @@ use std::marker::Model;
 
 const MOST_ANSWERS: u32 = 100_000;
 
-/// How many answers are remembered at most: a number from 1 to 100,000. Contracts see the number.
+/// The most cached results that a repository keeps: a number from 1 to 100,000. Contracts see the number.
 #[derive(Debug, Drop)]
 pub struct AnswerLimit {
     number: u32,
@@ -27,7 +27,7 @@ impl Model for AnswerLimit {
 }
 
 impl AnswerLimit {
-    /// Takes a number as a limit, or answers `None` where it isn't one from 1 to 100,000.
+    /// Takes a number as a limit, or answers `None` if it isn't one from 1 to 100,000.
     pub fn read(number: u32) -> Option<AnswerLimit>
         ensures taken { IfSome result (λ limit. (limit ≡ number) × IsAnswerLimit number) }
         ensures refused { result ≡ None → ¬ IsAnswerLimit number }

@@ -18,14 +18,18 @@ use crate::{FileChoice, Line, LookUp, PathSource, RunChoice, Standalone, Update}
 use clap::{ArgMatches, Error};
 use std::alloc::{AllocError, Global};
 
-/// What the words, without the program's own name, ask for. The word behind the first `-m` of a commit is its message,
-/// whatever it begins with.
+/// What the words, without the program's own name, ask for. The word after the first `-m` of a commit is its
+/// message, whatever it begins with.
 ///
-/// An error's text says what the words lack, or which value can't be taken, or is the help that they ask for. Its kind
-/// is `OutOfMemory` where memory was refused, the one that `clap` states for these words, or else `InvalidValue`: for
-/// another `--chmod` than `+x`, another `--hook-stage` than `pre-commit` and `manual` or another `--color` than `auto`, `always` and
-/// `never`, for `--commit` beside `--fixed`, where the number of `show` or of `--commit` isn't one of 32 bits or that of `--limit`
-/// none from 1 to 100,000, or where there is neither a path nor `--paths-from`, or both.
+/// An error's text says what the words lack or which value can't be taken, or it is the help that they ask
+/// for. Its kind is `OutOfMemory` if memory was refused, or the one that `clap` states for these words.
+/// Otherwise it is `InvalidValue`, for one of:
+/// - a `--chmod` other than `+x`, a `--hook-stage` other than `pre-commit` and `manual`, or a `--color` other
+///   than `auto`, `always` and `never`;
+/// - `--commit` together with `--fixed`;
+/// - a number of `show` or `--commit` that isn't one of 32 bits, or a number of `--limit` that isn't from 1
+///   to 100,000;
+/// - neither a path nor `--paths-from`, or both.
 pub fn line_of<'a>(alloc: Global, words: &'a [&'a str]) -> Result<Line, Error>
     ensures line { IfOk result (λ line. line_asked (map (λ s. s.now) words.entry.now) ≡ Some line) }
     ensures fault { FailsBy (line_fault (map (λ s. s.now) words.entry.now)) result }
@@ -143,7 +147,8 @@ fn run_line(alloc: Global, values: &ArgMatches<'_>) -> Result<Line, Error>
     }))
 }
 
-// What is asked of a run of the command of this name.
+// What the options `--cautious`, `--verbose` and `--color` ask of a run. `command` names the command, for its
+// usage in an error.
 fn choice_of(alloc: Global, command: &str, values: &ArgMatches<'_>) -> Result<RunChoice, Error>
     ensures { IsValueOf (choice_in (rows_of (found_of values.now))) result }
 {
@@ -215,7 +220,7 @@ fn show_line(alloc: Global, values: &ArgMatches<'_>) -> Result<Line, Error>
     }))
 }
 
-// With a limit it is a change of what is remembered, and without one a look-up.
+// With a limit it changes the cache, and without one it only looks it up.
 fn memory_line(alloc: Global, values: &ArgMatches<'_>) -> Result<Line, Error>
     ensures { IsValueOf (memory_line (rows_of (found_of values.now))) result }
 {

@@ -210,7 +210,7 @@ fn explain_command<'a>(alloc: Global, help: HelpLength) -> Result<Command<'a>, A
     .arg(optional_word(
         alloc,
         "FILE",
-        "The configuration, - for standard input; else .pre-commit-config.yaml",
+        "The configuration, - for standard input; without it .pre-commit-config.yaml",
     ))
 }
 
@@ -251,7 +251,7 @@ pub(crate) fn remove_command<'a>(alloc: Global, help: HelpLength) -> Result<Comm
     .arg(optional_words(
         alloc,
         "PATH",
-        "The paths of staged files, and folders of such",
+        "The paths of staged files, and folders of staged files",
     ))
 }
 
@@ -302,7 +302,7 @@ fn run_with_options<'a>(alloc: Global, help: HelpLength) -> Result<Command<'a>, 
     with_choice(alloc, command)
 }
 
-// A command with the options that say what else is asked of a run.
+// The command with `--cautious`, `--verbose` and `--color`.
 fn with_choice<'a>(alloc: Global, command: Command<'a>) -> Result<Command<'a>, AllocError>
     ensures app { IfOk result (λ made. app_of made ≡ with_choice (app_of command.entry)) }
     ensures local { IfOk result (λ made. (fields_of made).has_globals ≡ (fields_of command.entry).has_globals) }
@@ -312,12 +312,13 @@ fn with_choice<'a>(alloc: Global, command: Command<'a>) -> Result<Command<'a>, A
         .arg(flag(
             alloc,
             "verbose",
-            "Prints the output of every hook, and how many answers came from the cache",
+            "Prints the output of every hook, and how many results came from the cache",
         ))?
         .arg(color(alloc))
 }
 
-/// `run-files [--only=ID] [--hook-stage=STAGE] [--fresh] [--cautious] [--verbose] [--color=WHEN] [--paths-from=FILE] [PATH..]`.
+/// `run-files [--only=ID] [--hook-stage=STAGE] [--fresh] [--cautious] [--verbose] [--color=WHEN]
+/// [--paths-from=FILE] [PATH..]`.
 pub(crate) fn run_files_command<'a>(
     alloc: Global,
     help: HelpLength,
@@ -452,7 +453,7 @@ pub(crate) fn memory_command<'a>(alloc: Global, help: HelpLength) -> Result<Comm
     command(
         alloc,
         "memory",
-        "Prints how many answers of hooks' commands are remembered, or limits them",
+        "Prints how many results of hooks' commands are cached, or limits them",
         "hookhost memory [--limit=<N>]",
         help.of(MEMORY_HELP),
     )
@@ -466,13 +467,13 @@ fn forget_command<'a>(alloc: Global, help: HelpLength) -> Command<'a>
     command(
         alloc,
         "forget",
-        "Forgets the remembered answers, and prints how many there were",
+        "Drops all cached results, and prints how many there were",
         "hookhost forget",
         help.of(FORGET_HELP),
     )
 }
 
-// A command without values, with what help says of it, how it is called, and more about it.
+// A command without values: its name, one line about it, its usage, and the end of its help.
 fn command<'a>(
     alloc: Global,
     name: &'a str,
@@ -556,7 +557,7 @@ fn limit<'a>(alloc: Global) -> Arg<'a>
     ensures local { result.global ≡ false }
 {
     Arg::new(alloc, "limit").long("limit").value_name("N").help(
-        "Remembers at most so many answers from now on: from 1 to 100000",
+        "Keeps at most so many cached results from now on: from 1 to 100000",
     )
 }
 
@@ -577,7 +578,7 @@ fn fresh<'a>(alloc: Global) -> Arg<'a>
     flag(
         alloc,
         "fresh",
-        "Starts every command, also where its answer is remembered",
+        "Starts every command, also if its result is cached",
     )
 }
 

@@ -1,11 +1,12 @@
-//! What the help says beyond the commands and their values: examples, exit statuses, and each refusal with what to do next.
+//! The texts that follow the lists of commands and values in the help: examples, exit statuses, and each
+//! refusal with what to do.
 //!
 //! `docs/REFERENCE.md` holds the same tables, and `tests/reference.py` compares the two.
 
-/// Behind the help of the program.
+/// At the end of the program's help.
 pub(crate) const PROGRAM_HELP: &str = "\
-Without words, the configuration is read from standard input, and its hooks are
-run on no files. What that refuses, hookhost try --help explains.
+Without words, the configuration is read from standard input, and its hooks run on
+no files. hookhost try --help explains what that refuses.
 
 A repository lies in .hookhost of the current folder: init makes it, and all
 commands but try, check and explain work on it. In a repository of Git the script
@@ -25,7 +26,7 @@ Exit status:
 
 hookhost COMMAND --help explains what that command refuses.";
 
-/// Behind the help of `try`.
+/// At the end of the help of `try`.
 pub(crate) const TRY_HELP: &str = "\
 Hooks of the stage pre-commit are run on the files that each selects, one after
 another. The commands of system and script hooks run in .hookhost/scratch of the
@@ -43,9 +44,9 @@ Exit status:
 
 'hookhost: cannot use WORD' says that CONFIG or a PATH can't be read, or that a PATH
 isn't allowed or its file has more than 16 MiB. A PATH is relative, without empty
-parts and . or .., and not below .git. Everything else is told as
+parts and . or .., and not below .git. Everything else is reported as
 'hookhost: refused: NUMBER NAME':
-   1 Read         standard input, read where there are no words, gave an error
+   1 Read         standard input, read if there are no words, gave an error
                   try again
    2 Config       the text is no configuration, or has more than 1 MiB
                   mend it: hookhost explain CONFIG says what is wrong
@@ -54,12 +55,12 @@ parts and . or .., and not below .git. Everything else is told as
    4 OutOfMemory  memory was refused
                   free some memory, and run it again
    5 Spent        no more children can be counted
-                  run it again: each run counts anew";
+                  run it again: each run counts from 0";
 
-/// Behind the help of `check`.
+/// At the end of the help of `check`.
 pub(crate) const CHECK_HELP: &str = "\
-Nothing is run. The hooks of all repositories and stages are counted, and each key
-that nothing knows is printed on its line.
+Nothing is run. The hooks of all repositories and stages are counted. Each key that
+hookhost doesn't know is printed, a line each.
 
 Example:
   hookhost check
@@ -69,10 +70,10 @@ Exit status:
    2  the words are wrong, or ask for help
    3  something was refused: standard error says what
 
-A file that can't be read is told as 'hookhost: cannot use .pre-commit-config.yaml',
-an output that takes no more as 'hookhost: refused: 3 Write', want of memory before
-the file is read as '4 OutOfMemory', and everything else as
-'hookhost: refused: NUMBER NAME':
+'hookhost: cannot use .pre-commit-config.yaml' says that the file can't be read,
+'hookhost: refused: 3 Write' that standard output took no more, and
+'hookhost: refused: 4 OutOfMemory' that memory was refused before the file was read.
+Everything else is reported as 'hookhost: refused: NUMBER NAME':
    1 Yaml         the text isn't in the profile of YAML that is read
                   write it in that of docs/REFERENCE.md
    2 Shape        a value is of another kind than its key asks for
@@ -98,16 +99,17 @@ the file is read as '4 OutOfMemory', and everything else as
   12 OutOfMemory  memory was refused
                   free some memory, and run it again";
 
-/// Behind the help of `explain`.
+/// At the end of the help of `explain`.
 pub(crate) const EXPLAIN_HELP: &str = "\
-Nothing is run, and no repository is needed. Of a configuration that is refused, the
-line, the hook, the key, the value and what is wanted are told, with the word that
-may have been meant, and the line itself with a mark under the place. Of one that is
-taken: the hooks of each stage and what each runs, the keys that are ignored, the
-hooks that never run here, and those that run at all four stages of a commit.
+Nothing is run, and no repository is needed. If the configuration is refused, each
+fault is printed: its line, hook, key and value, what is wanted, and the word that
+may have been meant. Below that is the line itself, with a mark under the place. If
+the configuration is taken, these are printed: the hooks of each stage and what each
+runs, the ignored keys, the hooks that never run here, and those that run at all
+four stages of a commit.
 
-That a command looks at the clock, the network, git, the environment or a file that
-none of its words names can't be seen: hookhost run --fresh shows it.
+It can't see that a command looks at the clock, the network, git, the environment or
+a file that none of its words names: hookhost run --fresh shows that.
 
 Examples:
   hookhost explain
@@ -120,6 +122,6 @@ Exit status:
    2  the words are wrong, or ask for help
    3  something was refused: standard error says what
 
-A file that can't be read is told as 'hookhost: cannot use FILE', an output that
-takes no more as 'hookhost: refused: 3 Write', and want of memory as
-'hookhost: refused: 4 OutOfMemory'.";
+'hookhost: cannot use FILE' says that the file can't be read,
+'hookhost: refused: 3 Write' that standard output took no more, and
+'hookhost: refused: 4 OutOfMemory' that memory was refused.";

@@ -5,7 +5,7 @@
 ghost use Rattle.std.specs.Prelude.{◌≡◌, map};
 ghost use Rattle.command_line.specs.HelpLengths.{help_asked, is_short_help};
 
-// What stands behind the short help, in the words in which `clap` ends an error.
+// The end of the short help, in the words in which `clap` ends an error.
 const MORE: &str = "For more information, try '--help'.";
 
 /// How much of the help is printed.
@@ -13,12 +13,12 @@ const MORE: &str = "For more information, try '--help'.";
 pub(crate) enum HelpLength {
     /// The usage, and a line for each value.
     Short,
-    /// Behind that the examples, the exit statuses and the refusals.
+    /// The same, then the examples, the exit statuses and the refusals.
     Whole,
 }
 
 impl HelpLength {
-    /// What stands behind the usage and the values, of which this is the whole.
+    /// What follows the usage and the values; `whole` is all that the long help has there.
     pub(crate) fn of<'a>(self, whole: &'a str) -> &'a str {
         match self {
             HelpLength::Short => MORE,
@@ -27,8 +27,9 @@ impl HelpLength {
     }
 }
 
-/// How much of the help the words ask for: the first word that asks for help decides, as it does for `clap`. Words behind `--` ask
-/// for none, and are looked at nevertheless, since behind it `clap` prints no help.
+/// How much of the help the words ask for: the first word that asks for help decides, as it does for `clap`.
+/// Words after `--` are looked at too, though they ask for no help: `clap` prints none after it, so the
+/// answer doesn't matter.
 pub(crate) fn help_asked(words: &[&str]) -> HelpLength
     ensures { result ≡ help_asked (map (λ s. s.now) words.now) }
 {

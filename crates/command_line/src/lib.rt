@@ -1,7 +1,8 @@
-//! The command line of `hookhost`: what a line of words asks for (`line_of`), as a value (`Line`), and the help. A line that sets how
-//! many answers are remembered holds an `AnswerLimit`.
+//! The command line of `hookhost`: what a line of words asks for (`line_of`), as a value (`Line`), and the
+//! help. A line that limits the cached results holds an `AnswerLimit`.
 //!
-//! The contracts cite `specs/CommandLine.antt`, which states the command line as `clap` sees it, and `specs/AnswerLimit.antt`.
+//! The contracts cite `specs/CommandLine.antt`, which states the command line as `clap` sees it, and
+//! `specs/AnswerLimit.antt`.
 #![tactic(auto)]
 
 mod answer_limit;

@@ -10,7 +10,7 @@ pub enum Line {
     Standalone(Standalone),
     /// What is looked up in the repository, which stays as it is.
     LookUp(LookUp),
-    /// A change of the repository, or of what it remembers.
+    /// A change of the repository or of its cached results.
     Update(Update),
 }
 
@@ -28,9 +28,9 @@ pub enum Standalone {
         /// When the report has colors.
         color: ColorChoice,
     },
-    /// A reading of the working folder's configuration, and what it says.
+    /// A check of the working folder's configuration: how many hooks it has, and its ignored keys.
     Check,
-    /// A reading of a configuration, and which of its keys do what.
+    /// An explanation of a configuration: why it is refused, or what its hooks will do.
     Explain {
         /// The name of the file that holds the configuration, or `None` for the working folder's.
         file: Option<Text>,
@@ -46,7 +46,7 @@ pub enum LookUp {
     Fixes,
     /// The bytes of a file of the repository.
     Cat {
-        /// The path, as a text that needn't be one.
+        /// The path, as a text that needn't be a legal path.
         path: Text,
         /// Which of the path's bytes.
         version: FileVersion,
@@ -58,23 +58,24 @@ pub enum LookUp {
         /// The commit's number.
         number: u32,
     },
-    /// How many answers of hooks' commands are remembered.
+    /// How many results of hooks' commands are cached.
     Memory,
 }
 
-/// A change of the repository, or of what it remembers.
+/// A change of the repository or of its cached results.
 #[derive(Debug, Drop)]
 pub enum Update {
     /// Files of the working folder are staged, all or none.
     Add {
-        /// The names of files and folders, of which words give one at least. They are their paths in the repository too.
+        /// The names of files and folders, which are their paths in the repository too. In words there is at
+        /// least one.
         paths: PathSource,
-        /// The mode that is asked for, or `None` for that of each staged file.
+        /// The mode that is asked for. With `None` a staged file keeps its mode, and another is plain.
         mode: Option<Mode>,
     },
     /// Paths are taken out of the staged files, all or none.
     Remove {
-        /// The paths of staged files and of folders of such, of which words give one at least.
+        /// The paths of staged files, and folders of staged files. In words there is at least one.
         paths: PathSource,
     },
     /// A run of hooks on the staged files.
@@ -85,7 +86,7 @@ pub enum Update {
         only: Option<Text>,
         /// The stage whose hooks are run.
         stage: StageChoice,
-        /// Whether every child is to be started, also where its answer is remembered.
+        /// Whether every child is started, also if its result is cached.
         fresh: bool,
         /// What else is asked of the run.
         options: RunChoice,
@@ -101,29 +102,29 @@ pub enum Update {
         /// When the reports have colors.
         color: ColorChoice,
     },
-    /// All remembered answers are forgotten.
+    /// All cached results are dropped.
     Forget,
-    /// So many answers are remembered at most.
+    /// At most so many results are kept in the cache.
     Limit(AnswerLimit),
 }
 
 /// The staged files that the hooks of a run may get.
 #[derive(Debug, Drop)]
 pub enum FileChoice {
-    /// Those that the last commit doesn't hold so.
+    /// Those that differ from the last commit.
     Changed,
     /// All of them.
     All,
-    /// These, as texts that needn't be paths.
+    /// These, as texts that needn't be legal paths.
     Named(Items<Text>),
     /// Those that the file of this name lists, each ended by a NUL byte. `-` is standard input.
     Listed(Text),
 }
 
-/// Where the paths of a line stand.
+/// Where the paths of a line are written.
 #[derive(Debug, Drop)]
 pub enum PathSource {
-    /// In these words, as texts that needn't be paths.
+    /// In these words, as texts that needn't be legal paths.
     Words(Items<Text>),
     /// In the file of this name, each ended by a NUL byte. `-` is standard input.
     Listed(Text),
@@ -140,11 +141,12 @@ pub enum FileVersion {
     Committed(u32),
 }
 
-/// What a run is asked for besides its files, its hooks and whether each child is started.
+/// The options of a run that don't choose its files and hooks and aren't `--fresh`.
 #[derive(Clone, Copy, Debug, PartialEq, Eq)]
 pub struct RunChoice {
-    /// Whether a hook sees every file of the tree, unless it says which files its command reads or the command is a known tool's,
-    /// and no failure is taken from the cache.
+    /// Whether a hook counts as seeing every file of the tree, and no failure is taken from the cache. A hook
+    /// that says which files its command reads, or whose command is a known tool's, is excepted from the
+    /// first.
     pub cautious: bool,
     /// Whether the output of each hook is printed, and how many answers came from the cache.
     pub verbose: bool,
@@ -152,10 +154,10 @@ pub struct RunChoice {
     pub color: ColorChoice,
 }
 
-/// When a report has colors, which tell how each hook ended.
+/// When a report has colors. They show how each hook ended.
 #[derive(Clone, Copy, Debug, PartialEq, Eq)]
 pub enum ColorChoice {
-    /// Where the environment or the terminal asks for them. It stands for an option that is left out too.
+    /// If the environment or the terminal asks for them. This is the default.
     Auto,
     /// Always, whatever the environment and the terminal ask for.
     Always,
@@ -168,6 +170,6 @@ pub enum ColorChoice {
 pub enum StageChoice {
     /// The hooks that run before a commit.
     PreCommit,
-    /// The hooks that run only where they are asked for.
+    /// The hooks that run only if they are asked for.
     Manual,
 }

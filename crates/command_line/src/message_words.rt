@@ -1,4 +1,5 @@
-//! The words of a line as `clap` gets them: to it a value that begins with `-` is an option, unless it is joined to its own.
+//! The words of a line as `clap` gets them. It reads a value that begins with `-` as an option, unless the
+//! value is joined to its option's name.
 //!
 //! The contracts cite `specs/MessageWords.antt`.
 
@@ -14,11 +15,11 @@ pub(crate) struct AroundMessage<'w, 'a> {
     before: &'w [&'a str],
     /// The message, which is a word of its own.
     message: &'a str,
-    /// Those behind the message.
+    /// Those after the message.
     behind: &'w [&'a str],
 }
 
-/// What stands around the message of the first `-m`, or `None` where none has a message behind it, or `--` stands before it.
+/// The words around the message of the first `-m`, or `None` if it has no message or comes after `--`.
 pub(crate) fn around_message<'w, 'a>(words: &'w [&'a str]) -> Option<AroundMessage<'w, 'a>>
     ensures { MatchOption result (words_for_clap (map (λ s. s.now) words.now) ≡ map (λ s. s.now) words.now)
         (λ around. words_for_clap (map (λ s. s.now) words.now) ≡ map (λ s. s.now) around.before.now ++ joined_message around.message.now ∷ map (λ s. s.now) around.behind.now) }
@@ -34,7 +35,7 @@ pub(crate) fn around_message<'w, 'a>(words: &'w [&'a str]) -> Option<AroundMessa
     None
 }
 
-// What stands around the message of the flag at this place, or `None` where it is the last word.
+// The words around the message of the flag at this place, or `None` if the flag is the last word.
 fn around_flag<'w, 'a>(words: &'w [&'a str], place: usize) -> Option<AroundMessage<'w, 'a>>
     ensures { MatchOption result (drop (place + 1) (map (λ s. s.now) words.now) ≡ [])
         (λ around. (map (λ s. s.now) around.before.now ≡ take place (map (λ s. s.now) words.now)) × (drop (place + 1) (map (λ s. s.now) words.now) ≡ around.message.now ∷ map (λ s. s.now) around.behind.now)) }
@@ -60,7 +61,7 @@ impl<'w, 'a> AroundMessage<'w, 'a> {
         Ok(joined)
     }
 
-    /// All words, with this one for `-m` and its message.
+    /// All words, with `joined` in place of `-m` and its message.
     pub(crate) fn with_joined<'b>(
         &self,
         alloc: Global,

@@ -1,4 +1,4 @@
-//! The paths of a command, in words or in a file, and the errors where they stand in neither or in both.
+//! The paths of a command, in words or in a file, and the errors if they are in neither or in both.
 //!
 //! The contracts cite `specs/CommandLine.antt`.
 
@@ -15,8 +15,8 @@ use clap::{ArgMatches, Command, Error};
 use hook_base::{Items, Text};
 use std::alloc::{AllocError, Global};
 
-/// Where the paths of the command of this name stand. Words and `--paths-from` beside one another are an error, and so is neither,
-/// in the words in which `clap` says it of what it knows itself.
+/// Where the paths of the command of this name are written. Words together with `--paths-from` are an error,
+/// and so is neither. The errors have the words that `clap` uses for its own.
 pub(crate) fn paths_of(
     alloc: Global,
     command: &str,

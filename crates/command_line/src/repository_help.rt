@@ -1,8 +1,8 @@
-//! What the help says of the commands on a repository: examples, exit statuses, and each refusal with what to do next.
+//! The same texts as in `help.rt`, of the commands on a repository.
 //!
 //! `docs/REFERENCE.md` holds the same refusals, and `tests/reference.py` compares the two.
 
-// The help of a command that opens the store: what it does, with an example, the exit statuses of what it does, where these
+// The help of a command that opens the store: what it does with an example, its exit statuses 0 and 1 if they
 // are its own, and what it alone refuses.
 macro_rules! opening_help {
     ($does:literal, $refuses:literal) => {
@@ -23,19 +23,19 @@ Exit status:
 'hookhost: cannot use .hookhost/store.db' says that no store is here, or that it
 can't be opened: hookhost init makes one. 'hookhost: cannot use .hookhost/lock' says
 that another hookhost works here: wait for it. 'hookhost: standard output was not
-taken' says that what is printed didn't go out whole: what was done stays. A store
-of an earlier version is taken over as it is opened: no earlier hookhost opens it
-then. What opening the store refuses is told as 'hookhost: refused: NUMBER NAME':
+taken' says that not all output was written: what was done stays. A store of an
+earlier version is converted when it is opened; then no earlier hookhost opens it.
+What opening the store refuses is reported as 'hookhost: refused: NUMBER NAME':
    1 NotAStore    the file is no store of a version that this program knows
                   move it away, and make a store by hookhost init
-   2 Damaged      the store holds what no store holds
+   2 Damaged      the store breaks a rule that every store keeps
                   take it from a backup: nothing here mends it
    3 Sql          the database refused
                   see that the disk can be read and has room
    4 OutOfMemory  memory was refused
                   free some memory, and run it again
 
-What the command itself refuses is told in the same way:
+What the command itself refuses is reported in the same way:
    1 OutOfMemory  memory was refused
                   free some memory, and run it again
    2 Store N      the store refused, for the cause N of those above
@@ -45,7 +45,7 @@ What the command itself refuses is told in the same way:
     };
 }
 
-/// Behind the help of `init`.
+/// At the end of the help of `init`.
 pub(crate) const INIT_HELP: &str = "\
 The store is made as .hookhost/store.db, with nothing staged and no commit. Nothing
 else in the folder is touched.
@@ -61,21 +61,21 @@ Exit status:
 'hookhost: cannot use .hookhost/store.db' says that something is there already: go
 on with that store, or move it away. Or it says that the file can't be made: see
 whose folder .hookhost is. 'hookhost: cannot use .hookhost/lock' says that another
-hookhost works here: wait for it. Everything else is told as
+hookhost works here: wait for it. Everything else is reported as
 'hookhost: refused: NUMBER NAME':
    3 Sql          the database refused
                   see that the disk can be read and has room
    4 OutOfMemory  memory was refused
                   free some memory, and run it again";
 
-/// Behind the help of `add`.
+/// At the end of the help of `add`.
 pub(crate) const ADD_HELP: &str = opening_help!(
     "\
-The bytes of each file are staged as they are now, those of all files or of none. A
-file that is staged already keeps its mode, and a new one isn't executable, unless
---chmod=+x is given. A folder stands for the files below it, in the order of their
-paths: no link is followed, and .git and the .hookhost of the current folder are
-left out. Files that .gitignore names are staged too: no such file is read.
+The bytes of each file are staged as they are now, of all files or of none. A file
+that is staged already keeps its mode, and a new one isn't executable, unless
+--chmod=+x is given. A folder means the files below it, in the order of their paths.
+No link is followed, and .git and the .hookhost of the current folder are left out.
+Files that .gitignore names are staged too: no .gitignore is read.
 
 With --paths-from the paths are read from a file, or with - from standard input,
 each ended by a NUL byte, as git ls-files -z writes them.
@@ -97,17 +97,17 @@ Examples:
   15 Clash        a staged path is a folder of PATH, or lies in it
                   take the other path out first, by hookhost rm
 
-Where there are several files 'hookhost: at PATH' says behind it which of them is
-refused, the first one. 'hookhost: cannot use PATH' says that the file is missing or
-can't be read, or the folder can't: name one that can."
+If there are several files, a line 'hookhost: at PATH' follows, with the first file
+that is refused. 'hookhost: cannot use PATH' says that the file or folder is missing
+or can't be read: name one that can."
 );
 
-/// Behind the help of `rm`.
+/// At the end of the help of `rm`.
 pub(crate) const REMOVE_HELP: &str = opening_help!(
     "\
-The paths leave the staged files, all or none. Those in the folder stay, and so do
-the commits. A path that isn't staged, but is a folder of staged files, stands for
-all of these.
+The paths are unstaged, all or none. The files in the folder stay, and so do the
+commits. A path that isn't staged, but is a folder of staged files, means all of
+these.
 
 With --paths-from the paths are read from a file, or with - from standard input,
 each ended by a NUL byte, as git ls-files -z writes them.
@@ -121,43 +121,43 @@ Examples:
    4 NotStaged    nothing is staged at PATH
                   stage it first, by hookhost add
 
-Where there are several paths 'hookhost: at PATH' says behind it which of them is
-refused, the first one. 'hookhost: cannot use FILE' says that the file of paths is
-missing or can't be read: name one that can."
+If there are several paths, a line 'hookhost: at PATH' follows, with the first path
+that is refused. 'hookhost: cannot use FILE' says that the file of paths is missing
+or can't be read: name one that can."
 );
 
-/// Behind the help of `status`.
+/// At the end of the help of `status`.
 pub(crate) const STATUS_HELP: &str = opening_help!(
     "\
-A line is A PATH for a file that was added, M PATH for one whose bytes or mode
-differ, and D PATH for one that was taken out, in the order of the paths. Before the
-first commit every staged file is an added one. The folder's files aren't looked at.
+Each line is A PATH for a file that was added, M PATH for one whose bytes or mode
+differ, or D PATH for one that was unstaged, in the order of the paths. Before the
+first commit every staged file is an added one. The files in the folder aren't read.
 
 Example:
   hookhost status",
     ""
 );
 
-/// Behind the help of `run`.
+/// At the end of the help of `run`.
 pub(crate) const RUN_HELP: &str = opening_help!(
     "\
-The hooks of the staged .pre-commit-config.yaml are run, one after another, on the
-staged files that each selects: of those that differ from the last commit, or with
---all-files of all. Those that SKIP of the environment names, by ids or aliases with
-commas between them, are skipped. What the hooks change isn't staged: these are the
-fixes, which hookhost fixes lists and hookhost accept applies.
+The hooks of the staged .pre-commit-config.yaml run one after another. Each gets the
+staged files that it selects of those that differ from the last commit, or with
+--all-files of all. The variable SKIP of the environment names hooks to skip, by ids
+or aliases with commas between them. What the hooks change isn't staged: these are
+the fixes, which hookhost fixes lists and hookhost accept applies.
 
-The commands of hooks run in .hookhost/scratch, over copies of the staged files.
-What a command answered is remembered in the repository: as long as it is, no run
-and no commit starts it again on the same files. With --fresh each is started, and
-unsteady: ID tells of each hook that answers otherwise than is remembered. hookhost
-memory --help says when that is of use, and how long an answer is remembered.
+The commands of hooks run in .hookhost/scratch, over copies of the staged files. The
+result of a command is cached in the repository: as long as it is, no run and no
+commit starts the command again on the same files. With --fresh each is started, and
+a line unsteady: ID names each hook whose result differs from the cached one.
+hookhost memory --help says when that is of use, and how long a result is kept.
 
-With --cautious a hook counts as seeing every file of the tree, unless it says by
-x_reads which files its command reads, or the command is a known tool's: a change of
-any file starts it again. No failure is taken from the cache then. With --verbose
-the output of every hook is printed, and behind the report 'answered from the
-cache: N', how many commands weren't started for that.
+With --cautious a hook counts as seeing every file of the tree, so a change of any
+file starts its command again. This leaves out hooks that say by x_reads which files
+their command reads, and commands of known tools. No failure is then taken from the
+cache. With --verbose the output of every hook is printed, and after the report
+'answered from the cache: N', how many commands weren't started.
 
 Examples:
   hookhost run
@@ -176,15 +176,15 @@ Examples:
   13 Collision    other contents are kept under the same digest
                   this store can't keep these contents
   14 Spent        no more children can be counted
-                  run it again: each run counts anew"
+                  run it again: each run counts from 0"
 );
 
-/// Behind the help of `run-files`.
+/// At the end of the help of `run-files`.
 pub(crate) const RUN_FILES_HELP: &str = opening_help!(
     "\
-As hookhost run, whose help tells more, but on the named files alone. Each has to be
-staged; that it differs from the last commit isn't asked. With --only=ID just the
-hooks of this id or alias are run.
+Like hookhost run, whose help says more, but on the named files alone. Each has to
+be staged, but needn't differ from the last commit. With --only=ID just the hooks of
+this id or alias run.
 
 With --paths-from the paths are read from a file, or with - from standard input,
 each ended by a NUL byte, as git diff --name-only -z writes them.
@@ -208,31 +208,30 @@ Examples:
   13 Collision    other contents are kept under the same digest
                   this store can't keep these contents
   14 Spent        no more children can be counted
-                  run it again: each run counts anew
+                  run it again: each run counts from 0
 
 'hookhost: cannot use FILE' says that the file of paths is missing or can't be read:
 name one that can."
 );
 
-/// Behind the help of `fixes`.
+/// At the end of the help of `fixes`.
 pub(crate) const FIXES_HELP: &str = opening_help!(
     "\
-A line is M PATH for a staged file that would get other bytes, and D PATH for one
-that would be taken out, in the order of the paths. Nothing is printed where there
-are no fixes. They are forgotten once a file is staged or taken out, or a commit is
-made.
+Each line is M PATH for a staged file that would get other bytes, or D PATH for one
+that would be unstaged, in the order of the paths. Without fixes nothing is printed.
+They are dropped once a file is staged or unstaged, or a commit is made.
 
 Example:
   hookhost fixes",
     ""
 );
 
-/// Behind the help of `accept`.
+/// At the end of the help of `accept`.
 pub(crate) const ACCEPT_HELP: &str = opening_help!(
     "\
 Each staged file that hookhost fixes lists gets its other bytes and keeps its mode,
-or is taken out. Then the fixes are forgotten. The line is accepted: N, the number
-of the fixes. The folder's files aren't touched.
+or is unstaged. Then the fixes are dropped. The line accepted: N says how many there
+were. The files in the folder aren't touched.
 
 Example:
   hookhost accept",
@@ -241,22 +240,22 @@ Example:
                   hookhost fixes lists what could be accepted"
 );
 
-/// Behind the help of `commit`.
+/// At the end of the help of `commit`.
 pub(crate) const COMMIT_HELP: &str = opening_help!(
     "\
-The hooks of pre-commit are run as by hookhost run, then those of prepare-commit-msg
-and of commit-msg on the message, which they may change. Where one fails, nothing is
-committed, and what the hooks changed of staged files are the fixes. Else the staged
-files are committed with the message that is left, and the hooks of post-commit are
-run, whose outcome changes nothing. The reports are printed in this order, and then
-commit N, with the number of the commit.
+The hooks of pre-commit run as by hookhost run, then those of prepare-commit-msg and
+of commit-msg on the message, which they may change. If one fails, nothing is
+committed, and what the hooks changed of staged files are the fixes. Otherwise the
+staged files are committed with the message that is left. Then the hooks of
+post-commit run, whose outcome changes nothing. The reports are printed in this
+order, and then commit N, with the number of the commit.
 
-With --no-verify the hooks of pre-commit and commit-msg are left out. Those that
-SKIP of the environment names are skipped, as by hookhost run. Blanks at the ends of
-the message's lines go, and so do empty lines at its start and its end; of several
-empty lines one is left. Where the hooks of post-commit are stopped, standard error
-says why, and the commit stands. Where standard output takes no more, standard error
-says that too, and 'hookhost: commit N was made' of a commit that stands.
+With --no-verify the hooks of pre-commit and commit-msg are left out. Hooks that the
+variable SKIP names are skipped, as by hookhost run. Blanks at the ends of the
+message's lines are removed, and so are empty lines at its start and its end; of
+several empty lines one is left. If the hooks of post-commit are stopped, standard
+error says why, and the commit stays. If standard output takes no more, standard
+error says so, and after a commit also 'hookhost: commit N was made'.
 
 Example:
   hookhost commit -m 'Say hello'",
@@ -273,24 +272,24 @@ Example:
                   mend and stage it: hookhost explain says what is wrong
   10 NothingStaged the staged files are those of the last commit
                   stage a change, by hookhost add
-  12 EmptyMessage the message is empty, once hooks and blanks are done with
+  12 EmptyMessage the message is empty after its hooks and without its blanks
                   give one that has words
   13 Collision    other contents are kept under the same digest
                   this store can't keep these contents
   14 Spent        no more children can be counted
-                  run it again: each run counts anew"
+                  run it again: each run counts from 0"
 );
 
-/// Behind the help of `cat`.
+/// At the end of the help of `cat`.
 pub(crate) const CAT_HELP: &str = opening_help!(
     "\
-Nothing is added to the bytes. They are those that were staged, and the file in the
-folder may have others by now. With --fixed they are those that a hook gave to the
+Nothing is added to the bytes. They are those that were staged: the file in the
+folder may have changed since. With --fixed they are those that a hook gave to the
 file, which accept would stage, and with --commit those of a commit.
 
 Examples:
   hookhost cat README.md
-  hookhost cat --fixed README.md > README.md    take a fix over into the folder
+  hookhost cat --fixed README.md > README.md    copy a fix into the folder
   hookhost cat --commit=1 README.md",
     "
    3 BadPath N    PATH isn't allowed; docs/REFERENCE.md has the number N
@@ -304,17 +303,17 @@ fixes. 'hookhost: no commit N' says that no commit has that number, and
 lists its files."
 );
 
-/// Behind the help of `log`.
+/// At the end of the help of `log`.
 pub(crate) const LOG_HELP: &str = opening_help!(
     "\
-A line is a commit's number and the first line of its message.
+Each line is a commit's number and the first line of its message.
 
 Example:
   hookhost log",
     ""
 );
 
-/// Behind the help of `show`.
+/// At the end of the help of `show`.
 pub(crate) const SHOW_HELP: &str = opening_help!(
     "\
 The message is followed by an empty line and the paths of the commit's files, one a
@@ -328,22 +327,22 @@ Example:
 them."
 );
 
-/// Behind the help of `memory`, which refuses nothing without a limit once the store is open.
+/// At the end of the help of `memory`, which refuses nothing without a limit once the store is open.
 pub(crate) const MEMORY_HELP: &str = opening_help!(
     "\
-The line is remembered: N, the number of the answers.
+The line remembered: N says how many results are cached.
 
-What the command of a hook answered is remembered in the repository, for its words
-and the files that it has seen: where both are the same, a later run or commit takes
-the answer from there. What else the command looked at, of which docs/REFERENCE.md
-has a table, isn't known. Once that has changed, as with another version of a tool,
-hookhost run --fresh starts every command again, prints unsteady: ID of each hook
-whose answers differ, and puts the new answers in place of the old ones.
+The result of a hook's command is cached in the repository, for its words and the
+files that it has seen. If both are the same, a later run or commit takes the result
+from there. What else the command looked at isn't known; docs/REFERENCE.md has a
+table of it. Once that has changed, as with another version of a tool, use
+hookhost run --fresh. It starts every command again, prints unsteady: ID for each
+hook whose results differ, and caches the new results in place of the old ones.
 
-At most 10,000 answers are remembered, or as many as --limit has set, from 1 to
-100000. Where one more comes, the one goes that no run and no commit has used for
-longest. With --limit=N those beyond N go at once, and the line is remembered: N for
-those that are left. Without it the command itself refuses nothing.
+At most 10,000 results are kept, or as many as --limit has set, from 1 to 100000. If
+one more comes, the one that no run and no commit has used for longest is dropped.
+With --limit=N those beyond N are dropped at once, and the line remembered: N says
+how many are left. Without it the command itself refuses nothing.
 
 Examples:
   hookhost memory
@@ -351,17 +350,17 @@ Examples:
     ""
 );
 
-/// Behind the help of `forget`.
+/// At the end of the help of `forget`.
 pub(crate) const FORGET_HELP: &str = opening_help!(
     "\
-All remembered answers are taken out of the repository, and each command is started
-again once a run or a commit needs it. The line is forgotten: N, how many answers
-there were. The limit that hookhost memory --limit has set stays. hookhost memory
---help says what is remembered.
+All cached results are dropped, and each command is started again once a run or a
+commit needs it. The line forgotten: N says how many results there were. The limit
+that hookhost memory --limit has set stays. hookhost memory --help says what is
+cached.
 
 The commits, the staged files and the fixes stay as they were. So do the contents
-that the answers name: .hookhost/store.db gets no smaller. To start the commands of
-one run again, and to see whose answers differ, take hookhost run --fresh instead.
+that the results name: .hookhost/store.db gets no smaller. To start the commands of
+one run again, and to see whose results differ, use hookhost run --fresh instead.
 
 Example:
   hookhost forget",

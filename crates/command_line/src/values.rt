@@ -31,7 +31,7 @@ fn word_of<'a>(values: &ArgMatches<'a>, id: &str) -> &'a str
     values.get_str(id).unwrap_or("")
 }
 
-/// A value of one word, or `None` where it was left out.
+/// A value of one word, or `None` if it was left out.
 pub(crate) fn maybe_text_of(
     alloc: Global,
     values: &ArgMatches<'_>,
@@ -76,7 +76,7 @@ fn copied(alloc: Global, texts: &[&str]) -> Result<Vec<Text>, AllocError>
     Ok(copies)
 }
 
-/// The mode that `--chmod` asks for. Another value than `+x` is an error.
+/// The mode that `--chmod` asks for. A value other than `+x` is an error.
 pub(crate) fn mode_of(alloc: Global, values: &ArgMatches<'_>) -> Result<Option<Mode>, Error>
     ensures { IsValueOf (mode_in (first_of (codes "chmod") (rows_of (found_of values.now)))) result }
 {
@@ -87,8 +87,8 @@ pub(crate) fn mode_of(alloc: Global, values: &ArgMatches<'_>) -> Result<Option<M
     }
 }
 
-/// The stage that `--hook-stage` asks for. Another value than `pre-commit` and `manual` is an error, with the usage of the
-/// command of this name.
+/// The stage that `--hook-stage` asks for. A value other than `pre-commit` and `manual` is an error, with the
+/// usage of the command of this name.
 pub(crate) fn stage_of(
     alloc: Global,
     command: &str,
@@ -104,8 +104,8 @@ pub(crate) fn stage_of(
     }
 }
 
-/// When the report has colors, as `--color` asks for it. Another value than `auto`, `always` and `never` is an error, with the usage
-/// of the command of this name.
+/// When the report has colors, as `--color` asks for it. A value other than `auto`, `always` and `never` is
+/// an error, with the usage of the command of this name.
 pub(crate) fn color_of(
     alloc: Global,
     command: &str,
@@ -122,7 +122,7 @@ pub(crate) fn color_of(
     }
 }
 
-/// The number of `show`. Another text is an error.
+/// The number of `show`. A text that is no number of 32 bits is an error.
 pub(crate) fn number_of(alloc: Global, values: &ArgMatches<'_>) -> Result<u32, Error>
     ensures { IsValueOf (number_in (word_in (codes "N") (rows_of (found_of values.now)))) result }
 {
@@ -133,7 +133,8 @@ pub(crate) fn number_of(alloc: Global, values: &ArgMatches<'_>) -> Result<u32, E
     }
 }
 
-/// The bytes that `--fixed` or `--commit` asks for. Both beside one another are an error, and so is a commit that is no number.
+/// The bytes that `--fixed` or `--commit` asks for. Both together are an error, and so is a commit that is no
+/// number of 32 bits.
 pub(crate) fn version_of(alloc: Global, values: &ArgMatches<'_>) -> Result<FileVersion, Error>
     ensures { IsValueOf (version_in (flag_in (codes "fixed") (rows_of (found_of values.now))) (first_of (codes "commit") (rows_of (found_of values.now)))) result }
 {
@@ -146,7 +147,7 @@ pub(crate) fn version_of(alloc: Global, values: &ArgMatches<'_>) -> Result<FileV
     }
 }
 
-// The commit of this number.
+// The commit with the number that the text writes.
 fn commit_of(alloc: Global, text: &str) -> Result<FileVersion, Error>
     ensures { IsValueOf (version_in false (Some text.now)) result }
 {
@@ -156,8 +157,8 @@ fn commit_of(alloc: Global, text: &str) -> Result<FileVersion, Error>
     }
 }
 
-/// The number that `--limit` asks for, or `None` where nothing is asked for. Another text than a number from 1 to 100,000 is an
-/// error.
+/// The number that `--limit` asks for, or `None` if it is left out. A text that is no number from 1 to
+/// 100,000 is an error.
 pub(crate) fn limit_of(alloc: Global, values: &ArgMatches<'_>) -> Result<Option<AnswerLimit>, Error>
     ensures { IsValueOf (limit_in (first_of (codes "limit") (rows_of (found_of values.now)))) result }
 {
@@ -167,7 +168,7 @@ pub(crate) fn limit_of(alloc: Global, values: &ArgMatches<'_>) -> Result<Option<
     }
 }
 
-// The limit that a text tells.
+// The limit that the text writes.
 fn limit_from(alloc: Global, text: &str) -> Result<Option<AnswerLimit>, Error>
     ensures { IsValueOf (limit_in (Some text.now)) result }
 {
@@ -289,7 +290,7 @@ fn versions_error(alloc: Global, text: &str) -> Error
 }
 
 fn versions_message(alloc: Global, text: &str) -> Result<String, AllocError> {
-    format!(in alloc; "invalid value '{text}' for '--commit <N>': it can't stand beside --fixed")
+    format!(in alloc; "invalid value '{text}' for '--commit <N>': it can't be used with --fixed")
 }
 
 /// The error of a value that the command doesn't take, with its usage.

@@ -1,4 +1,4 @@
--- The reply that a call's answer is, and which replies say that the command was done.
+-- The reply for the answer of a call, and which replies say that the command was done.
 use Rattle.std.specs.Prelude.{Result, Ok, Err}
 use Rattle.commit_flow.specs.declared.commit_ending.CommitEnding.{CommitEnding}
 use Rattle.commit_flow.specs.declared.commit_ending.CommitEnding.TheVariants as ending
@@ -6,12 +6,12 @@ use Rattle.commit_flow.specs.declared.host_refusal.HostRefusal.{HostRefusal}
 use Rattle.commit_flow.specs.declared.reply.Reply.{Reply}
 use Rattle.commit_flow.specs.declared.reply.Reply.TheVariants.{Added, Removed, Accepted, Ran, Committed, HooksFailed, Forgot, Refused}
 
--- the reply that a call's answer is
+-- the reply for the answer of a call
 abbrev pub reply_of : {A : Type 0} → (A → Reply) → Result A HostRefusal → Reply
 reply_of done (Ok answer) = done answer
 reply_of done (Err refusal) = Refused refusal
 
--- the reply that a commit's ending is
+-- the reply for the ending of a commit
 abbrev pub reply_of_ending : CommitEnding → Reply
 reply_of_ending (ending.Committed number reports post) = Committed number reports post
 reply_of_ending (ending.HooksFailed stage reports) = HooksFailed stage reports

@@ -1,4 +1,4 @@
--- What the calls within a commit do. Serves private functions alone.
+-- What the calls within a commit do. Used only by private functions.
 use Rattle.std.specs.Prelude.{◌≡◌, ◌≢◌, ◌⊎◌, ◌-◌, ◌^◌, ◌≤◌, ℕ, Bool, List, [], length, Result, OnOk}
 use Rattle.sqlite_trees.specs.declared.store.Store.{Ghosts}
 use Rattle.sqlite.specs.Held.{state}
@@ -45,7 +45,7 @@ use Rattle.commit_flow.specs.CommitSteps.{IsUnkept}
 
 -- ---- one run
 
--- the hooks of a stage were stopped, over remembered answers that refuse so
+-- the hooks of a stage were stopped; the book may refuse with these faults
 pub record IsRunStopped (refuses : BookFault → Type 0) (tells : List (List ℕ) → List File → Outcome → Type 0) (from to : Moment) (config : Config) (ask : RunAsk) (tree : List File) (refusal : RunRefusal) : Type 0 where
   pub parts : List Part
   pub answered : AreAnsweredSoFar tells reuse.All from to parts
@@ -58,15 +58,15 @@ pub record IsRunStopped (refuses : BookFault → Type 0) (tells : List (List ℕ
 
 -- ---- the stages
 
--- what stops the hooks of a stage, over remembered answers that refuse so
+-- what stops the hooks of a stage; the book may refuse with these faults
 pub record IsHalt (refuses : BookFault → Type 0) (refusal : HostRefusal) : Type 0 where
   pub inner : RunRefusal
   pub not_named : inner ≢ run.NoSuchHook
   pub of_book : IsOfBook refuses inner
   pub is : refusal ≡ of_run inner
 
--- the hooks were stopped, and begin with the parts that were answered by then; where the children are spent, there is a further
--- one
+-- The hooks were stopped, and begin with the parts that were answered by then. If the children are spent,
+-- there is a further part.
 pub record IsHalted (refuses : BookFault → Type 0) (tells : List (List ℕ) → List File → Outcome → Type 0) (from to : Moment) (begins further : List Part → Type 0) (refusal : HostRefusal) : Type 0 where
   pub parts : List Part
   pub answered : AreAnsweredSoFar tells reuse.All from to parts
@@ -86,7 +86,7 @@ pub record IsStageOver (tells : List (List ℕ) → List File → Outcome → Ty
   pub reported : end.report ≡ told.out.report
   pub left : end.course ≡ course_after stage course told.out.tree
 
--- stages were run in this way, and reported so
+-- stages were run in this way, with these reports
 pub record AreStagesOver (tells : List (List ℕ) → List File → Outcome → Type 0) (from to : Moment)
     (reports : List (List ℕ)) (ran : List StageTold → Type 0) : Type 0 where
   pub told : List StageTold
@@ -126,7 +126,7 @@ pub record IsThrough (tells : List (List ℕ) → List File → Outcome → Type
   pub configured : IsConfigured repo through.config
   pub run : AreRunOver tells from to through.config (changed_paths repo) skip (stages_before_commit no_verify) (course_of repo message) through.end
 
--- the hooks of a commit were stopped that had begun
+-- the hooks of a commit had begun, and were stopped
 pub record IsStoppedIn (tells : List (List ℕ) → List File → Outcome → Type 0) (from to : Moment) (repo : Repository) (message : List ℕ) (no_verify : Bool) (skip : List (List ℕ)) (refusal : HostRefusal) : Type 0 where
   pub committable : IsCommittable repo message
   pub config : Config
@@ -134,7 +134,7 @@ pub record IsStoppedIn (tells : List (List ℕ) → List File → Outcome → Ty
   pub halted : IsHalted RefusesAnswers tells from to (HaveBegun config (changed_paths repo) skip (stages_before_commit no_verify) (course_of repo message))
       (HaveFurther to.remembered config (changed_paths repo) skip (stages_before_commit no_verify) (course_of repo message)) refusal
 
--- nothing was looked up and no child started, and the commit isn't begun
+-- nothing was looked up, no child was started, and the commit isn't begun
 pub record IsNotBegun (from to : Moment) (repo : Repository) (message : List ℕ) (refusal : HostRefusal) : Type 0 where
   pub unmade : to ≡ from
   pub unbegun : IsUnbegun repo message refusal
@@ -154,29 +154,29 @@ IsUncommitted repo cleaned (Store fault) = IsOfFixes fault × IsUnkept repo faul
 IsUncommitted repo cleaned OutOfMemory = Unit {0}
 IsUncommitted repo cleaned refusal = ⊥
 
--- why these fixes aren't set, beside these contents
+-- why these fixes aren't set if these contents are kept
 abbrev pub IsUnfixed : List (List ℕ) → List Change → HostRefusal → Type 0
 IsUnfixed contents fixes (Store fault) = IsOfFixes fault × IsUnset fault fixes
 IsUnfixed contents fixes Collision = FixCollides fixes contents
 IsUnfixed contents fixes OutOfMemory = Unit {0}
 IsUnfixed contents fixes refusal = ⊥
 
--- a call asks the store for this one change at most
+-- a call asks the store for at most this one change
 pub record IsOneChange {S A : Type 0} (g : Ghosts S) (old new : Shown S) (result : Result A HostRefusal) (after : Kept) : Type 0 where
   pub stands : Stands g old.conn old.kept → Stands g new.conn new.kept
   pub crash : Survives (state g old.conn) (state g new.conn) (Leaves after)
   pub durable : OnOk result (LeavesOnly g new.conn new.kept)
 
--- ---- behind the commit
+-- ---- after the commit (githooks(5), "post-commit")
 
--- the hooks behind a commit were run on the staged files, and this is reported
+-- the hooks after a commit were run on the staged files, and this is reported
 pub record IsPostTold (tells : List (List ℕ) → List File → Outcome → Type 0) (from to : Moment) (config : Config) (staged : List File) (skip : List (List ℕ)) (report : List ℕ) : Type 0 where
   pub told : StageTold
   pub run : IsStageTold config [] skip stage.PostCommit (record { tree = staged; message = [] }) told
   pub answered : AreAnswered tells reuse.All from to (all_parts told.trace)
   pub reported : report ≡ told.out.report
 
--- what became of the hooks behind a commit
+-- what became of the hooks after a commit
 abbrev pub IsPostOver : (List (List ℕ) → List File → Outcome → Type 0) → Moment → Moment → Config → List File → List (List ℕ) → PostCommit → Type 0
 IsPostOver tells from to config staged skip (Told report) = IsPostTold tells from to config staged skip report
 IsPostOver tells from to config staged skip (Stopped refusal) =

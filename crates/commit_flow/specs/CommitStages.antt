@@ -1,5 +1,5 @@
--- The stages of a commit (githooks(5)): what the hooks of each get, and how the tree and the message pass from one stage on
--- to the next. The message is a file of the tree in the two stages that are about it.
+-- The stages of a commit (githooks(5)): what the hooks of each get, and how the tree and the message pass
+-- from one stage to the next. In the two stages about the message, it is a file of the tree.
 use Rattle.std.specs.Prelude.{◌≡◌, ℕ, Bool, true, false, MatchBool, if◌then◌else◌, List, [], ◌∷◌, ◌++◌, None, option_map, unwrap_or}
 use Rattle.hook_base.specs.declared.file.File.{File}
 use Rattle.hook_base.specs.declared.file.FileEntry.{FileEntry}
@@ -19,7 +19,8 @@ use Rattle.repo_store.specs.Repository.{Repository}
 use Rattle.commit_flow.specs.declared.course.Course.{Course}
 use Rattle.commit_flow.specs.Messages.{begun_message}
 
--- the stages before the commit, in order: unverified, only that which prepares the message
+-- The stages before the commit, in order. `prepare-commit-msg` isn't suppressed by `--no-verify`, and the
+-- other two are (githooks(5), "prepare-commit-msg"; git-commit(1), "--no-verify").
 abbrev pub stages_before_commit : Bool → List Stage
 stages_before_commit no_verify = if no_verify then PrepareCommitMsg ∷ [] else PreCommit ∷ PrepareCommitMsg ∷ CommitMsg ∷ []
 
@@ -30,24 +31,26 @@ message_entry message = record { mode = Plain; bytes = message }
 abbrev pub with_message_file : Course → List File
 with_message_file course = put_file message_path (message_entry course.message) course.tree
 
--- the tree that the hooks of a stage begin on
+-- the tree on which the hooks of a stage begin; hooks about the message find it in a file (githooks(5),
+-- "commit-msg")
 abbrev pub tree_in : Stage → Course → List File
 tree_in PrepareCommitMsg course = with_message_file course
 tree_in CommitMsg course = with_message_file course
 tree_in stage course = course.tree
 
--- the files that the hooks of a stage may get, where these are staged and not committed so
+-- the files that the hooks of a stage may get, if these are staged and differ from the last commit
+-- (`pre_commit.commands.run._all_filenames`)
 abbrev pub candidates_in : List (List ℕ) → Stage → List (List ℕ)
 candidates_in changed PreCommit = changed
 candidates_in changed PrepareCommitMsg = message_path ∷ []
 candidates_in changed CommitMsg = message_path ∷ []
 candidates_in changed stage = []
 
--- the bytes of the message in a tree; where a hook deleted it, it is empty
+-- the bytes of the message in a tree; if a hook deleted it, it is empty
 abbrev pub message_in : List File → List ℕ
 message_in tree = unwrap_or (option_map (λ (entry : FileEntry). entry.bytes) (entry_of message_path tree)) []
 
--- the message is taken out of the files
+-- the files without that of the message, and the message
 abbrev pub without_message_file : List File → Course
 without_message_file tree = record { tree = remove_file message_path tree; message = message_in tree }
 
@@ -60,7 +63,7 @@ course_after stage course tree = record { tree = tree; message = course.message 
 abbrev pub ask_in : List (List ℕ) → List (List ℕ) → Stage → RunAsk
 ask_in changed skip stage = record { stage = stage; candidates = candidates_in changed stage; only = None; skip = skip; reuse = reuse.All }
 
--- a run of a stage: the parts of each of its hooks, and what it gave
+-- a run of a stage: the parts of each of its hooks, and what the run gave
 pub record StageTold : Type 0 where
   pub trace : List (List Part)
   pub out : RunOut
@@ -68,7 +71,8 @@ pub record StageTold : Type 0 where
 abbrev pub IsStageTold : Config → List (List ℕ) → List (List ℕ) → Stage → Course → StageTold → Type 0
 IsStageTold config changed skip stage course told = IsRunOut config (ask_in changed skip stage) (tree_in stage course) told.trace told.out
 
--- the stages were run in order, each on what the one before it passed on; each passed, and the last passes this on
+-- The stages were run in order, each on what the one before it passed on. Each passed, and the last passes
+-- this on.
 abbrev pub HavePassed : Config → List (List ℕ) → List (List ℕ) → List Stage → Course → List StageTold → Course → Type 0
 HavePassed config changed skip [] course [] last = last ≡ course
 HavePassed config changed skip (stage ∷ stages) course (told ∷ more) last =
@@ -77,7 +81,7 @@ HavePassed config changed skip (stage ∷ stages) course (told ∷ more) last =
     × HavePassed config changed skip stages (course_after stage course told.out.tree) more last
 HavePassed config changed skip _ course _ last = ⊥
 
--- the stages were run in order up to this one, in which a hook failed, and which leaves this
+-- the stages were run in order up to this one, which leaves this and in which a hook failed
 abbrev pub FailedAt : Config → List (List ℕ) → List (List ℕ) → List Stage → Course → List StageTold → Stage → Course → Type 0
 FailedAt config changed skip (stage ∷ stages) course (told ∷ more) failed last =
     IsStageTold config changed skip stage course told
@@ -86,8 +90,8 @@ FailedAt config changed skip (stage ∷ stages) course (told ∷ more) failed la
     ((more ≡ []) × (failed ≡ stage) × (last ≡ course_after stage course told.out.tree))
 FailedAt config changed skip _ course _ failed last = ⊥
 
--- the stages were run in order up to this one, and each before it passed; and `IsSo` of what is asked in it, of the tree that
--- its hooks begin on, and of these parts of its own
+-- The stages were run in order up to this one, and each before it passed. `IsSo` holds for what is asked in
+-- this stage, the tree on which its hooks begin, and these parts of its own.
 abbrev pub HaveComeTo : (RunAsk → List File → List Part → Type 0) → Config → List (List ℕ) → List (List ℕ) → List Stage → Course → List StageTold → List Part → Type 0
 HaveComeTo IsSo config changed skip (stage ∷ stages) course [] own = IsSo (ask_in changed skip stage) (tree_in stage course) own
 HaveComeTo IsSo config changed skip (stage ∷ stages) course (told ∷ more) own =
@@ -108,7 +112,8 @@ abbrev pub reports_of : List StageTold → List (List ℕ)
 reports_of [] = []
 reports_of (told ∷ more) = told.out.report ∷ reports_of more
 
--- The stages came so far with these parts: those of the stages that passed, and those of the next one, of which `IsSo`.
+-- These are the parts of the stages so far: those of the stages that passed, and those of the next one, for
+-- which `IsSo` holds.
 pub record HaveComeSoFar (IsSo : RunAsk → List File → List Part → Type 0) (config : Config) (changed skip : List (List ℕ)) (stages : List Stage) (course : Course) (parts : List Part) : Type 0 where
   pub told : List StageTold
   pub own : List Part
@@ -119,6 +124,6 @@ pub record HaveComeSoFar (IsSo : RunAsk → List File → List Part → Type 0) 
 abbrev pub HaveBegun : Config → List (List ℕ) → List (List ℕ) → List Stage → Course → List Part → Type 0
 HaveBegun config changed skip stages course parts = HaveComeSoFar (IsBegun config) config changed skip stages course parts
 
--- they have a further part behind these, and it needs a child
+-- the stages have a further part after these, and it needs a child
 abbrev pub HaveFurther : Contents → Config → List (List ℕ) → List (List ℕ) → List Stage → Course → List Part → Type 0
 HaveFurther remembered config changed skip stages course parts = HaveComeSoFar (NeedsChild remembered config) config changed skip stages course parts

@@ -1,4 +1,4 @@
--- How a commit stands to what its hooks were answered, and how far one came that is refused.
+-- A commit together with what its hooks were answered, and how far one came that is refused.
 use Rattle.std.specs.Prelude.{◌≡◌, ◌⊎◌, ◌-◌, ◌^◌, ℕ, Bool, List, [], ◌++◌}
 use Rattle.hook_base.specs.declared.change.Change.{Change}
 use Rattle.hook_base.specs.declared.file.File.{File}
@@ -33,8 +33,8 @@ use Rattle.commit_flow.specs.Runs.{changed_paths}
 use Rattle.commit_flow.specs.RunSteps.{IsUnrun, IsUnset}
 use Rattle.commit_flow.specs.Steps.{Step}
 
--- A hook failed in a stage before the commit, with these parts of the stages up to it, and what they did to the staged files
--- can't be the fixes for this reason.
+-- A hook failed in a stage before the commit, with these parts of the stages up to it. What they did to the
+-- staged files can't be the fixes for this reason.
 pub record HasFailedBut (before : Repository) (message : List ℕ) (no_verify : Bool) (skip : List (List ℕ)) (parts : List Part) (reason : List Change → Type 0) : Type 0 where
   pub config : Config
   pub told : List StageTold
@@ -45,7 +45,8 @@ pub record HasFailedBut (before : Repository) (message : List ℕ) (no_verify : 
   pub traced : parts ≡ parts_of told
   pub why : reason (changes_between before.staged last.tree)
 
--- the store refuses the commit so: its cleaned message is too large, or the database refuses one that may be committed
+-- the store refuses the commit with this fault: its cleaned message is too large, or it may be committed and
+-- the database refuses
 abbrev pub IsUnkept : Repository → StoreFault → List ℕ → Type 0
 IsUnkept before TooLarge cleaned = ¬ IsSmall cleaned
 IsUnkept before (Sql error) cleaned = MayCommit before cleaned
@@ -57,34 +58,36 @@ pub record HasBegunBefore (before : Repository) (message : List ℕ) (no_verify 
   pub configured : IsConfigured before config
   pub begun : HaveBegun config (changed_paths before) skip (stages_before_commit no_verify) (course_of before message) parts
 
--- they have a further part behind these, and it needs a child
+-- they have a further part after these, and it needs a child
 pub record HasFurtherBefore (before : Repository) (message : List ℕ) (no_verify : Bool) (skip : List (List ℕ)) (remembered : Contents) (parts : List Part) : Type 0 where
   pub config : Config
   pub configured : IsConfigured before config
   pub further : HaveFurther remembered config (changed_paths before) skip (stages_before_commit no_verify) (course_of before message) parts
 
--- the hooks behind the commit begin with these parts
+-- the hooks after the commit begin with these parts
 pub record HasBegunBehind (before : Repository) (skip : List (List ℕ)) (parts : List Part) : Type 0 where
   pub config : Config
   pub configured : IsConfigured before config
   pub begun : IsBegun config (ask_in (changed_paths before) skip stage.PostCommit) before.staged parts
 
--- they have a further part behind these, and it needs a child
+-- they have a further part after these, and it needs a child
 pub record HasFurtherBehind (before : Repository) (skip : List (List ℕ)) (remembered : Contents) (parts : List Part) : Type 0 where
   pub config : Config
   pub configured : IsConfigured before config
   pub needs : NeedsChild remembered config (ask_in (changed_paths before) skip stage.PostCommit) before.staged parts
 
--- A commit was stopped by the store between two moments, with these parts of its stages: behind the last of them, each answered,
--- for what these had done; or in the middle, by what is remembered of their answers.
+-- A commit was stopped by the store between two moments, with these parts of its stages. Either all of them
+-- were answered, and it was stopped after the last for what they had done. Or it was stopped in the middle,
+-- by what is cached of their answers.
 abbrev pub StoreStopsCommit : (List (List ℕ) → List File → Outcome → Type 0) → Moment → Moment → Repository → List ℕ → Bool → List (List ℕ) → List Part → Type 0 → Type 0
 StoreStopsCommit tells from to before message no_verify skip parts behind =
     (behind × AreAnswered tells reuse.All from to parts) ⊎ HasBegunBefore before message no_verify skip parts
 
--- The parts that the reply leaves out, between two moments. Where memory is refused, nothing was run, or the stages begin with
--- them. Where children are spent, they are those before the one that is needed. Where the store refuses, the stages begin with
--- them, and they are all of those that were run where it refuses behind these; contents that collide do so with those that are
--- kept by then. The hooks behind a commit begin with them where they were stopped. Else there are none.
+-- The parts that the reply leaves out, between two moments. If memory is refused, nothing was run, or the
+-- stages begin with them. If the children are spent, they are those before the one that is needed. If the
+-- store refuses, the stages begin with them; if it refuses after the hooks, they are all parts that were run.
+-- Contents that collide do so with those that are kept by then. If the hooks after a commit were stopped,
+-- these hooks begin with them. Otherwise there are none.
 abbrev pub AreLeftOut : (List (List ℕ) → List File → Outcome → Type 0) → Moment → Moment → Repository → List ℕ → Bool → List (List ℕ) → List Part → List (List ℕ) → Reply → Type 0
 AreLeftOut tells from to before message no_verify skip parts contents (Refused OutOfMemory) = IsUnrun from to parts ⊎ HasBegunBefore before message no_verify skip parts
 AreLeftOut tells from to before message no_verify skip parts contents (Refused Spent) = HasFurtherBefore before message no_verify skip to.remembered parts
@@ -103,8 +106,8 @@ SaysSpent (Refused Spent) = Unit {0}
 SaysSpent (Committed number reports (Stopped run.Spent)) = Unit {0}
 SaysSpent reply = ⊥
 
--- The reply stands on all that its hooks were answered: none was stopped, and neither memory, nor the store, nor other contents
--- under the same digest refused what they had done or what was remembered of them.
+-- The reply rests on all that its hooks were answered. None of them was stopped. Neither memory, nor the
+-- store, nor other contents under the same digest refused what they had done or what was cached of them.
 abbrev pub StandsOnAll : Reply → Type 0
 StandsOnAll (Refused OutOfMemory) = ⊥
 StandsOnAll (Refused (Store fault)) = ⊥
@@ -113,10 +116,11 @@ StandsOnAll (Refused Spent) = ⊥
 StandsOnAll (Committed number reports (Stopped refusal)) = ⊥
 StandsOnAll reply = Unit {0}
 
--- The commit is a step of the machine between two moments: its parts were answered, and then, from the moment between, some
--- that the reply leaves out. The reply says that the children are spent only where they have told as many outcomes as can be
--- counted, and then what they told is put, as `Starts` says. Where each answer that was remembered before is one that they may
--- tell, so is each outcome; and each that is remembered afterwards was so before, or was told.
+-- The commit is a step of the machine between two moments. Its parts were answered, and after them, from the
+-- moment `between`, some that the reply leaves out. The reply says that the children are spent only if they
+-- have reported as many outcomes as can be counted, 2^64 - 1. Then what they reported is put, as `Starts`
+-- says. If the children may report each result that was cached before, they may report each outcome. Each
+-- result that is cached afterwards was cached before, or was reported.
 pub record IsCommitStep (tells : List (List ℕ) → List File → Outcome → Type 0) (from to : Moment)
     (before : Repository) (message : List ℕ) (no_verify : Bool) (skip : List (List ℕ)) (reply : Reply) (after : Kept) : Type 0 where
   pub parts : List Part

@@ -21,16 +21,17 @@ use Rattle.commit_flow.specs.Messages.{cleaned_message}
 use Rattle.commit_flow.specs.RunRefusals.{IsStop}
 use Rattle.commit_flow.specs.Runs.{changed_paths, fixing}
 
--- the staged files are those of the last commit, or none before the first
+-- the staged files are those of the last commit, or there are none before the first (git-commit(1),
+-- "--allow-empty")
 abbrev pub HasNothingNew : Repository → Type 0
 HasNothingNew repo = repo.staged ≡ last_tree repo.history
 
--- a commit that may be begun, by its message and what is staged
+-- a commit may be begun with this message and what is staged
 pub record IsCommittable (before : Repository) (message : List ℕ) : Type 0 where
   pub small : IsSmall message
   pub new : ¬ HasNothingNew before
 
--- a cleaned message that may be committed
+-- a cleaned message may be committed; an empty one may not (git-commit(1), "--allow-empty-message")
 pub record MayCommit (before : Repository) (cleaned : List ℕ) : Type 0 where
   pub some : cleaned ≢ []
   pub small : IsSmall cleaned
@@ -44,15 +45,17 @@ pub record IsVerified (before : Repository) (message : List ℕ) (no_verify : Bo
   pub passed : HavePassed config (changed_paths before) skip (stages_before_commit no_verify) (course_of before message) told left
   pub message_left : last ≡ left.message
 
--- the hooks behind the commit ran on the committed files, without any to get, and this is reported; or their run was stopped
--- for want of memory or of a number for a child, or by the store, and what they were answered by then isn't among the parts
+-- The hooks after the commit ran on the committed files, got no names, and have this report. Or their run was
+-- stopped for lack of memory, because no more children can be counted, or by the store. Then the parts don't
+-- include what they were answered by then.
 abbrev pub IsPost : Config → Repository → List (List ℕ) → PostCommit → List Part → Type 0
 IsPost config before skip (Told report) parts =
     (told : StageTold) × IsStageTold config (changed_paths before) skip stage.PostCommit (record { tree = before.staged; message = [] }) told
     × (report ≡ told.out.report) × (parts ≡ all_parts told.trace)
 IsPost config before skip (Stopped refusal) parts = (refusal ≢ NoSuchHook) × IsOfBook RefusesAnswers refusal × (parts ≡ [])
 
--- A commit was made of the staged files and the cleaned message. What the hooks behind it do to files is dropped.
+-- A commit was made of the staged files and the cleaned message. What the hooks after it do to files is
+-- dropped.
 pub record IsCommitted (before : Repository) (message : List ℕ) (no_verify : Bool) (skip : List (List ℕ)) (number : ℕ) (reports : List (List ℕ)) (post : PostCommit) (parts : List Part) (after : Repository) : Type 0 where
   pub config : Config
   pub told : List StageTold
@@ -68,7 +71,8 @@ pub record IsCommitted (before : Repository) (message : List ℕ) (no_verify : B
   pub traced : parts ≡ parts_of told ++ post_parts
   pub made : after ≡ with_new_commit (cleaned_message last) before
 
--- A hook failed in a stage before the commit. What the stages did to the staged files, the message aside, are the fixes.
+-- A hook failed in a stage before the commit. The fixes are what the stages did to the staged files, without
+-- the message.
 pub record HaveHooksFailed (before : Repository) (message : List ℕ) (no_verify : Bool) (skip : List (List ℕ)) (failed : Stage) (reports : List (List ℕ)) (parts : List Part) (after : Repository) : Type 0 where
   pub config : Config
   pub told : List StageTold
@@ -89,9 +93,10 @@ pub record IsVerifiedBut (before : Repository) (message : List ℕ) (no_verify :
   pub traced : parts ≡ parts_of told
   pub why : reason (cleaned_message last)
 
--- Why a commit is refused, in this order: its message is too large, nothing is staged that isn't committed, no configuration
--- is staged, it can't be read; then what stops hooks; then the cleaned message is empty, too large for the store, or there are
--- too many commits. Want of memory comes once the message and what is staged may be committed.
+-- Why a commit is refused, in this order. Before hooks: its message is too large, nothing is staged that
+-- isn't committed, no configuration is staged, it can't be read. Then comes what stops hooks. After hooks:
+-- the cleaned message is empty or too large for the store, or there are too many commits. Lack of memory
+-- comes only if the message and what is staged may be committed.
 abbrev pub IsCommitRefusal : Repository → List ℕ → Bool → List (List ℕ) → List Part → HostRefusal → Type 0
 IsCommitRefusal before message no_verify skip parts TooLarge = (¬ IsSmall message) × (parts ≡ [])
 IsCommitRefusal before message no_verify skip parts NothingStaged = IsSmall message × HasNothingNew before × (parts ≡ [])

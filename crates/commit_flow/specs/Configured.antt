@@ -31,13 +31,14 @@ pub record IsConfigured (repo : Repository) (config : Config) : Type 0 where
   pub staged : HasConfigBytes repo bytes
   pub meant : configuration_of bytes ≡ Some config
 
--- this is what the options of a run make of the staged configuration
+-- this is the staged configuration, changed by the options of a run
 pub record IsConfiguredFor (options : RunOptions) (repo : Repository) (config : Config) : Type 0 where
   pub read : Config
   pub configured : IsConfigured repo read
   pub made : config ≡ with_options options read
 
--- The staged configuration can't be read, or holds a pattern that `regex` refuses. Want of memory is the host's own refusal.
+-- The staged configuration can't be read, or holds a pattern that `regex` refuses. Lack of memory is a
+-- refusal of the host itself.
 pub record IsMisconfigured (repo : Repository) (fault : ConfigFault) : Type 0 where
   pub bytes : List ℕ
   pub staged : HasConfigBytes repo bytes

@@ -1,4 +1,5 @@
--- What runs and commits make of what is kept. Their hooks may have answers remembered before, and contents kept for these.
+-- What runs and commits make of what is kept. Their hooks may cache answers before, and keep contents for
+-- these.
 use Rattle.std.specs.Prelude.{◌≡◌, ℕ, List, Result, Ok, Err}
 use Rattle.hook_base.specs.declared.change.Change.{Change}
 use Rattle.repo_store.specs.Kept.{Kept, setting}
@@ -8,18 +9,19 @@ use Rattle.commit_flow.specs.declared.commit_ending.CommitEnding.TheVariants.{Co
 use Rattle.commit_flow.specs.declared.host_refusal.HostRefusal.{HostRefusal}
 use Rattle.commit_flow.specs.declared.staged_run.StagedRun.{StagedRun}
 
--- behind the hooks these fixes were set, and their contents kept
+-- after the hooks, these fixes were set and their contents kept
 pub record HasFixesSet (before after : Kept) (changes : List Change) : Type 0 where
   pub between : Kept
   pub same : between.repo ≡ before.repo
   pub made : after ≡ setting changes between
 
--- a run leaves the repository where it is refused, and else its changes are the fixes
+-- a refused run leaves the repository; after another run the fixes are its changes
 abbrev pub KeepsForRun : Kept → Kept → Result StagedRun HostRefusal → Type 0
 KeepsForRun before after (Err refusal) = after.repo ≡ before.repo
 KeepsForRun before after (Ok ran) = HasFixesSet before after ran.changes
 
--- a commit leaves the repository where it is refused, and else there is one more, with some message, or some changes are the fixes
+-- A refused commit leaves the repository. Otherwise there is one commit more, with some message, or some
+-- changes were set as the fixes.
 abbrev pub KeepsForCommit : Kept → Kept → Result CommitEnding HostRefusal → Type 0
 KeepsForCommit before after (Err refusal) = after.repo ≡ before.repo
 KeepsForCommit before after (Ok (Committed number reports post)) = (message : List ℕ) × (after.repo ≡ with_new_commit message before.repo)

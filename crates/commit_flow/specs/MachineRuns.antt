@@ -1,5 +1,5 @@
--- A run of the host as a machine: commands one after another, each a step on the repository that the one before it left. What is
--- remembered, and how often children are called, is no part of it.
+-- The host as a machine: commands one after another, each a step from the repository that the one before it
+-- left. What is cached, and how often children are called, is no part of it.
 use Rattle.std.specs.Prelude.{◌≡◌, List, [], ◌∷◌, ◌++◌}
 use Rattle.hook_run.specs.Parts.{Part}
 use Rattle.repo_store.specs.Repository.{Repository}
@@ -7,8 +7,8 @@ use Rattle.commit_flow.specs.declared.command.Command.{Command}
 use Rattle.commit_flow.specs.declared.reply.Reply.{Reply}
 use Rattle.commit_flow.specs.Steps.{Step}
 
--- A command is a step, which leaves a repository, and more steps are made from there. The parts are those of the step and then
--- those of what more is made.
+-- A command is a step to a repository, from which more steps are made. The parts are those of this step, then
+-- those of the others.
 pub record IsStepThen (before : Repository) (command : Command) (reply : Reply) (parts : List Part) (more : Repository → List Part → Type 0) : Type 0 where
   pub own : List Part
   pub between : Repository
@@ -17,7 +17,7 @@ pub record IsStepThen (before : Repository) (command : Command) (reply : Reply) 
   pub rest : more between further
   pub joined : parts ≡ own ++ further
 
--- The commands are made in order, and each has its reply. The parts are those of all steps, in order.
+-- The commands are done in order, and each has its reply. The parts are those of all steps, in order.
 abbrev pub IsMachineRun : Repository → List Command → List Reply → List Part → Repository → Type 0
 IsMachineRun before [] [] parts after = (parts ≡ []) × (after ≡ before)
 IsMachineRun before (command ∷ commands) (reply ∷ replies) parts after =

@@ -1,4 +1,4 @@
--- The message of a commit: what the hooks begin with, and what is left of it once it is cleaned (git-commit(1), the clean-up
+-- The message of a commit: what the hooks begin with, and how it is cleaned (git-commit(1), "--cleanup", mode
 -- `whitespace`).
 use Rattle.std.specs.Prelude.{ℕ, zero, suc, ◌==◌, Bool, true, false, ◌&&◌, ◌||◌, if◌then◌else◌, List, [], ◌∷◌, ◌++◌, drop, get_or, length, map}
 use Rattle.std.specs.List.{filter, flat_map, list_any, range_with_len, slice_split}
@@ -6,13 +6,13 @@ use Rattle.std.specs.List.{filter, flat_map, list_any, range_with_len, slice_spl
 abbrev pub is_line_feed : ℕ → Bool
 is_line_feed byte = byte == 10
 
--- there is a last byte, and it is no line feed
+-- there is a last byte, and it isn't a line feed
 abbrev pub lacks_line_end : List ℕ → Bool
 lacks_line_end [] = false
 lacks_line_end (byte ∷ []) = if is_line_feed byte then false else true
 lacks_line_end (byte ∷ next ∷ bytes) = lacks_line_end (next ∷ bytes)
 
--- what the hooks begin with: the message, ended by a line feed where it holds anything
+-- what the hooks begin with: the message, with a line feed at its end unless it is empty
 abbrev pub begun_message : List ℕ → List ℕ
 begun_message message = if lacks_line_end message then message ++ 10 ∷ [] else message
 
@@ -22,7 +22,7 @@ begun_message message = if lacks_line_end message then message ++ 10 ∷ [] else
 abbrev pub is_blank : ℕ → Bool
 is_blank byte = byte == 13 || byte == 9 || byte == 32
 
--- the byte before the rest, left out where it is a blank and nothing follows
+-- the byte and then the rest; a blank with nothing after it is left out
 abbrev pub before_rest : ℕ → List ℕ → List ℕ
 before_rest byte [] = if is_blank byte then [] else byte ∷ []
 before_rest byte (next ∷ rest) = byte ∷ next ∷ rest
@@ -32,7 +32,8 @@ abbrev pub without_blanks_after : List ℕ → List ℕ
 without_blanks_after [] = []
 without_blanks_after (byte ∷ bytes) = before_rest byte (without_blanks_after bytes)
 
--- the lines of a message without the blanks at their ends; behind its last line feed stands one that may be empty
+-- the lines of a message without the blanks at their ends; the text after the last line feed is a line too,
+-- perhaps empty
 abbrev pub trimmed_lines : List ℕ → List (List ℕ)
 trimmed_lines message = map without_blanks_after (slice_split is_line_feed message)
 
@@ -50,21 +51,22 @@ abbrev pub follows_filled : List (List ℕ) → ℕ → Bool
 follows_filled lines zero = false
 follows_filled lines (suc place) = is_filled (line_at lines place)
 
--- there is a line behind the place that isn't empty
+-- a line after the place isn't empty
 abbrev pub precedes_filled : List (List ℕ) → ℕ → Bool
 precedes_filled lines place = list_any is_filled (drop (suc place) lines)
 
--- the line at the place stays: it isn't empty, or the one before it isn't, and neither is a later one
+-- The line at the place stays: it isn't empty, or it is the first empty one after a line that isn't, and a
+-- later line isn't empty. So empty lines at both ends go, and of several one stays.
 abbrev pub stays_at : List (List ℕ) → ℕ → Bool
 stays_at lines place = is_filled (line_at lines place) || (follows_filled lines place && precedes_filled lines place)
 
--- those of the lines that stay, in order
+-- the lines that stay, in order
 abbrev pub staying : List (List ℕ) → List (List ℕ)
 staying lines = map (line_at lines) (filter (stays_at lines) (range_with_len 0 (length lines)))
 
 abbrev pub ended_line : List ℕ → List ℕ
 ended_line line = line ++ 10 ∷ []
 
--- the message once it is cleaned: the lines that stay, each ended by a line feed
+-- the cleaned message: the lines that stay, each ended by a line feed
 abbrev pub cleaned_message : List ℕ → List ℕ
 cleaned_message message = flat_map ended_line (staying (trimmed_lines message))

@@ -1,5 +1,5 @@
--- What follows for a step and for a list of commands: which replies tell of a commit, what the commit then is, and for which parts
--- of the commands children were started.
+-- What follows for a step and for a list of commands: which replies say that a commit was made, what this
+-- commit is, and for which parts children were started.
 use Rattle.std.specs.Prelude.{◌≡◌, ℕ, Bool, List, [], ◌∷◌, ◌++◌}
 use Rattle.hook_config.specs.declared.configuration.Config.{Config}
 use Rattle.result_book.specs.Contents.{Contents}
@@ -23,8 +23,8 @@ abbrev pub SaysCommitted : Reply → Type 0
 SaysCommitted (Committed number reports post) = Unit {0}
 SaysCommitted reply = ⊥
 
--- Each stage before the commit passed, under the staged configuration, and there is one commit more: of the staged files, with
--- the message that the last stage passes on, cleaned.
+-- Each stage before the commit passed, under the staged configuration. There is one commit more: of the
+-- staged files, with the message that the last stage passes on, cleaned.
 pub record HasOneMore (before : Repository) (message : List ℕ) (no_verify : Bool) (skip : List (List ℕ)) (after : Repository) : Type 0 where
   pub config : Config
   pub told : List StageTold
@@ -40,13 +40,14 @@ HasCommitted before command after = ⊥
 
 -- ---- for which parts children were started
 
--- what a command makes of what is remembered: a child was started for those of its parts that are in `started`; or it forgets, and
--- has no parts
+-- What a command makes of what is cached. A child was started for those of its parts that are in `started`. A
+-- command that forgets has no parts.
 abbrev pub CommandStarts : Command → Reply → Contents → Contents → List Part → List Part → Type 0
 CommandStarts Forget reply before after parts started = HasForgotten before after reply × (parts ≡ []) × (started ≡ [])
 CommandStarts command reply before after parts started = Starts (reuse_in command) before after parts started
 
--- A command is a step, with its own parts, which leaves a repository and what is remembered then, and more is played from there.
+-- A command is a step with parts of its own. It leaves a repository and what is cached then, and more is
+-- played from there.
 pub record PlayStartsFrom (before : Repository) (remembered : Contents) (command : Command) (reply : Reply) (parts started : List Part) (more : Repository → Contents → List Part → List Part → Type 0) : Type 0 where
   pub repo_between : Repository
   pub between : Contents
@@ -60,8 +61,8 @@ pub record PlayStartsFrom (before : Repository) (remembered : Contents) (command
   pub joined : parts ≡ own ++ further
   pub joined_started : started ≡ own_started ++ further_started
 
--- The commands in order, each on what the one before it left of the repository and of what is remembered, and nothing else is made
--- of either. The parts are those of all steps, and those in `started` had a child started for them.
+-- The commands in order, each on the repository and the cached results that the one before it left; nothing
+-- else changes these. The parts are those of all steps. A child was started for those in `started`.
 abbrev pub PlayStarts : Repository → Contents → List Command → List Reply → List Part → List Part → Contents → Repository → Type 0
 PlayStarts before remembered [] [] parts started remembered_then after = (after ≡ before) × (remembered_then ≡ remembered) × (parts ≡ []) × (started ≡ [])
 PlayStarts before remembered (command ∷ commands) (reply ∷ replies) parts started remembered_then after =

@@ -1,5 +1,5 @@
--- A list of commands, made one after another by the host as a machine, and what each makes of the children's counts and of what
--- is remembered.
+-- A list of commands that the host runs one after another as a machine, and what each makes of the counts of
+-- the children and of what is cached.
 use Rattle.std.specs.Prelude.{◌≡◌, ◌⊎◌, ◌-◌, ◌^◌, ℕ, List, [], ◌∷◌, ◌++◌}
 use Rattle.hook_base.specs.declared.file.File.{File}
 use Rattle.child_port.specs.declared.answer.Outcome.{Outcome}
@@ -28,49 +28,51 @@ RunsHooks (Run ask) = Unit {0}
 RunsHooks (Commit message no_verify skip) = Unit {0}
 RunsHooks command = ⊥
 
--- which remembered answers serve the hooks of the command: a run may ask for fewer, and else each serves
+-- which cached results the hooks of the command may use: a run may ask for fewer, a commit uses all
 abbrev pub reuse_in : Command → Reuse
 reuse_in (Run ask) = reuse_of ask
 reuse_in command = reuse.All
 
--- The hooks that the command runs begin with these parts: those of a run and those before a commit where it is refused, and those
--- behind a commit where it was made and they were stopped. They may be all of its parts, where memory or the store refuses behind
--- them.
+-- The hooks that the command runs begin with these parts. They are the hooks of a refused run, those before a
+-- refused commit, or those after a commit that was made if they were stopped. The parts may be all that they
+-- have, if memory or the store refuses after them.
 abbrev pub HooksBegin : Repository → Command → Reply → List Part → Type 0
 HooksBegin before (Run ask) (Refused refusal) parts = HasBegun before ask parts
 HooksBegin before (Commit message no_verify skip) (Refused refusal) parts = HasBegunBefore before message no_verify skip parts
 HooksBegin before (Commit message no_verify skip) (Committed number reports (Stopped refusal)) parts = HasBegunBehind before skip parts
 HooksBegin before command reply parts = ⊥
 
--- these hooks, told apart by the reply in the same way, need a child for a further part behind these
+-- these hooks, which the reply picks in the same way, need a child for a further part after these
 abbrev pub HooksNeedChild : Repository → Command → Reply → Contents → List Part → Type 0
 HooksNeedChild before (Run ask) (Refused refusal) remembered parts = HasFurther before ask remembered parts
 HooksNeedChild before (Commit message no_verify skip) (Refused refusal) remembered parts = HasFurtherBefore before message no_verify skip remembered parts
 HooksNeedChild before (Commit message no_verify skip) (Committed number reports (Stopped refusal)) remembered parts = HasFurtherBehind before skip remembered parts
 HooksNeedChild before command reply remembered parts = ⊥
 
--- ---- what a command makes of the children's counts and of what is remembered
+-- ---- what a command makes of the children's counts and of what is cached
 
--- all answers are forgotten, and the reply says how many there were; refused, all of them stay
+-- All cached results are forgotten, and the reply says how many there were. If the command is refused, all of
+-- them stay.
 abbrev pub HasForgotten : Contents → Contents → Reply → Type 0
 HasForgotten before after (Forgot number) = (number ≡ count_of before) × AfterForget before after
 HasForgotten before after reply = after ≡ before
 
--- so they are, and no child told anything
+-- the cached results are forgotten in this way, and no child reported anything
 pub record IsForgotten (from to : Moment) (reply : Reply) : Type 0 where
   pub forgotten : HasForgotten from.remembered to.remembered reply
   pub called : to.calls ≡ from.calls
   pub faulted : to.faults ≡ from.faults
 
--- these parts were answered, or the answers are forgotten
+-- these parts were answered, or the cached results are forgotten
 abbrev pub Makes : (List (List ℕ) → List File → Outcome → Type 0) → Moment → Moment → Command → Reply → List Part → Type 0
 Makes tells from to Forget reply parts = (parts ≡ []) × IsForgotten from to reply
 Makes tells from to command reply parts = AreAnswered tells (reuse_in command) from to parts
 
--- The command is a step of the machine between two moments: with its parts, which come to what they make, and then, from the
--- moment between, with some that the reply leaves out. Nothing was run for these, or the hooks that were stopped begin with them.
--- There are none where the reply stands on all. The reply says that the children are spent only where these hooks need one more and
--- they have told as many outcomes as can be counted, and then what they told is put, as `Starts` says.
+-- The command is a step of the machine between two moments. Its parts make what `Makes` says. After them,
+-- from the moment `between`, come some that the reply leaves out. For these nothing was run, or the hooks
+-- that were stopped begin with them; there are none if the reply rests on all. The reply says that the
+-- children are spent only if these hooks need one more and 2^64 - 1 outcomes, as many as can be counted, are
+-- reported. Then what they reported is put, as `Starts` says.
 pub record IsPlayed (tells : List (List ℕ) → List File → Outcome → Type 0) (from to : Moment) (before : Repository) (command : Command) (reply : Reply) (after : Repository) : Type 0 where
   pub parts : List Part
   pub left_out : List Part
@@ -90,8 +92,8 @@ pub record IsUnplayed (from to : Moment) (before : Repository) (parts : List Par
   pub no_parts : parts ≡ []
   pub same : after ≡ before
 
--- A command is played, which leaves a moment and a repository, and more is played from there. The parts are those of the step
--- and then those of what more is played.
+-- A command is played and leaves a moment and a repository, and more is played from there. The parts are
+-- those of this step, then those of the others.
 pub record ArePlayedFrom (tells : List (List ℕ) → List File → Outcome → Type 0) (from : Moment)
     (before : Repository) (command : Command) (reply : Reply) (parts : List Part) (more : Moment → Repository → List Part → Type 0) : Type 0 where
   pub between : Moment
@@ -101,8 +103,8 @@ pub record ArePlayedFrom (tells : List (List ℕ) → List File → Outcome → 
   pub rest : more between repo_between further
   pub joined : parts ≡ first.parts ++ further
 
--- The commands are played in order, each on what the one before it left, and each has its reply. The parts are those of all
--- steps, in order.
+-- The commands are played in order, each on what the one before it left, and each has its reply. The parts
+-- are those of all steps, in order.
 abbrev pub ArePlayed : (List (List ℕ) → List File → Outcome → Type 0) → Moment → Moment → Repository → List Command → List Reply → List Part → Repository → Type 0
 ArePlayed tells from to before [] [] parts after = IsUnplayed from to before parts after
 ArePlayed tells from to before (command ∷ commands) (reply ∷ replies) parts after =
@@ -110,9 +112,9 @@ ArePlayed tells from to before (command ∷ commands) (reply ∷ replies) parts 
     (λ between repo_between further. ArePlayed tells between to repo_between commands replies further after)
 ArePlayed tells from to before commands replies parts after = ⊥
 
--- A run of the machine between two moments, by all of these commands. Where each answer that was remembered before is one that
--- the children may tell, so is each outcome, and so is each answer that is remembered afterwards: it was remembered before, or
--- was told.
+-- A run of the machine between two moments, by all of these commands. If the children may report each result
+-- that was cached before, they may report each outcome and each result that is cached afterwards. Each result
+-- that is cached afterwards was cached before, or was reported.
 pub record IsPlay (tells : List (List ℕ) → List File → Outcome → Type 0) (from to : Moment) (before : Repository) (commands : List Command) (replies : List Reply) (after : Repository) : Type 0 where
   pub parts : List Part
   pub played : ArePlayed tells from to before commands replies parts after

@@ -1,5 +1,5 @@
--- Serves private functions alone: what is made ready before the hooks of a run start, how it is refused, and what a run of
--- the hooks that are ready comes to.
+-- What is prepared before the hooks of a run start, how that is refused, and how the prepared hooks run. Used
+-- only by private functions.
 use Rattle.std.specs.Prelude.{◌≡◌, ◌≢◌, ◌⊎◌, ℕ, true, false, List}
 use Rattle.hook_base.specs.declared.file.File.{File}
 use Rattle.hook_base.specs.Trees.{IsRising, changes_between}
@@ -29,7 +29,7 @@ use Rattle.commit_flow.specs.Configured.{HasReadableConfig, IsConfiguredFor, IsM
 use Rattle.commit_flow.specs.Refusals.{of_run}
 use Rattle.commit_flow.specs.Runs.{AreStagedPaths, IsNameRefusal, IsNamesRefusal, names_in, reuse_of, run_ask_of, stage_of}
 
--- ---- what is made ready
+-- ---- what is prepared
 
 -- why there is no staged configuration: none is staged, it can't be read, or memory is refused
 abbrev pub IsConfigRefusal : Repository → HostRefusal → Type 0
@@ -38,15 +38,15 @@ IsConfigRefusal repo (BadConfig fault) = IsMisconfigured repo fault
 IsConfigRefusal repo OutOfMemory = Unit {0}
 IsConfigRefusal repo refusal = ⊥
 
--- why a name isn't taken as the path of a staged file: want of memory may come too
+-- why a name isn't taken as the path of a staged file: memory may be refused too
 abbrev pub IsNameFault : Repository → List ℕ → HostRefusal → Type 0
 IsNameFault repo name refusal = (refusal ≡ OutOfMemory) ⊎ IsNameRefusal repo name refusal
 
--- why names aren't
+-- why names aren't taken as paths of staged files
 abbrev pub IsNamesFault : Repository → List (List ℕ) → HostRefusal → Type 0
 IsNamesFault repo names refusal = (refusal ≡ OutOfMemory) ⊎ IsNamesRefusal repo names refusal
 
--- what is asked of the hooks that may get these files
+-- what is asked of the hooks if they may get these files
 abbrev pub run_ask_with : HostAsk → List (List ℕ) → RunAsk
 run_ask_with ask candidates = record {
   stage = stage_of ask.stage;
@@ -63,13 +63,15 @@ pub record IsPrepared (repo : Repository) (ask : HostAsk) (ready : Prepared) : T
   pub tree : ready.tree ≡ repo.staged
   pub rising : IsRising repo.staged
 
--- why a run isn't made ready: its configuration isn't, or it can be read and the names that are asked for aren't
+-- why a run isn't prepared: its configuration isn't, or it can be read and the names that are asked for
+-- aren't taken
 abbrev pub IsUnprepared : Repository → HostAsk → HostRefusal → Type 0
 IsUnprepared repo ask refusal = IsConfigRefusal repo refusal ⊎ (HasReadableConfig repo × IsNamesFault repo (names_in ask.which) refusal)
 
 -- ---- a run of hooks, between two moments
 
--- what a stop leaves remembered then, it could leave before, or else each answer of it was remembered before, or told
+-- what a stop leaves cached afterwards it could leave before, or each result of it was cached before or was
+-- reported
 abbrev pub LeavesTold : (List (List ℕ) → List File → Outcome → Type 0) → Contents → (Contents → Type 0) → (Contents → Type 0) → Type 0
 LeavesTold tells before could can = (left : Contents) → can left → could left ⊎ AddsTold tells before left
 
@@ -78,19 +80,19 @@ pub record HaveRun (tells : List (List ℕ) → List File → Outcome → Type 0
   pub known : names_no_hook config ask ≡ false
   pub over : IsRunOver tells from to config ask tree out
 
--- the same, with how many of their parts were answered from what was remembered
+-- the same, with how many of their parts used a cached result
 pub record HaveRunCounted (tells : List (List ℕ) → List File → Outcome → Type 0) (from to : Moment) (config : Config) (ask : RunAsk) (tree : List File) (ran : HooksRun) : Type 0 where
   pub run : HaveRun tells from to config ask tree ran.out
   pub counted : AreReused (all_parts run.over.trace) run.over.answered.started ran.reused
 
--- their run was refused, over remembered answers that refuse so
+-- their run was refused; the book may refuse with these faults
 pub record HaveStopped (refuses : BookFault → Type 0) (tells : List (List ℕ) → List File → Outcome → Type 0) (from to : Moment) (config : Config) (ask : RunAsk) (tree : List File) (refusal : RunRefusal) : Type 0 where
   pub unknown : refusal ≡ run.NoSuchHook → names_no_hook config ask ≡ true
   pub known : refusal ≢ run.NoSuchHook → names_no_hook config ask ≡ false
   pub of_book : IsOfBook refuses refusal
   pub over : IsStoppedRun tells from to config ask tree refusal
 
--- what is given of a run on the staged files
+-- what a run on the staged files gives
 abbrev pub staged_run_of : List File → HooksRun → StagedRun
 staged_run_of staged ran = record {
   passed = ran.out.passed;
@@ -100,20 +102,20 @@ staged_run_of staged ran = record {
   reused = ran.reused;
 }
 
--- the hooks that are ready were run, and this is given of it
+-- the prepared hooks were run, and this is the result
 pub record HasRunReady (tells : List (List ℕ) → List File → Outcome → Type 0) (from to : Moment) (ready : Prepared) (ran : StagedRun) : Type 0 where
   pub hooks : HooksRun
   pub run : HaveRun tells from to ready.config ready.ask ready.tree hooks.out
   pub counted : AreReused (all_parts run.over.trace) run.over.answered.started hooks.reused
   pub gives : ran ≡ staged_run_of ready.tree hooks
 
--- a run on the staged files was made ready, its hooks were run, and this is given of it
+-- a run on the staged files was prepared, its hooks were run, and this is the result
 pub record HasRunOnStaged (tells : List (List ℕ) → List File → Outcome → Type 0) (from to : Moment) (repo : Repository) (ask : HostAsk) (ran : StagedRun) : Type 0 where
   pub prepared : Prepared
   pub ready : IsPrepared repo ask prepared
   pub run : HasRunReady tells from to prepared ran
 
--- their run was refused as this
+-- the run of the prepared hooks was refused with this refusal
 pub record HasStoppedReady (refuses : BookFault → Type 0) (tells : List (List ℕ) → List File → Outcome → Type 0) (from to : Moment) (ready : Prepared) (refusal : HostRefusal) : Type 0 where
   pub inner : RunRefusal
   pub stopped : HaveStopped refuses tells from to ready.config ready.ask ready.tree inner

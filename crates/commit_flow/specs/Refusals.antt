@@ -1,5 +1,5 @@
--- The refusals of a host's commands: the number and the printed name of each, the number of the fault that it hands on, and
--- the refusals that faults of other crates become.
+-- The refusals of a host's commands, with their numbers and printed names (docs/REFERENCE.md, "The host of a
+-- repository"). Each may have the number of its cause. Faults of other crates become such refusals.
 use Rattle.std.specs.Prelude.{ℕ, List, codes, Option, None, Some}
 use Rattle.hook_base.specs.declared.path_fault.PathFault.{PathFault}
 use Rattle.hook_base.specs.declared.path_fault.PathFault.TheVariants as path
@@ -56,7 +56,7 @@ name_of Collision = codes "Collision"
 name_of Spent = codes "Spent"
 name_of Clash = codes "Clash"
 
--- the number that the fault of a store, of a path or of a configuration has among the faults of its kind
+-- the number of the cause among the faults of a store, of a path or of a configuration
 abbrev pub inner_number_of : HostRefusal → Option ℕ
 inner_number_of (Store fault) = Some (store_number_of fault)
 inner_number_of (BadPath fault) = Some (path_number_of fault)
@@ -74,7 +74,7 @@ inner_number_of Collision = None
 inner_number_of Spent = None
 inner_number_of Clash = None
 
--- ---- the ways up: want of memory is the host's own, wherever it was met
+-- ---- from faults to refusals: lack of memory is the host's own refusal, wherever it comes from
 
 abbrev pub of_path : PathFault → HostRefusal
 of_path path.OutOfMemory = OutOfMemory
@@ -87,7 +87,7 @@ of_store store.Collision = Collision
 of_store store.TooMany = TooMany
 of_store fault = Store fault
 
--- a change of the staged files is refused as the command is that makes it alone
+-- a change of the staged files is refused in the same way as the command that makes only this change
 abbrev pub of_staging : StagingFault → HostRefusal
 of_staging (staging.BadPath fault) = BadPath fault
 of_staging staging.NotStaged = NotStaged
@@ -109,7 +109,7 @@ abbrev pub of_book : BookFault → HostRefusal
 of_book book.OutOfMemory = OutOfMemory
 of_book (book.Store fault) = of_store fault
 
--- what stops hooks is the host's own refusal
+-- what stops hooks is a refusal of the host itself
 abbrev pub of_run : RunRefusal → HostRefusal
 of_run run.OutOfMemory = OutOfMemory
 of_run (run.Book fault) = of_book fault

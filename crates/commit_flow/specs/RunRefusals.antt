@@ -1,4 +1,4 @@
--- Why a run on the staged files is refused, and what stops the hooks of runs and commits alike.
+-- Why a run on the staged files is refused, and what stops the hooks of runs and of commits.
 use Rattle.hook_config.specs.declared.configuration.Config.{Config}
 use Rattle.store_faults.specs.declared.fault.StoreFault.{StoreFault}
 use Rattle.store_faults.specs.declared.fault.StoreFault.TheVariants.{Sql, TooLarge}
@@ -9,21 +9,24 @@ use Rattle.commit_flow.specs.declared.host_refusal.HostRefusal.TheVariants.{OutO
 use Rattle.commit_flow.specs.Configured.{HasReadableConfig, IsMisconfigured, LacksConfig}
 use Rattle.commit_flow.specs.Runs.{HasNoSuchHook, IsNamesRefusal, IsRunnable, names_in}
 
--- the database refuses, or a file or a message that hooks left, or an answer that is remembered, is larger than the store takes
+-- the database refuses, or a file or a message that hooks left, or a cached result, is larger than the store
+-- takes
 abbrev pub IsOfFixes : StoreFault → Type 0
 IsOfFixes (Sql error) = Unit {0}
 IsOfFixes TooLarge = Unit {0}
 IsOfFixes fault = ⊥
 
--- Why hooks of a configuration that can be read are stopped, or what they leave isn't kept as fixes or committed.
+-- Why hooks of a configuration that can be read are stopped, or why what they leave isn't kept as fixes or
+-- committed.
 abbrev pub IsStop : HostRefusal → Type 0
 IsStop (Store fault) = IsOfFixes fault
 IsStop Collision = Unit {0}
 IsStop Spent = Unit {0}
 IsStop refusal = ⊥
 
--- Why a run is refused, in this order: no configuration is staged, it can't be read, a name is no path or isn't staged, no
--- hook has the name that is asked for; then what stops hooks. Want of memory may come at any time.
+-- Why a run is refused, in this order. Before hooks: no configuration is staged, it can't be read, a name is
+-- no path or isn't staged, no hook has the name that is asked for. Then comes what stops hooks. Lack of
+-- memory may come at any time.
 abbrev pub IsRunRefusal : Repository → HostAsk → HostRefusal → Type 0
 IsRunRefusal before ask NoConfig = LacksConfig before
 IsRunRefusal before ask (BadConfig fault) = IsMisconfigured before fault

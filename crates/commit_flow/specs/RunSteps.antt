@@ -1,4 +1,4 @@
--- A run on the staged files over children: the step that it is, and how it stands to what the children told.
+-- A run on the staged files over children: which step it is, together with what the children reported.
 use Rattle.std.specs.Prelude.{◌≡◌, ◌⊎◌, ◌-◌, ◌^◌, ℕ, List, []}
 use Rattle.hook_base.specs.declared.change.Change.{Change}
 use Rattle.hook_base.specs.declared.file.File.{File}
@@ -26,13 +26,13 @@ use Rattle.commit_flow.specs.declared.staged_run.StagedRun.{StagedRun}
 use Rattle.commit_flow.specs.Runs.{IsRunnable, reuse_of, run_ask_of}
 use Rattle.commit_flow.specs.Steps.{Step}
 
--- the reply that this is
+-- the reply for what a run gave
 abbrev pub reply_of_run : StagedRun → Reply
 reply_of_run ran = Ran ran.passed ran.report ran.changes ran.unsteady
 
--- The run is a step of the machine, over parts that were answered between two moments. Where each answer that was remembered
--- before is one that the children may tell, so is each outcome. Each answer that is remembered afterwards was so before, or was
--- told. So many parts as the run says were answered from what was remembered.
+-- The run is a step of the machine, with parts that were answered between two moments. If the children may
+-- report each result that was cached before, they may report each outcome. Each result that is cached
+-- afterwards was cached before, or was reported. As many parts as the run says used a cached result.
 pub record IsRunStep (tells : List (List ℕ) → List File → Outcome → Type 0) (from to : Moment) (before : Repository) (ask : HostAsk) (ran : StagedRun) (after : Repository) : Type 0 where
   pub parts : List Part
   pub step : Step before (Run ask) (reply_of_run ran) parts after
@@ -43,19 +43,19 @@ pub record IsRunStep (tells : List (List ℕ) → List File → Outcome → Type
 
 -- ---- a run that is refused
 
--- a run that may be asked for begins with these parts
+-- a run that is possible begins with these parts
 pub record HasBegun (before : Repository) (ask : HostAsk) (parts : List Part) : Type 0 where
   pub config : Config
   pub runnable : IsRunnable before ask config
   pub begun : IsBegun config (run_ask_of ask before) before.staged parts
 
--- it has a further part behind these, which needs a child
+-- the run has a further part after these, and it needs a child
 pub record HasFurther (before : Repository) (ask : HostAsk) (remembered : Contents) (parts : List Part) : Type 0 where
   pub config : Config
   pub runnable : IsRunnable before ask config
   pub needs : NeedsChild remembered config (run_ask_of ask before) before.staged parts
 
--- it has these parts, and what they did to the staged files can't be the fixes for this reason
+-- the run has these parts, and what they did to the staged files can't be the fixes for this reason
 pub record HasRunBut (before : Repository) (ask : HostAsk) (parts : List Part) (reason : List Change → Type 0) : Type 0 where
   pub config : Config
   pub trace : List (List Part)
@@ -65,7 +65,7 @@ pub record HasRunBut (before : Repository) (ask : HostAsk) (parts : List Part) (
   pub traced : parts ≡ all_parts trace
   pub why : reason (changes_between before.staged out.tree)
 
--- fixes that the store refuses so: one is too large, or the database refuses
+-- the store refuses these fixes with this fault: one is too large, or the database refuses
 abbrev pub IsUnset : StoreFault → List Change → Type 0
 IsUnset TooLarge fixes = HasLarge fixes
 IsUnset fault fixes = Unit {0}
@@ -74,15 +74,17 @@ IsUnset fault fixes = Unit {0}
 abbrev pub IsUnrun : Moment → Moment → List Part → Type 0
 IsUnrun from to parts = (parts ≡ []) × (to ≡ from)
 
--- Hooks with these parts were stopped by the store between two moments: behind the last part, each of them answered, since what
--- they did to the staged files can't be the fixes for this reason; or in the middle, by what is remembered of their answers.
+-- The store stopped hooks with these parts between two moments. Either all of them were answered, and what
+-- they did to the staged files can't be the fixes for this reason. Or it stopped them in the middle, by what
+-- is cached of their answers.
 abbrev pub StoreStopsRun : (List (List ℕ) → List File → Outcome → Type 0) → Moment → Moment → Repository → HostAsk → List Part → (List Change → Type 0) → Type 0
 StoreStopsRun tells from to before ask parts reason =
     (HasRunBut before ask parts reason × AreAnswered tells (reuse_of ask) from to parts) ⊎ HasBegun before ask parts
 
--- How far a run came that is refused so, with these parts, between two moments: it is spent where it has a further part that
--- needs a child and no call more can be counted, and the store and want of memory may stop it anywhere. The other refusals come
--- before any part. Contents that collide do so with those that are kept by then.
+-- How far a run came that is refused in this way, with these parts, between two moments. It is spent if a
+-- further part needs a child and no more calls can be counted. The store and lack of memory may stop it
+-- anywhere. The other refusals come before any part. Contents that collide do so with those that are kept by
+-- then.
 abbrev pub IsStoppedAt : (List (List ℕ) → List File → Outcome → Type 0) → Moment → Moment → Repository → HostAsk → List Part → List (List ℕ) → HostRefusal → Type 0
 IsStoppedAt tells from to before ask parts contents Spent = HasFurther before ask to.remembered parts × (to.calls ≡ 2 ^ 64 - 1)
 IsStoppedAt tells from to before ask parts contents Collision = StoreStopsRun tells from to before ask parts (λ fixes. FixCollides fixes contents)
@@ -90,8 +92,8 @@ IsStoppedAt tells from to before ask parts contents (Store fault) = StoreStopsRu
 IsStoppedAt tells from to before ask parts contents OutOfMemory = IsUnrun from to parts ⊎ HasBegun before ask parts
 IsStoppedAt tells from to before ask parts contents refusal = IsUnrun from to parts
 
--- The refused run is a step of the machine that leaves the repository as it was. Its parts up to there were answered. Where the
--- children are spent, what they told is put, as `Starts` says.
+-- The refused run is a step of the machine that leaves the repository as it was. Its parts so far were
+-- answered. If the children are spent, what they reported is put, as `Starts` says.
 pub record IsStoppedStep (tells : List (List ℕ) → List File → Outcome → Type 0) (from to : Moment) (before : Repository) (ask : HostAsk) (after : Kept) (refusal : HostRefusal) : Type 0 where
   pub parts : List Part
   pub step : Step before (Run ask) (Refused refusal) [] after.repo

@@ -1,5 +1,5 @@
--- A run of hooks on the staged files: which files they may get, what it answers, and why it is refused. It changes the fixes
--- alone.
+-- A run of hooks on the staged files: which files they may get, what it answers, and why it is refused. It
+-- changes only the fixes.
 use Rattle.std.specs.Prelude.{◌≡◌, ◌⊎◌, ℕ, Bool, true, false, List, [], ◌∷◌, Option, None, Some, map, filter}
 use Rattle.hook_base.specs.declared.file.File.{File}
 use Rattle.hook_base.specs.declared.file.FileEntry.{FileEntry}
@@ -43,7 +43,8 @@ abbrev pub holds_entry : FileEntry → Option FileEntry → Bool
 holds_entry entry None = false
 holds_entry entry (Some other) = same_mode entry.mode other.mode && bytes_eq entry.bytes other.bytes
 
--- the paths of the staged files that the last commit doesn't hold so: their bytes or their mode differ, or they are new
+-- the paths of the staged files that differ from the last commit: in their bytes or their mode, or because
+-- they are new (`pre_commit.git.get_staged_files`)
 abbrev pub changed_paths : Repository → List (List ℕ)
 changed_paths repo =
     map (λ (row : File). row.path) (filter (λ (row : File). not (holds_entry row.entry (entry_of row.path (last_tree repo.history)))) repo.staged)
@@ -57,7 +58,7 @@ abbrev pub stage_of : AskStage → Stage
 stage_of PreCommit = stage.PreCommit
 stage_of Manual = stage.Manual
 
--- which remembered answers serve the run: a fresh one none, and a cautious one those that passed
+-- which cached results the run may use: a fresh run none, and a cautious one those that passed
 abbrev pub reuse_of : HostAsk → Reuse
 reuse_of ask = if ask.fresh then reuse.Nothing else (if ask.options.cautious then reuse.Passed else reuse.All)
 
@@ -75,13 +76,13 @@ run_ask_of ask repo = record {
 abbrev pub IsStagedPath : Repository → List ℕ → Type 0
 IsStagedPath repo name = IsLegal name × IsStaged name repo
 
--- why a name is none of a staged file: it is no path, or isn't staged
+-- why a name isn't that of a staged file: it is no path, or it isn't staged
 abbrev pub IsNameRefusal : Repository → List ℕ → HostRefusal → Type 0
 IsNameRefusal repo name (BadPath fault) = path_fault name ≡ Some fault
 IsNameRefusal repo name NotStaged = IsLegal name × (¬ IsStaged name repo)
 IsNameRefusal repo name refusal = ⊥
 
--- the first of the names that is none of a staged file is refused so
+-- the first of the names that isn't that of a staged file is refused so
 abbrev pub IsNamesRefusal : Repository → List (List ℕ) → HostRefusal → Type 0
 IsNamesRefusal repo [] refusal = ⊥
 IsNamesRefusal repo (name ∷ names) refusal =
@@ -98,8 +99,8 @@ names_in which = []
 
 -- ---- what it answers
 
--- the staged configuration can be read, the options of the run make this of it, the named files are staged, and there is a hook
--- of the name that is asked for
+-- The staged configuration can be read, and this is what the options of the run make of it. The named files
+-- are staged, and there is a hook with the name that is asked for.
 pub record IsRunnable (before : Repository) (ask : HostAsk) (config : Config) : Type 0 where
   pub configured : IsConfiguredFor ask.options before config
   pub named : AreStagedPaths before (names_in ask.which)
@@ -109,7 +110,7 @@ pub record IsRunnable (before : Repository) (ask : HostAsk) (config : Config) : 
 abbrev pub fixing : List Change → Repository → Repository
 fixing changes repo = record repo { fixes = changes }
 
--- The hooks were run with these parts, and answer so. The fixes are what became of the staged files.
+-- The hooks were run with these parts, and this is the answer. The fixes are what became of the staged files.
 pub record IsRan (before : Repository) (ask : HostAsk) (passed : Bool) (report : List ℕ) (changes : List Change) (unsteady : List (List ℕ)) (parts : List Part) (after : Repository) : Type 0 where
   pub config : Config
   pub trace : List (List Part)

@@ -12,7 +12,7 @@ IsDecided (Refused (Store fault)) = ⊥
 IsDecided (Refused Collision) = ⊥
 IsDecided reply = Unit {0}
 
--- the command neither runs hooks nor asks what is remembered of them
+-- the command neither runs hooks nor depends on what is cached
 abbrev pub IsRunless : Command → Type 0
 IsRunless (Run ask) = ⊥
 IsRunless (Commit message no_verify skip) = ⊥

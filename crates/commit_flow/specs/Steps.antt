@@ -1,5 +1,6 @@
--- The host as a machine: what each command may answer, and what it makes of the repository. A command that is added gets its
--- cases in Step, for what it does, and in IsRefused, and its reply one in IsDone of Commands.
+-- The host as a machine: what each command may answer, and what it makes of the repository. A command that is
+-- added to the definitions gets a case in `Step` and one in `IsRefused`; its reply gets one in `IsDone` of
+-- `specs/Commands.antt`.
 use Rattle.std.specs.Prelude.{◌≡◌, ◌≢◌, ℕ, List, [], length, Option, Some, option_map, unwrap_or}
 use Rattle.hook_base.specs.declared.file.File.{File}
 use Rattle.hook_base.specs.declared.file.FileEntry.{FileEntry}
@@ -31,7 +32,7 @@ IsOfDatabase fault = ⊥
 
 -- ---- a file is added
 
--- the mode that is asked for, else that of the file that is staged at the path, else plain
+-- the mode that is asked for; otherwise that of the staged file at the path; otherwise plain
 abbrev pub mode_to_add : Option Mode → Option FileEntry → Mode
 mode_to_add asked staged = unwrap_or asked (unwrap_or (option_map (λ (entry : FileEntry). entry.mode) staged) Plain)
 
@@ -42,20 +43,20 @@ entry_to_add before path bytes asked = record { mode = mode_to_add asked (entry_
 abbrev pub tree_with : Repository → List ℕ → List ℕ → Option Mode → List File
 tree_with before path bytes asked = put_file path (entry_to_add before path bytes asked) before.staged
 
--- what a file must be to be added, the limits of the staged files aside
+-- what a file must be to be added; the limits of the staged files aren't part of it
 pub record IsAddable (before : Repository) (path bytes : List ℕ) : Type 0 where
   pub legal : IsLegal path
   pub small : IsSmall bytes
   pub apart : ¬ Clashes path before.staged
 
--- a file is added, and the fixes are forgotten
+-- a file is added, and the fixes are removed
 pub record IsAdded (before : Repository) (path bytes : List ℕ) (asked : Option Mode) (after : Repository) : Type 0 where
   pub addable : IsAddable before path bytes
   pub fits : Fits (tree_with before path bytes asked)
   pub made : after ≡ with_staged path (entry_to_add before path bytes asked) before
 
--- Why a file isn't addable, in this order: its path is no path, it has too many bytes, its path and a staged one clash. Want
--- of memory comes after a fault of the path.
+-- Why a file isn't addable, in this order: its path is no path, it has too many bytes, or its path and a
+-- staged one clash. Lack of memory comes after a fault of the path.
 abbrev pub IsUnaddable : Repository → List ℕ → List ℕ → HostRefusal → Type 0
 IsUnaddable before path bytes (BadPath fault) = path_fault path ≡ Some fault
 IsUnaddable before path bytes TooLarge = IsLegal path × (¬ IsSmall bytes)
@@ -63,8 +64,9 @@ IsUnaddable before path bytes Clash = IsLegal path × IsSmall bytes × Clashes p
 IsUnaddable before path bytes OutOfMemory = IsLegal path
 IsUnaddable before path bytes refusal = ⊥
 
--- why an addable file isn't added: the staged files with it break a limit, its contents collide with others that are kept
--- (which a repository doesn't tell, so a clause of the call says it), or the database refuses
+-- Why an addable file isn't added: with it the staged files break a limit, its contents collide with others
+-- that are kept, or the database refuses. The kept contents aren't part of a repository, so a clause of the
+-- call says when they collide.
 abbrev pub IsAddRefusal : Repository → List ℕ → List ℕ → Option Mode → HostRefusal → Type 0
 IsAddRefusal before path bytes asked TooMany = IsAddable before path bytes × (¬ Fits (tree_with before path bytes asked))
 IsAddRefusal before path bytes asked Collision = IsAddable before path bytes × Fits (tree_with before path bytes asked)
@@ -73,14 +75,14 @@ IsAddRefusal before path bytes asked refusal = IsUnaddable before path bytes ref
 
 -- ---- a file is removed
 
--- a path is staged no more, and the fixes are forgotten
+-- a path is no longer staged, and the fixes are removed
 pub record IsRemoved (before : Repository) (path : List ℕ) (after : Repository) : Type 0 where
   pub legal : IsLegal path
   pub staged : IsStaged path before
   pub made : after ≡ without_staged path before
 
--- why a path isn't removed, in this order: it is no path, it isn't staged, or the database refuses. Want of memory comes
--- after a fault of the path.
+-- Why a path isn't removed, in this order: it is no path, it isn't staged, or the database refuses. Lack of
+-- memory comes after a fault of the path.
 abbrev pub IsRemoveRefusal : Repository → List ℕ → HostRefusal → Type 0
 IsRemoveRefusal before path (BadPath fault) = path_fault path ≡ Some fault
 IsRemoveRefusal before path NotStaged = IsLegal path × (¬ IsStaged path before)
@@ -94,22 +96,22 @@ IsRemoveRefusal before path refusal = ⊥
 abbrev pub HasFixes : Repository → Type 0
 HasFixes repo = repo.fixes ≢ []
 
--- the fixes, of which there are so many, are applied to the staged files and forgotten
+-- the fixes, whose number this is, are applied to the staged files and removed
 pub record IsAccepted (before : Repository) (number : ℕ) (after : Repository) : Type 0 where
   pub some : HasFixes before
   pub counted : number ≡ length before.fixes
   pub made : after ≡ accepted before
 
--- why fixes aren't accepted: there are none, or else memory or the database refuses
+-- why fixes aren't accepted: there are none; otherwise memory or the database refuses
 abbrev pub IsAcceptRefusal : Repository → HostRefusal → Type 0
 IsAcceptRefusal before NoFixes = before.fixes ≡ []
 IsAcceptRefusal before OutOfMemory = HasFixes before
 IsAcceptRefusal before (Store fault) = HasFixes before × IsOfDatabase fault
 IsAcceptRefusal before refusal = ⊥
 
--- ---- the remembered answers are forgotten
+-- ---- the cached results are forgotten
 
--- why they aren't: memory or the database refuses
+-- why they aren't forgotten: memory or the database refuses
 abbrev pub IsForgetRefusal : HostRefusal → Type 0
 IsForgetRefusal OutOfMemory = Unit {0}
 IsForgetRefusal (Store fault) = IsOfDatabase fault
@@ -117,7 +119,7 @@ IsForgetRefusal refusal = ⊥
 
 -- ---- the steps
 
--- The refusal may answer the command, and stands on these parts.
+-- The command may be refused so, and the refusal rests on these parts.
 abbrev pub IsRefused : Repository → Command → List Part → HostRefusal → Type 0
 IsRefused before (Add path bytes asked) parts refusal = IsAddRefusal before path bytes asked refusal × (parts ≡ [])
 IsRefused before (Remove path) parts refusal = IsRemoveRefusal before path refusal × (parts ≡ [])
@@ -126,10 +128,11 @@ IsRefused before (Run ask) parts refusal = IsRunRefusal before ask refusal × (p
 IsRefused before (Commit message no_verify skip) parts refusal = IsCommitRefusal before message no_verify skip parts refusal
 IsRefused before Forget parts refusal = IsForgetRefusal refusal × (parts ≡ [])
 
--- The command may answer so, and then leaves this repository: any refusal leaves the one before. The parts are those that the
--- reply stands on, in order: none of a run that was stopped, and none of a run whose fixes or commit memory or the store refused.
--- They say which children's outcomes the reply tells of, and how many of them were faults. How many answers were forgotten is
--- said by what is remembered.
+-- The command may answer so, and then leaves this repository; after a refusal it is the one before. The parts
+-- are those that the reply rests on, in order. A stopped run has none, and neither has a run whose fixes or
+-- commit memory or the store refused. So they say which outcomes of children the reply is about, and how many
+-- of them were faults. The step doesn't say how many results were forgotten, since that depends on what is
+-- cached.
 abbrev pub Step : Repository → Command → Reply → List Part → Repository → Type 0
 Step before (Add path bytes asked) Added parts after = IsAdded before path bytes asked after × (parts ≡ [])
 Step before (Remove path) Removed parts after = IsRemoved before path after × (parts ≡ [])

@@ -26,8 +26,8 @@ pub record IsNothingPlayed {S : Type 0} (from to : Moment) (old new : Shown S) :
   pub unmade : to ≡ from
   pub same : new ≡ old
 
--- a command is played safely, with all of these parts answered for it, which leaves a moment and a store, and more is played from
--- there
+-- A command is played safely, and all of these parts were answered for it. It leaves a moment and a store,
+-- and more is played from there.
 pub record ArePlayedSafelyFrom {S : Type 0} (g : Ghosts S) (tells : List (List ℕ) → List File → Outcome → Type 0) (from : Moment)
     (old : Shown S) (command : Command) (reply : Reply) (own : List Part) (more : Moment → Shown S → Type 0) : Type 0 where
   pub between : Moment
@@ -36,15 +36,15 @@ pub record ArePlayedSafelyFrom {S : Type 0} (g : Ghosts S) (tells : List (List �
   pub all : own ≡ first.played.parts ++ first.played.left_out
   pub rest : more between shown
 
--- The commands are played in order, each safely on the store that the one before it left. Each has its reply, and the parts that
--- were answered for it.
+-- The commands are played in order, each safely on the store that the one before it left. Each has its reply,
+-- and the parts that were answered for it.
 abbrev pub ArePlayedSafely : {S : Type 0} → Ghosts S → (List (List ℕ) → List File → Outcome → Type 0) → Moment → Moment → Shown S → Shown S → List Command → List Reply → List (List Part) → Type 0
 ArePlayedSafely g tells from to old new [] [] [] = IsNothingPlayed from to old new
 ArePlayedSafely g tells from to old new (command ∷ commands) (reply ∷ replies) (own ∷ answered) =
     ArePlayedSafelyFrom g tells from old command reply own (λ between shown. ArePlayedSafely g tells between to shown new commands replies answered)
 ArePlayedSafely g tells from to old new commands replies answered = ⊥
 
--- so they are, whatever was answered for them
+-- they are played so, whatever was answered for them
 pub record IsSafePlay {S : Type 0} (g : Ghosts S) (tells : List (List ℕ) → List File → Outcome → Type 0) (from to : Moment) (old new : Shown S) (commands : List Command) (replies : List Reply) : Type 0 where
   pub answered : List (List Part)
   pub played : ArePlayedSafely g tells from to old new commands replies answered
@@ -56,27 +56,28 @@ abbrev pub AreRefused : List Reply → Type 0
 AreRefused [] = Unit {0}
 AreRefused (reply ∷ replies) = (¬ IsDone reply) × AreRefused replies
 
--- a step of the machine with this reply, over the first of the parts that were answered
+-- a step of the machine with this reply and the first of the parts that were answered
 pub record IsStepOver (before : Repository) (command : Command) (reply : Reply) (own : List Part) (after : Repository) : Type 0 where
   pub first : List Part
   pub others : List Part
   pub stretch : own ≡ first ++ others
   pub step : Step before command reply first after
 
--- such steps in order, each of what the one before it made
+-- such steps in order, each from the repository that the one before it made
 abbrev pub AreStepsOver : Repository → List Command → List Reply → List (List Part) → Repository → Type 0
 AreStepsOver before [] [] [] after = after ≡ before
 AreStepsOver before (command ∷ commands) (reply ∷ replies) (own ∷ answered) after =
     (between : Repository) × IsStepOver before command reply own between × AreStepsOver between commands replies answered after
 AreStepsOver before commands replies answered after = ⊥
 
--- the first of the commands makes this of the repository, done over the first of its parts
+-- the first of the commands makes this of the repository, and is done with the first of its parts
 abbrev pub IsReachedNext : Repository → List Command → List (List Part) → Repository → Type 0
 IsReachedNext before (command ∷ commands) (own ∷ answered) after = Reaches before command own after
 IsReachedNext before commands answered after = ⊥
 
--- This is the repository that a first stretch of the commands makes, with the replies and the parts that were given for them, or
--- that the command behind these makes of it, done. No command behind the stretch was done by its reply: none that was is lost.
+-- This is the repository that a first stretch of the commands makes, with the replies and the parts that were
+-- given for them. Or it is what the next command, done, makes of that repository. No reply after the stretch
+-- says that its command was done, so none that was done is lost.
 pub record IsLeftOf (before : Repository) (commands : List Command) (replies : List Reply) (answered : List (List Part)) (left : Repository) : Type 0 where
   pub made : List Command
   pub ahead : List Command
@@ -100,7 +101,8 @@ pub record Session : Type 0 where
   pub replies : List Reply
   pub answered : List (List Part)
 
--- The trees were opened as a store, on which the commands were played, each safely, and a stop of it leaves these others.
+-- The trees were opened as a store, the commands were played on it, each safely, and a stop of it leaves
+-- these other trees.
 pub record IsSession {S : Type 0} (g : Ghosts S) (tells : List (List ℕ) → List File → Outcome → Type 0) (found : Trees) (session : Session) (left : Trees) : Type 0 where
   pub from : Moment
   pub to : Moment
@@ -117,13 +119,14 @@ abbrev pub AreSessions : {S : Type 0} → Ghosts S → (List (List ℕ) → List
 AreSessions g tells found [] left = left ≡ found
 AreSessions g tells found (session ∷ sessions) left = (between : Trees) × IsSession g tells found session between × AreSessions g tells between sessions left
 
--- each session makes a first stretch of its commands, and one command more at most, of what the one before it made
+-- each session makes a first stretch of its commands, and at most one more, from what the one before it made
 abbrev pub AreLeftOf : Repository → List Session → Repository → Type 0
 AreLeftOf before [] left = left ≡ before
 AreLeftOf before (session ∷ sessions) left =
     (between : Repository) × IsLeftOf before session.commands session.replies session.answered between × AreLeftOf between sessions left
 
--- Opened again, the trees are a store of what the sessions make of this repository, and each answer that it remembers was told.
+-- Opened again, the trees are a store of what the sessions make of this repository, and each cached result of
+-- it was reported.
 pub record LeavesSessions (tells : List (List ℕ) → List File → Outcome → Type 0) (before : Repository) (sessions : List Session) (trees : Trees) : Type 0 where
   pub kept : Kept
   pub leaves : Leaves kept trees

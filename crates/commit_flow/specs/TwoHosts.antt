@@ -1,5 +1,5 @@
--- What laws on two hosts say: which replies the commands, the repository and the children leave no choice in, and what of a reply
--- speaks of what is remembered.
+-- What the laws on two hosts use: which replies leave no choice, given the commands, the repository and the
+-- children, and what in a reply depends on what is cached.
 use Rattle.std.specs.Prelude.{◌≡◌, ℕ, All, List, []}
 use Rattle.hook_base.specs.declared.file.File.{File}
 use Rattle.child_port.specs.declared.answer.Outcome.{Outcome}
@@ -17,8 +17,9 @@ use Rattle.commit_flow.specs.Plays.{IsPlay}
 
 -- ---- which replies leave no choice
 
--- The command wasn't refused for want of memory, by the store, since its configuration can't be read, by other contents under
--- the same digest, or for want of a number for a child; and the hooks behind a commit weren't stopped.
+-- The command wasn't refused by memory or the store. It wasn't refused for a configuration that can't be
+-- read, for other contents under the same digest, or because no more children can be counted. And the hooks
+-- after a commit weren't stopped.
 abbrev pub IsUnhindered : Reply → Type 0
 IsUnhindered (Refused OutOfMemory) = ⊥
 IsUnhindered (Refused (Store fault)) = ⊥
@@ -28,34 +29,34 @@ IsUnhindered (Refused Spent) = ⊥
 IsUnhindered (Committed number reports (Stopped refusal)) = ⊥
 IsUnhindered reply = Unit {0}
 
--- a run of the machine of which each part is one that the children may tell, and none is a fault
+-- a run of the machine; each part is one that the children may report, and none is a fault
 pub record IsUnhinderedRun (tells : List (List ℕ) → List File → Outcome → Type 0) (before : Repository) (commands : List Command) (replies : List Reply) (parts : List Part) (after : Repository) : Type 0 where
   pub run : IsMachineRun before commands replies parts after
   pub told : AllTold tells parts
   pub no_fault : faults_of parts ≡ 0
   pub unhindered : All IsUnhindered replies
 
--- The commands were played by a host that remembered at first what the children may tell, and between the two moments the
--- children counted no fault.
+-- The commands were played by a host. The children may report what it had cached at first, and they counted
+-- no fault between the two moments.
 pub record IsUnhinderedPlay (tells : List (List ℕ) → List File → Outcome → Type 0) (from to : Moment) (before : Repository) (commands : List Command) (replies : List Reply) (after : Repository) : Type 0 where
   pub play : IsPlay tells from to before commands replies after
   pub told : IsTold tells from.remembered
   pub no_fault : to.faults ≡ from.faults
   pub unhindered : All IsUnhindered replies
 
--- ---- what of a reply speaks of what is remembered
+-- ---- what in a reply depends on what is cached
 
--- how many answers were forgotten is left out
+-- how many results were forgotten is left out
 abbrev pub without_number : Reply → Reply
 without_number (Forgot number) = Forgot 0
 without_number reply = reply
 
--- and so are the ids of the hooks whose answer was another than the remembered one
+-- the ids of unsteady hooks are left out too
 abbrev pub without_memory : Reply → Reply
 without_memory (Ran passed report changes unsteady) = Ran passed report changes []
 without_memory reply = without_number reply
 
--- the answer of no hook was another than the remembered one
+-- no hook is unsteady: none gave another answer than the cached one
 abbrev pub IsSteady : Reply → Type 0
 IsSteady (Ran passed report changes unsteady) = unsteady ≡ []
 IsSteady reply = Unit {0}

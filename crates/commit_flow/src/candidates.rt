@@ -11,8 +11,8 @@ use repo_store::Store;
 use sqlite::Alter;
 use std::alloc::Global;
 
-/// The files that the hooks of a run may get, of those that are staged in the tree: for names, each of these in their order.
-/// `BadPath` and `NotStaged` for the first name that is no path or isn't staged, and `OutOfMemory` where memory is refused.
+/// The staged files that the hooks of a run may get; for names, each of these in their order. `BadPath` or
+/// `NotStaged` for the first name that is no path or isn't staged, and `OutOfMemory` if memory is refused.
 pub(crate) fn candidates<S: Alter>(
     alloc: Global,
     store: &Store<S>,
@@ -31,7 +31,8 @@ pub(crate) fn candidates<S: Alter>(
     }
 }
 
-/// The paths of the staged files that the last commit doesn't hold so. It fails for want of memory alone.
+/// The paths of the staged files that differ from the last commit (`pre_commit.git.get_staged_files`). It
+/// fails only for lack of memory.
 pub(crate) fn changed_paths<S: Alter>(
     alloc: Global,
     store: &Store<S>,
@@ -60,7 +61,7 @@ fn all_paths(alloc: Global, staged: &Tree) -> Result<Items<RepoPath>, OutOfMemor
     Ok(Items::from(paths))
 }
 
-// The names as paths, each of a staged file.
+// The names as paths. Each must be that of a staged file.
 fn named_paths<S: Alter>(
     alloc: Global,
     store: &Store<S>,
@@ -78,7 +79,7 @@ fn named_paths<S: Alter>(
     Ok(Items::from(paths))
 }
 
-// The path of a staged file.
+// The name as the path of a staged file.
 fn staged_path<S: Alter>(
     alloc: Global,
     store: &Store<S>,

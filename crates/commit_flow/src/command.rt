@@ -12,7 +12,7 @@ pub enum Command {
         path: Text,
         /// The file's bytes.
         bytes: Bytes,
-        /// The mode, or `None` for that of the staged file, and plain where none is staged.
+        /// The mode. With `None` it is that of the staged file, or plain if none is staged.
         mode: Option<Mode>,
     },
     /// [`Host::remove`](crate::Host::remove).
@@ -27,15 +27,15 @@ pub enum Command {
         /// What is asked of it.
         ask: HostAsk,
     },
-    /// A commit of the staged files, through its hooks.
+    /// [`Host::commit`](crate::Host::commit).
     Commit {
         /// The message, before any hook has seen it.
         message: Bytes,
-        /// Whether the hooks of `pre-commit` and `commit-msg` are left out.
+        /// Whether the hooks of `pre-commit` and `commit-msg` are bypassed (git-commit(1), "--no-verify").
         no_verify: bool,
         /// The ids and aliases of hooks that are skipped.
         skip: Items<Text>,
     },
-    /// All remembered answers are forgotten.
+    /// [`Host::forget`](crate::Host::forget).
     Forget,
 }

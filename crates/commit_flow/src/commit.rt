@@ -24,7 +24,7 @@ use repo_store::Store;
 use sqlite::Alter;
 use std::alloc::Global;
 
-/// What the stages before a commit came to, with the configuration that says which hooks they have.
+/// How the stages before a commit ended, with the configuration that says which hooks they have.
 #[derive(Drop)]
 pub(crate) struct Through {
     /// The staged configuration.
@@ -34,23 +34,33 @@ pub(crate) struct Through {
 }
 
 impl<S: Alter> Host<S> {
-    /// Commits the staged files, with the children's outcomes: through the hooks of `pre-commit`, `prepare-commit-msg` and
-    /// `commit-msg`, each stage on what the one before it left, and then the hooks of `post-commit`. Unverified, only those of
-    /// `prepare-commit-msg` come before the commit. The message is cleaned once the hooks before the commit are through. The
-    /// fixes are forgotten, and what the hooks did to files is dropped. Where a hook before the commit fails, no commit is made,
-    /// and the fixes are what the hooks did to the staged files. Where the run of the hooks behind the commit is refused, the
-    /// answer says so, and the commit stands.
+    /// Commits the staged files, with the children's outcomes. The hooks of `pre-commit`,
+    /// `prepare-commit-msg` and `commit-msg` are run, each stage on what the one before it left, and then
+    /// those of `post-commit` (githooks(5)). With `no_verify` only those of `prepare-commit-msg` are run
+    /// before the commit (git-commit(1), "--no-verify"). The message is cleaned once the hooks before the
+    /// commit are through. A commit removes the fixes, and what the hooks did to files is dropped.
     ///
-    /// Refused are, in this order, a message of more than 16 MiB (`TooLarge`), staged files that are those of the last commit
-    /// (`NothingStaged`), that no configuration is staged (`NoConfig`), and that it can't be read (`BadConfig`); no child is
-    /// started then. `Spent` comes where a child is needed and the children have told as many outcomes as can be counted. Behind
-    /// the hooks come, in this order, a cleaned message that is empty (`EmptyMessage`), one of more than 16 MiB (`Store`), and
-    /// more than 100,000 commits (`TooMany`); where a hook failed, fixes whose contents have the digest of others
-    /// (`Collision`), and fixes of more than 16 MiB (`Store`). `Store` comes also where the database refuses a commit that none
-    /// of these speaks against, or fixes, and both come where the store can't look an answer up, which notes its use, or remember it;
-    /// `OutOfMemory` comes where memory is refused. A refusal leaves the repository as it was, the children with the outcomes that they have told, and what was
-    /// remembered by then. No stage is run afresh: where the answer to a child is remembered, none is started, behind the commit
-    /// too.
+    /// If a hook before the commit fails, no commit is made, and the fixes are what the hooks did to the
+    /// staged files. If the run of the hooks after the commit is refused, the answer says so, and the commit
+    /// remains.
+    ///
+    /// Refusals come in this order:
+    ///
+    /// - before any child is started: a message of more than 16 MiB (`TooLarge`), staged files that are those
+    ///   of the last commit (`NothingStaged`), no staged configuration (`NoConfig`), and one that can't be
+    ///   read (`BadConfig`);
+    /// - while hooks run: `Spent` if a child is needed and the children have reported as many outcomes as can
+    ///   be counted; `Collision` or `Store` if the store can't cache an answer or look one up, which notes
+    ///   its use;
+    /// - after hooks that passed: a cleaned message that is empty (`EmptyMessage`), one of more than 16 MiB
+    ///   (`Store`), and one commit more than 100,000 (`TooMany`);
+    /// - after a hook that failed: fixes whose contents have the digest of others (`Collision`), and fixes of
+    ///   more than 16 MiB (`Store`).
+    ///
+    /// `Store` comes also if the database refuses a commit or fixes against which none of these speaks.
+    /// `OutOfMemory` comes if memory is refused. A refusal leaves the repository as it was, the children with
+    /// the outcomes that they have reported, and what was cached by then. Every stage uses cached results,
+    /// also the one after the commit: if the answer of a child is cached, none is started.
     pub fn commit<C: Children>(
         &mut self,
         alloc: Global,

@@ -20,15 +20,15 @@ use std::alloc::Global;
 pub(crate) struct CommitBegun {
     /// The staged configuration.
     pub(crate) config: Config,
-    /// The paths of the staged files that the last commit doesn't hold so.
+    /// The paths of the staged files that differ from the last commit.
     pub(crate) changed: Items<RepoPath>,
-    /// What is passed to the first stage.
+    /// What the first stage gets.
     pub(crate) course: Course,
 }
 
-/// Begins a commit. Refused are, in this order, a message of more than 16 MiB (`TooLarge`), staged files that are those of the
-/// last commit (`NothingStaged`), that no configuration is staged (`NoConfig`), and that it can't be read (`BadConfig`);
-/// `OutOfMemory` comes where memory is refused.
+/// Begins a commit. First a message of more than 16 MiB is refused (`TooLarge`), then staged files that are
+/// those of the last commit (`NothingStaged`). Then comes `NoConfig` if no configuration is staged, and
+/// `BadConfig` if it can't be read. `OutOfMemory` comes if memory is refused.
 pub(crate) fn begin_commit<S: Alter>(
     alloc: Global,
     store: &Store<S>,

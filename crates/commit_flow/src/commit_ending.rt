@@ -30,7 +30,7 @@ pub enum CommitEnding {
         number: u32,
         /// The reports of the stages before the commit, in order.
         reports: Items<Bytes>,
-        /// What became of the hooks behind the commit.
+        /// What became of the hooks after the commit.
         post: PostCommit,
     },
     /// A hook failed before the commit, which wasn't made.
@@ -42,9 +42,9 @@ pub enum CommitEnding {
     },
 }
 
-/// Sets the fixes to what became of the staged files in the tree. `Collision` where the contents of a fix have the digest of
-/// others, `Store` where the database refuses or a fix has more than 16 MiB, and `OutOfMemory` where memory is refused. A
-/// refusal leaves the store as it was.
+/// Sets the fixes to what became of the staged files in the tree. `Collision` comes if the contents of a fix
+/// have the digest of others. `Store` comes if the database refuses or a fix has more than 16 MiB, and
+/// `OutOfMemory` if memory is refused. A refusal leaves the store as it was.
 pub(crate) fn set_fixes_to<S: Alter>(store: &mut Store<S>, tree: &Tree) -> Result<(), HostRefusal>
     ensures refused { IfErr result (IsUnfixed store.old.kept.contents (changes_between store.old.kept.repo.staged tree.now)) }
     ensures change { IsAllOrNothing store.old.kept store.new.kept result (setting (changes_between store.old.kept.repo.staged tree.now) store.old.kept) }
@@ -56,7 +56,8 @@ pub(crate) fn set_fixes_to<S: Alter>(store: &mut Store<S>, tree: &Tree) -> Resul
     Ok(())
 }
 
-/// Runs the hooks behind a commit on the staged files, without any that they may get. What they do to files is dropped.
+/// Runs the hooks after a commit on the staged files; they get no names. What they do to files is dropped,
+/// and they can't affect the commit (githooks(5), "post-commit").
 pub(crate) fn run_post_commit<C: Children, S: Alter>(
     alloc: Global,
     children: &mut C,

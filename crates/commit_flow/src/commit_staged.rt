@@ -13,10 +13,11 @@ use repo_store::{MOST_COMMITS, MOST_CONTENT_BYTES, Store, StoreFault};
 use sqlite::Alter;
 use std::alloc::Global;
 
-/// Commits the staged files with the message, once this is cleaned, and answers the commit's number. Refused are, in this
-/// order, a cleaned message that is empty (`EmptyMessage`), one of more than 16 MiB (`Store`), and more than 100,000 commits
-/// (`TooMany`); the database is asked behind these, and `Store` comes where it refuses. `OutOfMemory` comes where memory is
-/// refused. A refusal leaves the store as it was.
+/// Commits the staged files with the message, once this is cleaned, and answers the commit's number. It is
+/// refused, in this order, if the cleaned message is empty (`EmptyMessage`) or has more than 16 MiB
+/// (`Store`), and if there are 100,000 commits already (`TooMany`). The database is asked after these, and
+/// `Store` comes if it refuses. `OutOfMemory` comes if memory is refused. A refusal leaves the store as it
+/// was.
 pub(crate) fn commit_staged<S: Alter>(
     alloc: Global,
     store: &mut Store<S>,
@@ -35,7 +36,8 @@ pub(crate) fn commit_staged<S: Alter>(
     Ok(number)
 }
 
-// The store would refuse the last two itself, but its contract doesn't say that it does so before the database.
+// The store itself would refuse the last two, but its contract doesn't say that it does so before it asks the
+// database.
 fn check_cleaned<S: Alter>(store: &Store<S>, cleaned: &[u8]) -> Result<(), HostRefusal>
     ensures able { OnOk result (MayCommit store.now.kept.repo cleaned.now) }
     ensures refused { IfErr result (IsUncommitted store.now.kept.repo cleaned.now) }

@@ -24,13 +24,13 @@ use std::alloc::Global;
 pub(crate) struct StageEnd {
     /// Whether no hook failed.
     pub(crate) passed: bool,
-    /// What is reported of the hooks.
+    /// The report on the hooks.
     pub(crate) report: Bytes,
     /// What is passed on.
     pub(crate) course: Course,
 }
 
-/// How the stages before a commit ended, with what is reported of those that were run.
+/// How the stages before a commit ended, with the reports of those that were run.
 #[derive(Drop)]
 pub(crate) enum StagesEnd {
     /// No hook failed, and the last stage passes this on.
@@ -51,7 +51,8 @@ pub(crate) enum StagesEnd {
     },
 }
 
-/// The stages before a commit, in order.
+/// The stages before a commit, in order. `prepare-commit-msg` isn't suppressed by `--no-verify`, and the
+/// other two are (githooks(5), "prepare-commit-msg"; git-commit(1), "--no-verify").
 pub(crate) fn stages_before_commit(no_verify: bool) -> &'static [Stage]
     ensures { result.now ≡ stages_before_commit no_verify }
 {
@@ -62,7 +63,8 @@ pub(crate) fn stages_before_commit(no_verify: bool) -> &'static [Stage]
     }
 }
 
-/// Runs the hooks of the stages in order, each on what the one before it passes on, up to the first in which a hook fails.
+/// Runs the hooks of the stages in order, each on what the one before it passes on, up to the first in which
+/// a hook fails.
 pub(crate) fn run_stages<C: Children, B: Book>(
     alloc: Global,
     children: &mut C,
@@ -111,7 +113,7 @@ fn add_report(reports: &mut Vec<Bytes>, report: Bytes) -> Result<(), OutOfMemory
     Ok(())
 }
 
-// Runs the hooks of a stage on what is passed to it.
+// Runs the hooks of a stage on what it gets.
 fn run_stage<C: Children, B: Book>(
     alloc: Global,
     children: &mut C,
@@ -194,6 +196,7 @@ fn ask_in(
     })
 }
 
+// The files that the hooks of a stage may get (`pre_commit.commands.run._all_filenames`).
 fn candidates_in(
     alloc: Global,
     changed: &[RepoPath],

@@ -1,4 +1,4 @@
-//! The configuration that is staged.
+//! Reads the configuration that is staged.
 
 ghost use Rattle.std.specs.Prelude.{◌≡◌, IfOk, IfErr};
 ghost use Rattle.commit_flow.specs.Configured.{IsConfigured, config_path};
@@ -11,8 +11,8 @@ use repo_store::Store;
 use sqlite::Alter;
 use std::alloc::Global;
 
-/// The staged configuration. `NoConfig` where none is staged, `BadConfig` where it can't be read, and `OutOfMemory` where
-/// memory is refused.
+/// The staged configuration. `NoConfig` if none is staged, `BadConfig` if it can't be read, and `OutOfMemory`
+/// if memory is refused.
 pub(crate) fn staged_config<S: Alter>(
     alloc: Global,
     store: &Store<S>,
@@ -28,7 +28,7 @@ pub(crate) fn staged_config<S: Alter>(
     Ok(config)
 }
 
-// Where the configuration is staged. It fails for want of memory alone.
+// The path of the configuration (`pre_commit.constants.CONFIG_FILE`). It fails only for lack of memory.
 fn config_path(alloc: Global) -> Result<RepoPath, OutOfMemory>
     ensures { IfOk result (λ path. path ≡ config_path) }
 {

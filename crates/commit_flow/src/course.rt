@@ -16,7 +16,8 @@ pub(crate) struct Course {
 }
 
 impl Course {
-    /// The course as a stage begins: where the stage is about the message, this is a file of the tree.
+    /// The course when a stage begins. In the two stages about the message, the message is a file of the
+    /// tree.
     pub(crate) fn into_stage(self, alloc: Global, stage: Stage) -> Result<Course, OutOfMemory>
         ensures tree { IfOk result (λ begun. begun.tree ≡ tree_in stage self) }
         ensures after { IfOk result (λ begun. (tree : List File) → course_after stage begun tree ≡ course_after stage self tree) }
@@ -28,7 +29,7 @@ impl Course {
         }
     }
 
-    /// The course as a stage passes it on that has left this tree.
+    /// The course after a stage that has left this tree.
     pub(crate) fn after_stage(
         self,
         alloc: Global,
@@ -62,7 +63,8 @@ impl Course {
     }
 }
 
-// The files of a tree without that of the message, and the message that stood there; it is empty where none did.
+// The files of a tree without the message's file, and the message that was in it. The message is empty if
+// there was no such file.
 fn without_message_file(alloc: Global, tree: Tree) -> Result<Course, OutOfMemory>
     ensures { IfOk result (λ course. course ≡ without_message_file tree) }
 {

@@ -1,4 +1,4 @@
-//! A run of hooks over children and what is remembered of them.
+//! A run of hooks over children and their cached results.
 
 ghost use Rattle.hook_run.specs.Moments.{moment};
 ghost use Rattle.commit_flow.specs.Preparations.{HaveRun, HaveRunCounted, HaveStopped, LeavesTold};
@@ -12,8 +12,9 @@ use hook_run::{HooksRun, RunAsk, RunOut, RunRefusal, run_hooks};
 use result_book::Book;
 use std::alloc::Global;
 
-/// Runs hooks on the files of the tree, with what the book remembers and the children's outcomes, as [`run_hooks`] does. A refusal
-/// leaves the children with the outcomes that they have told, and the book with what was put and used by then.
+/// Runs hooks on the files of the tree, with the results that the book caches and the children's outcomes, as
+/// [`run_hooks`] does. A refusal leaves the children with the outcomes that they have reported, and the book
+/// with what was put and used by then.
 pub(crate) fn run_counted<C: Children, B: Book>(
     alloc: Global,
     children: &mut C,
@@ -31,7 +32,7 @@ pub(crate) fn run_counted<C: Children, B: Book>(
     run_hooks(alloc, children, book, config, ask, tree)
 }
 
-/// The same, without how many commands were answered from the book.
+/// The same, without the number of commands that used a cached result.
 pub(crate) fn run_with_book<C: Children, B: Book>(
     alloc: Global,
     children: &mut C,

@@ -1,5 +1,5 @@
-//! The commands of a host that run no hooks. Each looks for what the host itself refuses, in a fixed order, and then makes at most
-//! one call that changes the store.
+//! The commands of a host that run no hooks. Each looks for what the host itself refuses, in a fixed order,
+//! and then makes at most one call that changes the store.
 
 ghost use Rattle.std.specs.Prelude.{◌≡◌, ◌≢◌, ◌↔◌, ◌≤◌, [], IsTrue, IfOk, IfErr, IfSome, MatchOption, OnOk, OnErr, option_map};
 ghost use Rattle.hook_base.specs.Trees.{IsRising, IsRisingChanges, entry_of};
@@ -30,13 +30,13 @@ use result_book::Book;
 use sqlite::Alter;
 use std::alloc::Global;
 
-/// The host of a repository and of the remembered answers of children, which both stand in a store. Each command changes the
-/// repository as a whole or not at all, whatever stops it.
+/// The host of a repository and of the cached results of children; a store keeps both. Each command changes
+/// the repository as a whole or not at all, whatever stops it.
 pub struct Host<S: Alter> {
     pub(crate) store: Store<S>,
 }
 
-// It is written out, so that a caller doesn't prove again how each part is dropped.
+// Written out, so that a caller doesn't prove again how each part is dropped.
 impl<S: Alter + Drop> Drop for Host<S> {
     fn drop(self) {
         let Host { store: _ } = self;
@@ -44,7 +44,7 @@ impl<S: Alter + Drop> Drop for Host<S> {
 }
 
 impl<S: Alter> Host<S> {
-    /// The host of the repository in a store, which remembers what the store does. It takes no memory.
+    /// The host of the repository in a store. Its cached results are those of the store. It takes no memory.
     pub fn over(store: Store<S>) -> Host<S>
         ensures { result ≡ record { store = store } }
     {
@@ -66,11 +66,17 @@ impl<S: Alter> Host<S> {
         &self.store
     }
 
-    /// Stages a file, in place of the one at its path, and forgets the fixes. Without a mode the file keeps that of the one
-    /// that is staged at its path, and is plain where none is. Refused are, in this order, a text that is no path (`BadPath`),
-    /// more than 16 MiB (`TooLarge`), a path and a staged one of which one is a folder of the other (`Clash`), a staged tree of
-    /// more than 100,000 files or 8 MiB of paths (`TooMany`), and contents whose digest is that of others (`Collision`);
-    /// `OutOfMemory` and `Store` come where memory or the database refuses. A refusal leaves the repository as it was.
+    /// Stages a file, in place of the one at its path, and removes the fixes. Without a mode the file keeps
+    /// that of the staged file at its path, and is plain if there is none. It is refused, in this order, for
+    ///
+    /// - a text that is no path (`BadPath`),
+    /// - more than 16 MiB (`TooLarge`),
+    /// - a path that is a folder of a staged one, or lies in a staged one (`Clash`),
+    /// - a staged tree of more than 100,000 files or 8 MiB of paths (`TooMany`),
+    /// - contents whose digest is that of others (`Collision`).
+    ///
+    /// `OutOfMemory` and `Store` come if memory or the database refuses. A refusal leaves the repository as
+    /// it was.
     pub fn add(
         &mut self,
         alloc: Global,
@@ -90,9 +96,9 @@ impl<S: Alter> Host<S> {
         Ok(())
     }
 
-    /// Takes a path out of the staged files, and forgets the fixes. Refused are, in this order, a text that is no path
-    /// (`BadPath`) and a path that isn't staged (`NotStaged`); `OutOfMemory` and `Store` come where memory or the database
-    /// refuses. A refusal leaves the repository as it was.
+    /// Removes a path from the staged files, and removes the fixes. It is refused, in this order, for a text
+    /// that is no path (`BadPath`) and a path that isn't staged (`NotStaged`). `OutOfMemory` and `Store` come
+    /// if memory or the database refuses. A refusal leaves the repository as it was.
     pub fn remove(&mut self, alloc: Global, path: &str) -> Result<(), HostRefusal>
         ensures step { Step self.old.store.kept.repo (Remove path.now) (reply_of (λ _. Removed) result) [] self.new.store.kept.repo }
         ensures change { IsAllOrNothing self.old.store.kept self.new.store.kept result (unstaging path.now self.old.store.kept) }
@@ -103,10 +109,13 @@ impl<S: Alter> Host<S> {
         Ok(())
     }
 
-    /// Makes several changes of the staged files, each of what those before it left, and forgets the fixes: all of them, or none.
-    /// There must be one at least. The refusal is that of the first change that is refused, as [`Host::add`] or [`Host::remove`]
-    /// would give it, with the change's index; `OutOfMemory` may come at a change too, and it and `Store` without an index where
-    /// memory or the database refuses all together. A refusal leaves the repository as it was.
+    /// Makes several changes of the staged files, each on what those before it left, and removes the fixes:
+    /// all of them, or none. There must be at least one.
+    ///
+    /// The refusal is that of the first refused change, as [`Host::add`] or [`Host::remove`] would give it,
+    /// with the change's index. `OutOfMemory` may come at a change too. `OutOfMemory` and `Store` come
+    /// without an index if memory or the database refuses all together. A refusal leaves the repository as it
+    /// was.
     pub fn stage_all(&mut self, edits: &[StagingEdit]) -> Result<(), StagingStop>
         requires { edits.now ≢ [] }
         ensures change { IsAllOrNothing self.old.store.kept self.new.store.kept result (all_edited edits.now self.old.store.kept) }
@@ -120,9 +129,9 @@ impl<S: Alter> Host<S> {
         Ok(())
     }
 
-    /// Applies the fixes to the staged files, forgets them, and answers how many there were. `NoFixes` is refused where there
-    /// are none; else `OutOfMemory` and `Store` come where memory or the database refuses. A refusal leaves the repository as
-    /// it was.
+    /// Applies the fixes to the staged files, removes them, and answers how many there were. `NoFixes` comes
+    /// if there are none. Otherwise `OutOfMemory` and `Store` come if memory or the database refuses. A
+    /// refusal leaves the repository as it was.
     pub fn accept(&mut self) -> Result<u32, HostRefusal>
         ensures step { Step self.old.store.kept.repo Accept (reply_of Accepted result) [] self.new.store.kept.repo }
         ensures change { IsAllOrNothing self.old.store.kept self.new.store.kept result (accepting self.old.store.kept) }
@@ -135,9 +144,9 @@ impl<S: Alter> Host<S> {
         Ok(number)
     }
 
-    /// Forgets all remembered answers, and answers how many there were. Their contents stay in the store. `OutOfMemory` comes where
-    /// memory is refused, and `Store` where the database refuses. A refusal leaves what is remembered as it was, and the repository
-    /// stays in any case.
+    /// Removes all cached results, and answers how many there were. Their contents stay in the store.
+    /// `OutOfMemory` comes if memory is refused, and `Store` if the database refuses. A refusal leaves what
+    /// is cached as it was. The repository stays in any case.
     pub fn forget(&mut self) -> Result<u64, HostRefusal>
         ensures step { Step self.old.store.kept.repo Forget (reply_of Forgot result) [] self.new.store.kept.repo }
         ensures change { IsAllOrNothing self.old.store.kept self.new.store.kept result (forgetting self.old.store.kept) }
@@ -149,14 +158,14 @@ impl<S: Alter> Host<S> {
         Ok(self.store.answers_forget()?)
     }
 
-    /// How many answers are remembered. It takes no memory.
+    /// How many results are cached. It takes no memory.
     pub fn remembered(&self) -> u64
         ensures { result ≡ count_of (remembered_by self.now.store.kept) }
     {
         self.store.len()
     }
 
-    /// How many answers are remembered at most: from 1 to 100,000. It takes no memory.
+    /// How many results are cached at most: from 1 to 100,000. It takes no memory.
     pub fn limit(&self) -> u32
         ensures limit { result ≡ (remembered_by self.now.store.kept).limit }
         ensures within { IsLimit (remembered_by self.now.store.kept).limit }
@@ -165,10 +174,12 @@ impl<S: Alter> Host<S> {
         self.store.answer_limit()
     }
 
-    /// Sets how many answers are remembered at most, which must be from 1 to 100,000, and answers how many are left. Where more are
-    /// remembered, those that were used least lately go; their contents stay in the store. It is one transaction, also where the limit
-    /// is this one already. `OutOfMemory` comes where memory is refused, and `Store` where the database refuses. A refusal leaves
-    /// what is remembered and the limit as they were, and the repository stays in any case.
+    /// Sets how many results are cached at most, which must be from 1 to 100,000, and answers how many are
+    /// left. If more are cached, the least recently used are removed; their contents stay in the store. It is
+    /// one transaction, even if this is the limit already.
+    ///
+    /// `OutOfMemory` comes if memory is refused, and `Store` if the database refuses. A refusal leaves what
+    /// is cached and the limit as they were. The repository stays in any case.
     pub fn set_limit(&mut self, limit: u32) -> Result<u64, HostRefusal>
         requires { IsLimit limit }
         ensures change { IsAllOrNothing self.old.store.kept self.new.store.kept result (limiting limit self.old.store.kept) }
@@ -182,7 +193,7 @@ impl<S: Alter> Host<S> {
         Ok(self.store.len())
     }
 
-    /// The staged files. It fails for want of memory alone.
+    /// The staged files. It fails only for lack of memory.
     pub fn staged(&self) -> Result<Tree, OutOfMemory>
         ensures tree { IfOk result (λ tree. tree ≡ self.now.store.kept.repo.staged) }
         ensures rising { IsRising self.now.store.kept.repo.staged }
@@ -190,7 +201,8 @@ impl<S: Alter> Host<S> {
         self.store.staged()
     }
 
-    /// The files of the last commit, and an empty tree where there is no commit. It fails for want of memory alone.
+    /// The files of the last commit, or an empty tree if there is no commit. It fails only for lack of
+    /// memory.
     pub fn head(&self) -> Result<Tree, OutOfMemory>
         ensures tree { IfOk result (λ tree. tree ≡ last_tree self.now.store.kept.repo.history) }
         ensures rising { IsRising (last_tree self.now.store.kept.repo.history) }
@@ -198,7 +210,7 @@ impl<S: Alter> Host<S> {
         self.store.head()
     }
 
-    /// The fixes, in the order of their paths. It fails for want of memory alone.
+    /// The fixes, in the order of their paths. It fails only for lack of memory.
     pub fn fixes(&self) -> Result<Vec<Change>, OutOfMemory>
         ensures fixes { IfOk result (λ fixes. fixes.items ≡ self.now.store.kept.repo.fixes) }
         ensures rising { IsRisingChanges self.now.store.kept.repo.fixes }
@@ -206,14 +218,14 @@ impl<S: Alter> Host<S> {
         self.store.fixes()
     }
 
-    /// The commits with their numbers, the oldest first. It fails for want of memory alone.
+    /// The commits with their numbers, the oldest first. It fails only for lack of memory.
     pub fn log(&self) -> Result<Vec<LogEntry>, OutOfMemory>
         ensures { IfOk result (λ log. log.items ≡ log_from 1 self.now.store.kept.repo.history) }
     {
         self.store.log()
     }
 
-    /// The files of a commit, or none where no commit has the number. It fails for want of memory alone.
+    /// The files of a commit, or `None` if no commit has the number. It fails only for lack of memory.
     pub fn tree_of(&self, number: u32) -> Result<Option<Tree>, OutOfMemory>
         ensures tree { IfOk result (λ tree. tree ≡ option_map (λ (commit : Commit). commit.tree) (commit_at number self.now.store.kept.repo.history)) }
         ensures rising { IfOk result (λ tree. IfSome tree IsRising) }
@@ -227,7 +239,7 @@ impl<S: Alter> Host<S> {
         self.store.count_fixes() == 0
     }
 
-    // The path of a file that may be added, the limits of the staged files aside.
+    // The path of a file that may be added. The limits of the staged files aren't checked here.
     fn addable(&self, alloc: Global, path: &str, bytes: &[u8]) -> Result<RepoPath, HostRefusal>
         ensures same { IfOk result (λ taken. taken ≡ path.now) }
         ensures addable { OnOk result (IsAddable self.now.store.kept.repo path.now bytes.now) }
@@ -243,7 +255,7 @@ impl<S: Alter> Host<S> {
         Ok(path)
     }
 
-    // The mode that is asked for, else that of the file that is staged at the path, else plain.
+    // The mode that is asked for; otherwise that of the staged file at the path; otherwise plain.
     fn mode_to_add(&self, path: &RepoPath, asked: Option<Mode>) -> Mode
         ensures { result ≡ mode_to_add asked (entry_of path.now self.now.store.kept.repo.staged) }
     {
@@ -253,7 +265,7 @@ impl<S: Alter> Host<S> {
         }
     }
 
-    // The path of a staged file.
+    // The path of a staged file, which may be removed.
     fn removable(&self, alloc: Global, path: &str) -> Result<RepoPath, HostRefusal>
         ensures same { IfOk result (λ taken. taken ≡ path.now) }
         ensures removable { OnOk result (IsLegal path.now × IsStaged path.now self.now.store.kept.repo) }

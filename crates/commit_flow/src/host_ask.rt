@@ -14,21 +14,21 @@ pub struct HostAsk {
     pub stage: AskStage,
     /// The ids and aliases of hooks that are skipped.
     pub skip: Items<Text>,
-    /// Whether every child is to be started, also where its answer is remembered.
+    /// Whether every child is to be started, even if its answer is cached.
     pub fresh: bool,
-    /// What is made of the staged configuration. Where the run is cautious, no failure comes from what is remembered: only an answer
-    /// that passed serves.
+    /// How the staged configuration is changed. In a cautious run no failure comes from the cache: only an
+    /// answer that passed may be used.
     pub options: RunOptions,
 }
 
 /// The staged files that the hooks of a run may get.
 #[derive(Debug, Drop)]
 pub enum Which {
-    /// Those that the last commit doesn't hold so.
+    /// Those that differ from the last commit.
     Changed,
     /// All of them.
     All,
-    /// These, as texts that needn't be paths.
+    /// Those with these names, which are texts that needn't be paths.
     Named(Items<Text>),
 }
 
@@ -37,6 +37,6 @@ pub enum Which {
 pub enum AskStage {
     /// The hooks that run before a commit.
     PreCommit,
-    /// The hooks that run only where they are asked for.
+    /// The hooks that run only on request.
     Manual,
 }

@@ -12,14 +12,16 @@ use result_book::BookFault;
 use std::alloc::AllocFailed;
 use thiserror::Error;
 
-/// Why a command of a host is refused. The commits, the staged files and the fixes are as before the command. Where a fault
-/// of the disk has shut the store, and after a crash, its file holds what stood before or all that the command makes.
+/// Why a command of a host is refused. The commits, the staged files and the fixes are as before the command.
+/// After a crash, or if a fault of the disk has shut the store, its file holds all that was there before, or
+/// all that the command makes.
 #[derive(Clone, Copy, Debug, PartialEq, Eq, Error)]
 pub enum HostRefusal {
-    /// Memory was refused, by whatever part of the program.
+    /// Memory was refused, in whatever part of the program.
     #[error("out of memory")]
     OutOfMemory,
-    /// The store refuses, for another reason than want of memory, a collision or too many commits, files or paths.
+    /// The store refuses, for another reason than lack of memory, a collision, or too many commits, files or
+    /// paths.
     #[error("the store refuses: {0}")]
     Store(StoreFault),
     /// A text is no path inside a repository.
@@ -40,22 +42,24 @@ pub enum HostRefusal {
     /// The staged configuration can't be read.
     #[error("the configuration is refused: {0}")]
     BadConfig(ConfigFault),
-    /// Hooks are asked for by a name that no hook of the stage has.
+    /// The run asks for a name that no hook of the stage has.
     #[error("no hook of the stage has that id or alias")]
     NoSuchHook,
-    /// The staged files are those of the last commit, or none before the first.
+    /// The staged files are those of the last commit, or there are none before the first. Git prevents such a
+    /// commit too (git-commit(1), "--allow-empty").
     #[error("nothing is staged that is not committed")]
     NothingStaged,
     /// There are no fixes to accept.
     #[error("there are no fixes")]
     NoFixes,
-    /// The message of a commit is empty once it is cleaned.
+    /// The message of a commit is empty once it is cleaned. Git prevents such a commit too (git-commit(1),
+    /// "--allow-empty-message").
     #[error("the message is empty")]
     EmptyMessage,
     /// Other contents are kept under the same digest.
     #[error("other contents have the same digest")]
     Collision,
-    /// A child is needed, and the children have told as many outcomes as can be counted.
+    /// A child is needed, and the children have reported as many outcomes as can be counted, 2^64 - 1.
     #[error("no more children can be counted")]
     Spent,
     /// A staged path is a folder of the new path, or the new path a folder of a staged one.
@@ -64,7 +68,7 @@ pub enum HostRefusal {
 }
 
 impl HostRefusal {
-    /// The refusal's number, from 1 to 15.
+    /// The refusal's number, from 1 to 15 (docs/REFERENCE.md, "The host of a repository").
     pub fn number(&self) -> u8
         ensures { result ≡ number_of self.now }
     {
@@ -110,8 +114,8 @@ impl HostRefusal {
         }
     }
 
-    /// The number of the fault of a store, a path or a configuration that the refusal hands on, among those of its kind:
-    /// it is printed after the name. `None` for the other refusals.
+    /// The number of the cause in a refusal of a store, a path or a configuration, among the faults of its
+    /// kind. It is printed after the name. `None` for the other refusals.
     pub fn inner_number(&self) -> Option<u8>
         ensures { result ≡ inner_number_of self.now }
     {
@@ -146,7 +150,7 @@ impl From<PathFault> for HostRefusal {
 
     ghost from_gives = { λ fault refusal. refusal ≡ of_path fault };
 
-    /// Want of memory is `OutOfMemory`, and every other fault `BadPath`.
+    /// Lack of memory is `OutOfMemory`, and every other fault `BadPath`.
     fn from(fault: PathFault) -> Self {
         match fault {
             PathFault::OutOfMemory => HostRefusal::OutOfMemory,
@@ -161,8 +165,8 @@ impl From<StoreFault> for HostRefusal {
 
     ghost from_gives = { λ fault refusal. refusal ≡ of_store fault };
 
-    /// Want of memory, a collision and too many commits, files or paths are the host's own refusals, and every other
-    /// fault is `Store`.
+    /// Lack of memory, a collision, and too many commits, files or paths are refusals of the host itself.
+    /// Every other fault is `Store`.
     fn from(fault: StoreFault) -> Self {
         match fault {
             StoreFault::OutOfMemory => HostRefusal::OutOfMemory,
@@ -179,7 +183,7 @@ impl From<StagingFault> for HostRefusal {
 
     ghost from_gives = { λ fault refusal. refusal ≡ of_staging fault };
 
-    /// A change of the staged files is refused as the command is that makes it alone.
+    /// A change of the staged files is refused in the same way as the command that makes only this change.
     fn from(fault: StagingFault) -> Self {
         match fault {
             StagingFault::BadPath(fault) => HostRefusal::BadPath(fault),
@@ -197,7 +201,7 @@ impl From<ConfigFault> for HostRefusal {
 
     ghost from_gives = { λ fault refusal. refusal ≡ of_config fault };
 
-    /// Want of memory is `OutOfMemory`, and every other fault `BadConfig`.
+    /// Lack of memory is `OutOfMemory`, and every other fault `BadConfig`.
     fn from(fault: ConfigFault) -> Self {
         match fault.kind {
             ConfigKind::OutOfMemory => HostRefusal::OutOfMemory,
@@ -212,7 +216,7 @@ impl From<BookFault> for HostRefusal {
 
     ghost from_gives = { λ fault refusal. refusal ≡ of_book fault };
 
-    /// Want of memory is `OutOfMemory`, and a fault of the store what it is elsewhere.
+    /// Lack of memory is `OutOfMemory`. A fault of the store becomes the same refusal as in other commands.
     fn from(fault: BookFault) -> Self {
         match fault {
             BookFault::OutOfMemory => HostRefusal::OutOfMemory,
@@ -227,7 +231,8 @@ impl From<RunRefusal> for HostRefusal {
 
     ghost from_gives = { λ refused refusal. refusal ≡ of_run refused };
 
-    /// Why hooks are stopped is the host's own refusal, and a fault of the remembered answers what it is elsewhere.
+    /// What stops hooks is a refusal of the host itself. A fault of the book becomes the same refusal as in
+    /// other commands.
     fn from(refused: RunRefusal) -> Self {
         match refused {
             RunRefusal::OutOfMemory => HostRefusal::OutOfMemory,

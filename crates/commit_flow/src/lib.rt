@@ -1,23 +1,34 @@
-//! The host of a repository: the commands by which files are staged, and what each answers.
+//! The host of a repository: the commands that stage files, run hooks and commit, and what each answers.
 //!
-//! A [`Host`] works on a store, which keeps the repository and remembers what children answered, up to a limit; runs and commits
-//! look that up and have more remembered. A [`HostAsk`] says what is asked of a run of hooks on the staged files, and a [`StagedRun`] what it
-//! gave; a [`CommitEnding`] says how a commit through its hooks ended. A [`HostRefusal`] says why a command is refused;
-//! [`Command`] and [`Reply`] are the commands and their answers as values. Several changes of the staged files are made at once by
-//! [`StagingEdit`]s, and a [`StagingStop`] says which of them is refused.
+//! A [`Host`] works on a store, which keeps the repository and caches what children answered, up to a limit.
+//! Runs and commits use these cached results and add to them. A [`HostAsk`] says what is asked of a run of
+//! hooks on the staged files, and a [`StagedRun`] what it gave. A [`CommitEnding`] says how a commit through
+//! its hooks ended. A [`HostRefusal`] says why a command is refused. [`Command`] and [`Reply`] are the
+//! commands and their answers as values. A list of [`StagingEdit`]s makes several changes of the staged files
+//! at once, and a [`StagingStop`] says which of them is refused.
 //!
-//! The contracts cite `Step` of `specs/Steps.antt` (what each command may answer, and what it makes of the repository),
-//! `specs/Commands.antt` (the reply that a call's answer is), `specs/AnswerLimits.antt` (what a new limit makes of what is remembered), `IsOneCommand` and `IsPlayedSafely` of `specs/Stops.antt` (what a
-//! stop leaves), `specs/EditSteps.antt` (several changes as steps, and at which they are refused), `IsRunStep` and
-//! `IsStoppedStep` of `specs/RunSteps.antt` and `IsCommitStep` of `specs/CommitSteps.antt` (how a run and a commit stand to
-//! what was remembered and what children told), `specs/Runs.antt`, `specs/Commits.antt` and `specs/CommitStages.antt` (the
-//! cases of runs and of commits, and the stages of these), `specs/KeptByHooks.antt` (what runs and commits make of what is
-//! kept), `specs/Messages.antt` (how the message of a commit is cleaned) and `specs/Refusals.antt`; of the repository, its
-//! files and what is remembered they cite definitions of `repo_store`, `hook_base` and `result_book`. [`Host::play`] makes a
-//! list of commands, and its contract cites `specs/Plays.antt` (a run of the machine of `Step`, and what it makes of the
-//! children's counts and of what is remembered) and `specs/StoppedPlays.antt` (what a stop leaves of the list).
-//! `specs/Preparations.antt` and `specs/CommitCalls.antt` serve private functions alone. [`laws`] says that a step has one
-//! answer at most, and what follows for a list of commands, stopped and gone on with too.
+//! The contracts cite `Step` of `specs/Steps.antt`: what each command may answer, and what it makes of the
+//! repository. The other specs that they cite are:
+//!
+//! - `specs/Commands.antt`: the reply for the answer of a call;
+//! - `specs/AnswerLimits.antt`: what a new limit makes of the cached results;
+//! - `specs/Stops.antt`, `IsOneCommand` and `IsPlayedSafely`: what a stop leaves;
+//! - `specs/EditSteps.antt`: several changes as steps, and at which of them they are refused;
+//! - `specs/RunSteps.antt`, `IsRunStep` and `IsStoppedStep`, and `specs/CommitSteps.antt`, `IsCommitStep`: a
+//!   run and a commit as steps, with what was cached and what children reported;
+//! - `specs/Runs.antt`, `specs/Commits.antt` and `specs/CommitStages.antt`: the cases of runs and of commits,
+//!   and the stages of a commit;
+//! - `specs/KeptByHooks.antt`: what runs and commits make of what is kept;
+//! - `specs/Messages.antt`: how the message of a commit is cleaned;
+//! - `specs/Refusals.antt`: the refusals;
+//! - `specs/Plays.antt`, for [`Host::play`]: a list of commands as a run of the machine of `Step`, with the
+//!   counts of the children and what is cached;
+//! - `specs/StoppedPlays.antt`, for [`Host::play`]: what a stop leaves of the list.
+//!
+//! Definitions of the repository, its files and what is cached are those of `repo_store`, `hook_base` and
+//! `result_book`. `specs/Preparations.antt` and `specs/CommitCalls.antt` are used only by private functions.
+//! [`laws`] says that a step has at most one answer, and what follows for a list of commands, also if it is
+//! stopped and goes on later.
 #![tactic(auto)]
 
 mod candidates;

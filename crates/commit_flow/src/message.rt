@@ -1,4 +1,4 @@
-//! The message of a commit: what its hooks begin with, and what is left of it once they are through.
+//! The message of a commit: what its hooks begin with, and how it is cleaned after them.
 
 ghost use Rattle.std.specs.Prelude.{◌≡◌, ◌≢◌, ◌++◌, ◌&&◌, ◌||◌, not, if◌then◌else◌, [], IfOk, OnOk};
 ghost use Rattle.commit_flow.specs.Messages.{begun_message, cleaned_message, is_blank, ended_line, is_filled, lacks_line_end, without_blanks_after};
@@ -6,8 +6,8 @@ ghost use Rattle.commit_flow.specs.Messages.{begun_message, cleaned_message, is_
 use hook_base::OutOfMemory;
 use std::alloc::Global;
 
-/// The message with which the hooks of a commit begin: a line feed ends it, unless it holds nothing. It fails for want of
-/// memory alone.
+/// The message with which the hooks of a commit begin: a line feed ends it, unless it is empty. It fails only
+/// for lack of memory.
 pub fn begun_message(alloc: Global, message: &[u8]) -> Result<Vec<u8>, OutOfMemory>
     ensures { IfOk result (λ begun. begun.items ≡ begun_message message.now) }
 {
@@ -28,8 +28,9 @@ fn lacks_line_end(message: &[u8]) -> bool
     }
 }
 
-/// The message without carriage returns, tabs and spaces at the ends of its lines, without empty lines at its start and at
-/// its end, and with one in place of several; a line feed ends each line that is left. It fails for want of memory alone.
+/// The message without carriage returns, tabs and spaces at the ends of its lines. Empty lines at its start
+/// and end are left out, and of several empty lines one stays. A line feed ends each line that is left. This
+/// is the mode `whitespace` of git-commit(1), "--cleanup". It fails only for lack of memory.
 pub fn cleaned_message(alloc: Global, message: &[u8]) -> Result<Vec<u8>, OutOfMemory>
     ensures { IfOk result (λ cleaned. cleaned.items ≡ cleaned_message message.now) }
 {
@@ -45,7 +46,7 @@ pub fn cleaned_message(alloc: Global, message: &[u8]) -> Result<Vec<u8>, OutOfMe
     Ok(cleaned)
 }
 
-// Nothing for an empty line, which waits for one that isn't. Where an empty line waits, it comes first.
+// An empty line adds nothing, but waits for one that isn't empty, which it then precedes.
 fn push_line(output: &mut Vec<u8>, waits: bool, line: &[u8]) -> Result<(), OutOfMemory>
     ensures empty { OnOk result (line.now ≡ [] → output.new.items ≡ output.old.items) }
     ensures filled { OnOk result (line.now ≢ [] → output.new.items ≡ output.old.items ++ ((if waits then ended_line [] else []) ++ ended_line line.now)) }
@@ -61,7 +62,7 @@ fn push_line(output: &mut Vec<u8>, waits: bool, line: &[u8]) -> Result<(), OutOf
     Ok(())
 }
 
-// Whether an empty line waits for one that isn't, behind this line.
+// Whether, after this line, an empty line waits for one that isn't empty.
 fn waits_behind(waits: bool, before: &[u8], line: &[u8]) -> bool
     ensures { result ≡ (not (is_filled line.now) && (waits || is_filled before.now)) }
 {

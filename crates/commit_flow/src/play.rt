@@ -19,10 +19,10 @@ use sqlite::Alter;
 use std::alloc::Global;
 
 impl<S: Alter> Host<S> {
-    /// Makes the commands, in order, each on what the one before it left, the remembered answers too, and answers their replies. A
-    /// command that is refused has a reply like any other, and those behind it are made too.
+    /// Runs the commands in order, each on what the one before it left, cached results included, and answers
+    /// their replies. A refused command has a reply like any other, and those after it are run too.
     ///
-    /// `OutOfMemory` comes where there is no room for the replies. Nothing is done then.
+    /// `OutOfMemory` comes if there is no room for the replies. Then nothing is done.
     pub fn play<C: Children>(
         &mut self,
         alloc: Global,
@@ -44,7 +44,7 @@ impl<S: Alter> Host<S> {
         Ok(replies)
     }
 
-    // Makes a command.
+    // Runs a command.
     fn played<C: Children>(&mut self, alloc: Global, children: &mut C, command: &Command) -> Reply
         ensures played { IsPlayedSafely S.Store (C.tells children.old) (moment (C.call_count children.old) (C.fault_count children.old) (remembered_by self.old.store.kept)) (moment (C.call_count children.new) (C.fault_count children.new) (remembered_by self.new.store.kept)) self.old.store self.new.store command.now result }
         ensures same { SameTells (C.tells children.old) (C.tells children.new) }

@@ -1,4 +1,4 @@
-//! What is made ready before the hooks of a run start.
+//! What is prepared before the hooks of a run start.
 
 ghost use Rattle.std.specs.Prelude.{◌≡◌, IfOk, IfErr};
 ghost use Rattle.commit_flow.specs.Preparations.{IsPrepared, IsUnprepared, run_ask_with};
@@ -15,10 +15,10 @@ use run_options::with_options;
 use sqlite::Alter;
 use std::alloc::Global;
 
-/// What is made ready before the hooks of a run start.
+/// What is prepared before the hooks of a run start.
 #[derive(Drop)]
 pub(crate) struct Prepared {
-    /// What the options of the run make of the staged configuration.
+    /// The staged configuration, changed by the options of the run.
     pub config: Config,
     /// What is asked of the hooks.
     pub ask: RunAsk,
@@ -26,9 +26,9 @@ pub(crate) struct Prepared {
     pub tree: Tree,
 }
 
-/// Makes a run ready. Refused is, in this order, that no configuration is staged (`NoConfig`), that it can't be read
-/// (`BadConfig`), and the first name that is no path (`BadPath`) or isn't staged (`NotStaged`); `OutOfMemory` comes where memory
-/// is refused.
+/// Prepares a run. First comes `NoConfig` if no configuration is staged, and `BadConfig` if it can't be read.
+/// Then comes the first name that is no path (`BadPath`) or isn't staged (`NotStaged`). `OutOfMemory` comes
+/// if memory is refused.
 pub(crate) fn prepare<S: Alter>(
     alloc: Global,
     store: &Store<S>,
@@ -45,7 +45,7 @@ pub(crate) fn prepare<S: Alter>(
     Ok(Prepared { config, ask, tree })
 }
 
-// What is asked of the hooks that may get these files.
+// What is asked of the hooks if they may get these files.
 fn run_ask_with(
     alloc: Global,
     ask: &HostAsk,
@@ -64,7 +64,7 @@ fn run_ask_with(
     })
 }
 
-// Which remembered answers serve the run: a fresh one none, and a cautious one those that passed.
+// Which cached results the run may use: a fresh run none, and a cautious one those that passed.
 fn reuse_of(ask: &HostAsk) -> Reuse
     ensures { result ≡ reuse_of ask.now }
 {

@@ -12,17 +12,17 @@ pub enum Reply {
     Added,
     /// The path was removed.
     Removed,
-    /// The fixes were accepted, and there were so many.
+    /// The fixes were accepted; this is their number.
     Accepted(u32),
-    /// The hooks were run, and the changes that they made are the fixes now.
+    /// The hooks were run, and the changes that they made are the fixes.
     Ran {
         /// Whether no hook failed.
         passed: bool,
-        /// What is reported of the hooks.
+        /// The report on the hooks.
         report: Bytes,
         /// The fixes.
         changes: Changes,
-        /// The ids of the hooks whose answer was another than the remembered one.
+        /// The ids of the unsteady hooks: their answer was another than the cached one.
         unsteady: Items<Text>,
     },
     /// The commit was made.
@@ -31,7 +31,7 @@ pub enum Reply {
         number: u32,
         /// The reports of the stages before the commit, in order.
         reports: Items<Bytes>,
-        /// What became of the hooks behind the commit.
+        /// What became of the hooks after the commit.
         post: PostCommit,
     },
     /// A hook failed before the commit, which wasn't made.
@@ -41,17 +41,18 @@ pub enum Reply {
         /// The reports of the stages up to this one, in order.
         reports: Items<Bytes>,
     },
-    /// The remembered answers are forgotten, and there were so many.
+    /// The cached results were removed; this is their number.
     Forgot(u64),
     /// The command was refused. The repository is as it was.
     Refused(HostRefusal),
 }
 
-/// What became of the hooks behind a commit.
+/// What became of the hooks after a commit.
 #[derive(Debug, Drop)]
 pub enum PostCommit {
-    /// They were run, and this is reported of them.
+    /// They were run, and this is their report.
     Told(Bytes),
-    /// Their run was refused. The commit stands.
+    /// Their run was refused. The commit remains: hooks of `post-commit` can't affect it (githooks(5),
+    /// "post-commit").
     Stopped(RunRefusal),
 }

@@ -22,18 +22,26 @@ use sqlite::Alter;
 use std::alloc::Global;
 
 impl<S: Alter> Host<S> {
-    /// Runs hooks on the staged files, with what is remembered and the children's outcomes, as [`run_hooks`](hook_run::run_hooks)
-    /// says, and sets the fixes to what they did to the staged files: where they did nothing, earlier fixes are forgotten. The
-    /// staged files stay. What the children answer is remembered, in the store, each answer as soon as it is told. The hooks are those
-    /// of what the options of the run make of the staged configuration, and `fresh` and the options say which remembered answers serve.
+    /// Runs hooks on the staged files, with what is cached and the children's outcomes, as
+    /// [`run_hooks`](hook_run::run_hooks) says. It sets the fixes to what the hooks did to the staged files;
+    /// if they did nothing, earlier fixes are removed. The staged files stay. Answers of children are cached
+    /// in the store, each as soon as it is reported; one that changes files that its child hasn't seen isn't.
+    /// The hooks are those of the staged configuration, changed by the options of the run. `fresh` and the
+    /// options say which cached results the run may use.
     ///
-    /// Refused is, in this order, that no configuration is staged (`NoConfig`), that it can't be read (`BadConfig`), the first
-    /// name that is no path (`BadPath`) or isn't staged (`NotStaged`), and a name that no hook of the stage has
-    /// (`NoSuchHook`); no child is started then. `Spent` comes where a child is needed and the children have told as many
-    /// outcomes as can be counted. `Collision` comes where the contents of a fix, behind the last child, or of an answer that is
-    /// remembered, have the digest of others, and `Store` where the database refuses, a look-up too, which notes that an answer was
-    /// used, or one of them has more than 16 MiB. `OutOfMemory` comes where memory is refused. A refusal leaves the repository as it was, the children with the outcomes that
-    /// they have told, and what was remembered by then.
+    /// Refusals come in this order:
+    ///
+    /// - before any child is started: no staged configuration (`NoConfig`), one that can't be read
+    ///   (`BadConfig`), the first name that is no path (`BadPath`) or isn't staged (`NotStaged`), and a name
+    ///   that no hook of the stage has (`NoSuchHook`);
+    /// - while hooks run: `Spent` if a child is needed and the children have reported as many outcomes as can
+    ///   be counted;
+    /// - for an answer to be cached while hooks run, and for a fix after the last child: `Collision` if its
+    ///   contents have the digest of others, and `Store` if it has more than 16 MiB.
+    ///
+    /// `Store` comes also if the database refuses, even a look-up, which notes that an answer was used.
+    /// `OutOfMemory` comes if memory is refused. A refusal leaves the repository as it was, the children with
+    /// the outcomes that they have reported, and what was cached by then.
     pub fn run<C: Children>(
         &mut self,
         alloc: Global,
@@ -87,7 +95,7 @@ fn run_on_staged<C: Children, S: Alter>(
     run_prepared(alloc, children, store, &prepared)
 }
 
-// Runs the hooks that are made ready.
+// Runs the hooks that were prepared.
 fn run_prepared<C: Children, B: Book>(
     alloc: Global,
     children: &mut C,

@@ -7,14 +7,14 @@ use hook_base::{Bytes, Changes, Items, Text};
 pub struct StagedRun {
     /// Whether no hook failed.
     pub passed: bool,
-    /// What is reported of the hooks.
+    /// The report on the hooks.
     pub report: Bytes,
-    /// What became of the staged files: the fixes, after the run.
+    /// What became of the staged files. After the run these are the fixes.
     pub changes: Changes,
-    /// The ids of the hooks for which a command was started although an answer was remembered at that moment, and that answered
-    /// otherwise, in the order of the configuration.
+    /// The ids of the unsteady hooks, in the order of the configuration. For such a hook a command was
+    /// started although a result was cached at that moment, and it answered otherwise.
     pub unsteady: Items<Text>,
-    /// How many commands of hooks were answered from what is remembered, so that no child was started for them. Where they are
+    /// How many commands of hooks used a cached result, so that no child was started for them. If there are
     /// more than can be counted, it is 2^64 - 1.
     pub reused: u64,
 }

@@ -1,4 +1,5 @@
--- The words that are told to who is near to one, beside the keys of the three tables (`KnownKeys.antt` of `hook_config`).
+-- The words that are proposed for an unknown one that is near, apart from the keys of the three tables
+-- (`KnownKeys.antt` of `hook_config`).
 use Rattle.std.specs.Prelude.{ℕ, List, [], ◌∷◌, ◌++◌, codes, map}
 use Rattle.hook_config.specs.Stages.{stage_names}
 use Rattle.hook_config.specs.Kinds.{false_words, true_words}

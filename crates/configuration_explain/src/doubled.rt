@@ -1,16 +1,16 @@
-//! The key that stands in its table twice.
+//! A key that is in its table twice.
 
 use crate::marks::Mark;
 
-/// A key, and where it stands in the same table before.
+/// A key, and the earlier mark of the same key in the same table.
 #[derive(Clone, Copy)]
 pub(crate) struct Doubled<'m> {
     pub(crate) earlier: &'m Mark,
     pub(crate) later: &'m Mark,
 }
 
-/// The key in this line that stands in its table on an earlier one, where both are marked: keys within flows aren't, nor are
-/// those of tables that aren't the configuration's.
+/// The key in this line that is also on an earlier line of its table, if both are marked. Keys within flows
+/// aren't marked, nor are those of tables that aren't the configuration's.
 pub(crate) fn doubled_in(marks: &[Mark], line: usize) -> Option<Doubled<'_>> {
     for later in marks {
         if later.line == line {

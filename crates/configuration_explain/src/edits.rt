@@ -1,20 +1,20 @@
-//! The known word that a word is near to.
+//! The known word that is near to a word.
 
 use crate::known_words::is_among;
 use hook_config::{KeyKind, is_key};
 use std::alloc::{AllocError, Global};
 use strsim::osa_distance;
 
-// Longer words are near to none, as no known word is as long. Nor are those that hold other characters than ASCII's, so that
-// the bytes of a word are its characters.
+// No known word is as long, so longer words are near to none. Nor are words with characters other than those
+// of ASCII, so that the bytes of a word are its characters.
 const MOST_WORD_BYTES: usize = 40;
 
-// From so many edits on a word isn't near.
+// A word is near only with fewer edits.
 const TOO_MANY_EDITS: usize = 3;
 
-/// The first of the known words that the fewest edits make of the word: one or two, and less than half as many as the longer
-/// of both has characters. An edit puts a character in, takes one out, changes one, or swaps two neighbours. None where no
-/// word is so near, and where the word is a known one; `AllocError` where memory is refused.
+/// The first of the known words that the fewest edits make of the word. There may be one or two, and fewer
+/// than half the characters of the longer word. An edit inserts, removes or changes a character, or swaps two
+/// neighbours. None if no word is so near, or if the word is a known one; `AllocError` if memory is refused.
 pub(crate) fn nearest(
     alloc: Global,
     word: &str,
@@ -30,7 +30,7 @@ pub(crate) fn nearest(
     Ok(best.word)
 }
 
-/// The first of the keys that the fewest edits make of the word, as [`nearest`] gives the first of words.
+/// The first of the keys that the fewest edits make of the word, by the same rule as in [`nearest`].
 pub(crate) fn nearest_key(
     alloc: Global,
     word: &str,
@@ -65,7 +65,7 @@ impl NearWord {
         }
     }
 
-    // The candidate, where it is nearer than what was found before it.
+    // The candidate, if it is nearer than what was found before it.
     fn or(self, alloc: Global, word: &str, candidate: &'static str) -> Result<Self, AllocError> {
         let edits = edits_between(alloc, word, candidate)?;
         if edits < self.edits && is_near(edits, word.len().max(candidate.len())) {
@@ -78,7 +78,7 @@ impl NearWord {
     }
 }
 
-// How many edits make the one of the other. Where the lengths alone ask for too many, they aren't counted.
+// How many edits make one word of the other. They aren't counted if the lengths alone ask for too many.
 fn edits_between(alloc: Global, word: &str, known: &str) -> Result<usize, AllocError> {
     if word.len().abs_diff(known.len()) >= TOO_MANY_EDITS {
         return Ok(TOO_MANY_EDITS);

@@ -1,4 +1,4 @@
-//! What is said of a configuration.
+//! The explanation of a configuration.
 //!
 //! The contracts cite `specs/Explains.antt`.
 
@@ -12,12 +12,12 @@ use hook_base::{Bytes, OutOfMemory, Text};
 use hook_config::{ConfigFault, ConfigKind, ConfigWithNode, read_config_with_node};
 use std::alloc::Global;
 
-/// What is said of a configuration, and whether it is one.
+/// What is said about a configuration, and whether it is one.
 #[derive(Debug, Drop)]
 pub struct Explanation {
     /// The lines to print, each with its end.
     pub text: Bytes,
-    /// Why the bytes are no configuration, or nothing where they are one.
+    /// Why the bytes are no configuration, or nothing if they are one.
     pub refusal: Option<ConfigFault>,
 }
 
@@ -30,15 +30,19 @@ impl Explanation {
     }
 }
 
-/// What is said of the configuration in a file of this name, in a folder that holds regular files of these paths.
+/// What is said about the configuration in a file of this name, in a folder that has regular files at these
+/// paths.
 ///
-/// Of bytes that are none: in the first line `NAME:LINE: `, which hook and key it is, what is found there and what is wanted;
-/// then that line of the file, and under it a mark, where the place in the line can be told. Of a configuration: the hooks of
-/// each stage that a command here runs, with what each runs; then the keys that are ignored, the hooks that never run, and
-/// those that run at every stage of a commit, where there are any. What is shown of the file holds no control character. The
-/// order of the paths says nothing.
+/// If the bytes are no configuration, each fault has a line that begins with `NAME:LINE: `. It says which
+/// hook and key it is, what is found there and what is wanted. Then comes that line of the file, and under it
+/// a mark, if the place in the line is known.
 ///
-/// `OutOfMemory` where memory was refused, and of nothing else.
+/// If they are one, the text has how many hooks there are, the hooks of each stage that a command here runs,
+/// and which files each hook gets. Then come, if there are any, the keys that are ignored, the hooks that
+/// never run, those that run at every stage of a commit, and warnings.
+///
+/// What is shown of the file holds no control character. The order of the paths says nothing. `OutOfMemory`
+/// if memory was refused, and for no other reason.
 pub fn explain(
     alloc: Global,
     name: &str,

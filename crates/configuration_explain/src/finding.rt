@@ -1,8 +1,7 @@
-//! What a fault of the configuration is about: the first value, in the order in which a configuration is read, that is wrong
-//! as the fault's kind says.
+//! What a fault of the configuration is about: the value that was refused.
 //!
-//! A fault says its kind and the hook's number. Everything that is read before it was taken, so the first value that is wrong
-//! in this way is the one that was refused.
+//! A fault has its kind and the hook's number. Everything that is read before it was taken. So it is the
+//! first value, in the order in which a configuration is read, that is wrong as the fault's kind says.
 
 use crate::edits::nearest;
 use crate::known_words::{argument_words, is_among, keys_of, local_words, truth_words};
@@ -35,22 +34,22 @@ pub(crate) enum Wanted {
     Fewer,
 }
 
-/// A value that was refused, and where it stands in the configuration's tables.
+/// A value that was refused, and its place in the configuration's tables.
 #[derive(Clone, Copy)]
 pub(crate) struct Finding<'n> {
-    /// The table in which it stands, or which it is.
+    /// The table that it is in, or that it is.
     pub(crate) owner: Owner,
     /// The number of its repository, or 0 at the top.
     pub(crate) repository: usize,
     /// Its table.
     pub(crate) table: &'n Node,
-    /// Its key, or the empty text where it is the table itself.
+    /// Its key, or the empty text if it is the table itself.
     pub(crate) key: &'static str,
-    /// Its number in the list at the key, from 1, or 0 where it is the key's value.
+    /// Its number in the list at the key, from 1, or 0 if it is the key's value.
     pub(crate) item: usize,
-    /// Where a key is missing, one of the table that isn't known and may have been meant; else empty.
+    /// If a key is missing, one of the table that isn't known and may have been meant; otherwise empty.
     pub(crate) instead: &'n str,
-    /// The value, where there is one.
+    /// The value, if there is one.
     pub(crate) value: Option<&'n Node>,
     /// What it has to be.
     pub(crate) wanted: Wanted,
@@ -71,7 +70,7 @@ impl<'n> Finding<'n> {
         }
     }
 
-    /// What stands at a key of the table.
+    /// What is at a key of the table.
     pub(crate) fn at_key(self, key: &'static str, wanted: Wanted) -> Self {
         Finding {
             owner: self.owner,
@@ -85,7 +84,7 @@ impl<'n> Finding<'n> {
         }
     }
 
-    /// An item of the list that it is.
+    /// An item of the list that this finding is.
     pub(crate) fn at_item(self, item: usize, value: &'n Node, wanted: Wanted) -> Self {
         Finding {
             owner: self.owner,
@@ -121,7 +120,7 @@ impl<'n> Finding<'n> {
             && self.item == other.item
     }
 
-    /// The items of the list that it is, none where it is no list.
+    /// The items of the list that it is, none if it is no list.
     pub(crate) fn items(self) -> &'n [Node] {
         match self.value {
             Some(value) => items_in(value),
@@ -129,7 +128,7 @@ impl<'n> Finding<'n> {
         }
     }
 
-    /// The text that it is, empty where it is none.
+    /// The text that it is, empty if it is none.
     pub(crate) fn text(self) -> &'n str {
         match self.value {
             Some(value) => text_in(value).unwrap_or(""),
@@ -138,8 +137,8 @@ impl<'n> Finding<'n> {
     }
 }
 
-/// What the fault of the text with this node is about. The fault is neither one of the YAML nor want of memory. `AllocError`
-/// where memory is refused.
+/// What the fault of the text with this node is about. The fault is neither one of the YAML nor want of
+/// memory. `AllocError` if memory is refused.
 pub(crate) fn finding_of<'n>(
     alloc: Global,
     top: &'n Node,
@@ -208,7 +207,8 @@ fn word_in_hook<'n>(hook: Finding<'n>, kind: ConfigKind) -> Finding<'n> {
     }
 }
 
-// The first value of a table that is of another kind than its key wants, or the table itself where it is none.
+// The first value of a table that is of another kind than its key wants, or the table itself if it is no
+// table.
 fn first_misfit<'n>(table: Finding<'n>) -> Option<Finding<'n>> {
     if !matches!(table.table, Node::Table(_)) {
         return Some(table);
@@ -225,7 +225,7 @@ fn misfit_at<'n>(table: Finding<'n>, key: &'static str, kind: KeyKind) -> Option
     misfit(table.at_key(key, wanted_by(kind)?))
 }
 
-/// What a key wants, nothing where it is ignored.
+/// What a key wants, none if it is ignored.
 pub(crate) fn wanted_by(kind: KeyKind) -> Option<Wanted> {
     match kind {
         KeyKind::RequiredText | KeyKind::Text | KeyKind::Pattern => Some(Wanted::Text),
@@ -265,7 +265,7 @@ fn is_truth(value: &Node) -> bool {
     }
 }
 
-// The first item of the list that isn't what is wanted, else the list itself.
+// The first item of the list that isn't what is wanted, otherwise the list itself.
 fn first_item<'n>(list: Finding<'n>, wanted: Wanted) -> Finding<'n> {
     unknown_item(list, wanted).unwrap_or(list)
 }
@@ -292,7 +292,7 @@ pub(crate) fn is_known(item: &Node, wanted: Wanted) -> bool {
     }
 }
 
-// The first key that a table has to have and hasn't.
+// The first key that a table has to have and doesn't.
 fn first_missing<'n>(table: Finding<'n>) -> Option<Finding<'n>> {
     for (key, kind) in keys_of(table.owner) {
         let at = table.at_key(*key, Wanted::Key);
@@ -348,7 +348,7 @@ pub(crate) fn repository<'n>(index: usize, node: &'n Node) -> Finding<'n> {
     Finding::of_table(Owner::Repository(number), number, node)
 }
 
-// Of a table's patterns the first that `regex` doesn't take, else the table.
+// The first pattern of a table that `regex` doesn't take, otherwise the table.
 fn pattern_in<'n>(alloc: Global, table: Finding<'n>) -> Result<Finding<'n>, AllocError> {
     for (key, kind) in keys_of(table.owner) {
         let at = table.at_key(*key, Wanted::Pattern);
@@ -359,7 +359,7 @@ fn pattern_in<'n>(alloc: Global, table: Finding<'n>) -> Result<Finding<'n>, Allo
     Ok(table)
 }
 
-// The entry of a `pygrep` hook that `regex` doesn't take, else one of its patterns.
+// The entry of a `pygrep` hook if `regex` doesn't take it, otherwise one of its patterns.
 fn pattern_or_entry<'n>(alloc: Global, hook: Finding<'n>) -> Result<Finding<'n>, AllocError> {
     if text_at(hook.table, "language") == "pygrep" {
         let entry = hook.at_key("entry", Wanted::Pattern);
@@ -370,7 +370,7 @@ fn pattern_or_entry<'n>(alloc: Global, hook: Finding<'n>) -> Result<Finding<'n>,
     pattern_in(alloc, hook)
 }
 
-// What isn't empty of that which is served where it is empty alone.
+// The value that isn't empty, of the two keys that are served only if they are empty.
 fn unsupported<'n>(hook: Finding<'n>) -> Finding<'n> {
     let log = hook.at_key("log_file", Wanted::NoLog);
     if log.text().is_empty() {
@@ -379,7 +379,7 @@ fn unsupported<'n>(hook: Finding<'n>) -> Finding<'n> {
     log
 }
 
-/// The missing key with the first unknown one of its table that is near to it.
+/// The missing key, with the first unknown key of its table that is near to it, if there is one.
 pub(crate) fn with_instead<'n>(
     alloc: Global,
     missing: Finding<'n>,

@@ -1,7 +1,7 @@
 //! All that is wrong in a configuration, as far as one fault doesn't hide another.
 //!
-//! A value of another kind than is wanted hides what would stand in it, a repository that isn't served its hooks, and a language that
-//! isn't known what its entry and its arguments have to be.
+//! A value of another kind than is wanted hides what would be in it, and a repository that isn't served hides
+//! its hooks. A language that isn't known hides what its entry and its arguments have to be.
 
 use crate::finding::{
     Finding, Wanted, is_known, is_of_kind, is_required, repository, wanted_by, with_instead,
@@ -14,11 +14,11 @@ use hook_config::{KeyKind, MOST_HOOKS};
 use std::alloc::{AllocError, Global};
 use yaml_profile::Node;
 
-/// So many faults are told at once.
+/// How many faults are listed at most.
 pub(crate) const MOST_FINDINGS: usize = 100;
 
-/// What is wrong in the configuration of this node, at most `MOST_FINDINGS`, in the order in which it is read: what stands at the top,
-/// and then each repository with its hooks. `AllocError` where memory is refused.
+/// What is wrong in the configuration of this node, at most `MOST_FINDINGS`. What is at the top comes first,
+/// and then, in the order of the text, each repository with its hooks. `AllocError` if memory is refused.
 pub(crate) fn findings_in<'n>(
     alloc: Global,
     top: &'n Node,
@@ -32,7 +32,7 @@ pub(crate) fn findings_in<'n>(
     Ok(search.found)
 }
 
-// What was found so far, in so many hooks.
+// What was found so far, and in how many hooks.
 #[derive(Drop)]
 struct Search<'n> {
     alloc: Global,
@@ -91,7 +91,7 @@ impl<'n> Search<'n> {
         self.take_words(hook)
     }
 
-    // Only the first hook that is one too many is told.
+    // Only the first hook that is one too many is listed.
     fn take_surplus(&mut self, hook: Finding<'n>) -> Result<(), AllocError> {
         if self.hooks.saturating_sub(1) == MOST_HOOKS {
             return self.push(hook.surplus());
@@ -99,7 +99,7 @@ impl<'n> Search<'n> {
         Ok(())
     }
 
-    // What is missing in a table, or of another kind than its key wants.
+    // What is missing in a table, or is of another kind than its key wants.
     fn take_table(&mut self, table: Finding<'n>) -> Result<(), AllocError> {
         if !matches!(table.table, Node::Table(_)) {
             return self.push(table);
@@ -127,7 +127,7 @@ impl<'n> Search<'n> {
         self.push(missing)
     }
 
-    // The items of a list that are no texts, or other texts than are wanted.
+    // The items of a list that aren't texts, or are other texts than are wanted.
     fn take_items(&mut self, list: Finding<'n>, wanted: Wanted) -> Result<(), AllocError> {
         let Some(value) = list.value else {
             return Ok(());

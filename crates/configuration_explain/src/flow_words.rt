@@ -1,13 +1,15 @@
-//! Where a word stands within a flow: its key, then its value, as they are written there.
+//! The place of a word within a flow: of its key, then its value, as they are written there.
 
-/// What is looked for: a key with its value behind the colon, or where the key is empty a value alone. An empty value is any.
+/// What is looked for: a key with its value after the colon, or a value alone if the key is empty. An empty
+/// value means any value.
 #[derive(Clone, Copy)]
 pub(crate) struct Sought<'a> {
     pub(crate) key: &'a [char],
     pub(crate) value: &'a [char],
 }
 
-/// Where the value stands of what is found first in the line from a column on, as a column of the line.
+/// The column of the line at which the value begins, at the first place from a column on that has what is
+/// sought.
 pub(crate) fn column_of(line: &[char], from: usize, sought: Sought<'_>) -> Option<usize> {
     let mut before = ' ';
     for (i, c) in line.iter().enumerate() {
@@ -22,7 +24,7 @@ pub(crate) fn column_of(line: &[char], from: usize, sought: Sought<'_>) -> Optio
     None
 }
 
-// What begins with the value, where the characters begin with what is sought.
+// The characters from the value on, if they begin with what is sought.
 fn value_of<'a>(text: &'a [char], sought: Sought<'_>) -> Option<&'a [char]> {
     if sought.key.is_empty() {
         return begins_with(text, sought.value);
@@ -34,7 +36,7 @@ fn value_of<'a>(text: &'a [char], sought: Sought<'_>) -> Option<&'a [char]> {
     }
 }
 
-// The characters, where they begin with this value, quoted or not, as a whole word.
+// The characters, if they begin with this value, quoted or not, as a whole word.
 fn begins_with<'a>(text: &'a [char], value: &[char]) -> Option<&'a [char]> {
     let behind = without_quote(text).strip_prefix(value)?;
     match behind {

@@ -1,9 +1,9 @@
-//! What a hook, and the table that a key stands in, is called.
+//! What a hook is called, and a repository.
 
 use crate::shown::{push_number, push_quoted};
 use std::alloc::{AllocError, Global};
 
-/// Puts the hook's number and its id, where it has one.
+/// Puts the hook's number and its id, if it has one.
 pub(crate) fn push_hook(
     alloc: Global,
     text: &mut String,

@@ -1,4 +1,4 @@
-//! The keys that nothing knows, with their lines.
+//! The keys that no table knows, with their lines.
 
 use crate::edits::nearest_key;
 use crate::hook_names::{push_hook, push_repository};
@@ -11,9 +11,9 @@ use hook_config::is_key;
 use std::alloc::{AllocError, Global};
 use yaml_profile::Node;
 
-/// Puts a line for each key that its table doesn't know, in the order of the text: where it stands, and the known key that is
-/// near to it, if one is. A key within a flow stands in the line in which the flow begins. `AllocError` where memory is
-/// refused.
+/// Puts a line for each key that its table doesn't know, in the order of the text. It has the number of the
+/// key's line, the key, its table, and the known key that is near, if there is one. For a key within a flow
+/// it is the line in which the flow begins. `AllocError` if memory is refused.
 pub(crate) fn push_ignored(
     alloc: Global,
     text: &mut String,
@@ -31,7 +31,7 @@ pub(crate) fn push_ignored(
     text.push_str(listing.text.as_str())
 }
 
-// The lines so far; the marks that no key has yet, the last line that is known, and how many hooks there were.
+// The text so far, the marks that no key has yet, the last line that is known, and how many hooks there were.
 #[derive(Drop)]
 struct Listing<'m> {
     text: String,
@@ -96,7 +96,7 @@ impl<'m> Listing<'m> {
         Ok(())
     }
 
-    // Goes on to the line of the table's dash, where that is the next mark.
+    // Goes on to the line of the table's dash, if that is the next mark.
     fn pass_begin(&mut self, owner: Owner) {
         self.rest = without_items(self.rest);
         if let [mark, rest @ ..] = self.rest {
@@ -107,7 +107,7 @@ impl<'m> Listing<'m> {
         }
     }
 
-    // Goes on to the key's line, where the key is the next mark.
+    // Goes on to the key's line, if the key is the next mark.
     fn pass_key(&mut self, owner: Owner, key: &str) {
         self.rest = without_items(self.rest);
         if let [mark, rest @ ..] = self.rest {
@@ -151,7 +151,7 @@ impl<'m> Listing<'m> {
     }
 }
 
-// The marks from the first on that is no item.
+// The marks from the first on that isn't an item.
 fn without_items(marks: &[Mark]) -> &[Mark] {
     for (i, mark) in marks.iter().enumerate() {
         if !matches!(mark.word, Word::Item) {

@@ -1,5 +1,6 @@
-//! The words that a configuration knows, as they are told to who writes another one: each list is proved to be that of
-//! `specs/KnownWords.antt`, which takes its words from `hook_config`. The keys are those of `hook_config` itself.
+//! The words that a configuration knows, to be proposed for an unknown one that is near. Each list except
+//! that of the tags is proved to be the one of `specs/KnownWords.antt`, which takes its words from
+//! `hook_config`. The keys are those of `hook_config` itself.
 
 ghost use Rattle.std.specs.Prelude.{◌≡◌};
 ghost use Rattle.hook_config.specs.Rows.{texts};

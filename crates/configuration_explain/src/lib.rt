@@ -1,14 +1,17 @@
-//! What `explain` says of a configuration: [`explain`] answers an [`Explanation`], the text and whether the configuration is
-//! taken.
+//! What `explain` says about a configuration: [`explain`] answers an [`Explanation`], which is a text, and
+//! whether the configuration is taken.
 //!
-//! Of a refused configuration each fault is told: its line, the hook, the key, the value and what is wanted, with the line of the
-//! text beneath. What is wrong is looked for in the text's node (`findings.rt`, and `finding.rt` for the fault of `hook_config`), and
-//! where that stands among the text's content lines (`marks.rt`): nothing here reads YAML once more. Of a taken one the hooks of each
-//! stage are told, which files each gets, the keys that are ignored, the hooks that never run or run oftener than one may think, and
-//! what may be meant otherwise (`warnings.rt`).
+//! Each fault of a refused configuration is reported: its line, the hook, the key, the value and what is
+//! wanted, with the line of the text under it. Faults are looked for in the text's node (`findings.rt`, and
+//! `finding.rt` for the fault of `hook_config`). Their places are found among the text's content lines
+//! (`marks.rt`), so there is no second reader of YAML here.
 //!
-//! The contract cites `Explains` of `specs/Explains.antt`, and those of the known words `specs/KnownWords.antt`: what is
-//! printed is shown by tests alone.
+//! Of a configuration that is taken it reports the hooks of each stage, which files each gets, and the keys
+//! that are ignored. It also names the hooks that never run, or that run more often than one may think, and
+//! what may be a mistake (`warnings.rt`).
+//!
+//! The contract cites `Explains` of `specs/Explains.antt`, and those of the known words cite
+//! `specs/KnownWords.antt`. What is printed is only tested.
 #![tactic(auto)]
 
 mod doubled;

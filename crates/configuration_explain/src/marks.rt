@@ -1,8 +1,9 @@
-//! Where the keys of a configuration's tables stand.
+//! The places of the keys of a configuration's tables.
 //!
-//! The content lines are those of `yaml_lines`, without comments and block texts. In them an item stands at its dash's column
-//! and a key at its own, so the columns tell which table a key belongs to: the reader has seen before that all of a table's
-//! keys stand at one column. Within a flow nothing is marked.
+//! The content lines are those of `yaml_lines`, without comments and block texts. An item is at its dash's
+//! column and a key at its own, so the columns show which table a key belongs to (YAML 1.2.2, sections 8.2.1
+//! and 8.2.2). The reader has seen before that all keys of a table are at one column. Within a flow nothing
+//! is marked.
 
 ghost use Rattle.std.specs.Prelude.{◌≤◌, length};
 ghost use Rattle.yaml_lines.specs.Characters.{most_bytes};
@@ -14,7 +15,8 @@ use yaml_lines::{
     read_entry, read_lines,
 };
 
-/// One of the tables of a configuration. Repositories are counted from 1, and so are the hooks over all repositories.
+/// One of the tables of a configuration. Repositories are counted from 1, and so are the hooks over all
+/// repositories.
 #[derive(Clone, Copy, Debug, PartialEq, Eq)]
 pub(crate) enum Owner {
     Top,
@@ -22,7 +24,7 @@ pub(crate) enum Owner {
     Hook(usize),
 }
 
-/// What stands at a mark.
+/// What is at a mark.
 #[derive(Debug, Drop)]
 pub(crate) enum Word {
     /// The dash of a repository or a hook.
@@ -33,16 +35,16 @@ pub(crate) enum Word {
     Item,
 }
 
-/// A word of a table, and where it stands.
+/// A word of a table, and its place.
 #[derive(Debug, Drop)]
 pub(crate) struct Mark {
     pub(crate) owner: Owner,
     pub(crate) word: Word,
     /// The line, from 1.
     pub(crate) line: usize,
-    /// How many characters stand before the word.
+    /// How many characters are before the word.
     pub(crate) column: usize,
-    /// How many stand before its value, where that is on the same line; else before the word.
+    /// How many are before its value if that is on the same line, otherwise before the word.
     pub(crate) value: usize,
 }
 
@@ -52,7 +54,7 @@ impl Mark {
         self.owner == owner && matches!(self.word, Word::Begin)
     }
 
-    /// The key, where the mark is one.
+    /// The key, if the mark is one.
     pub(crate) fn key(&self) -> Option<&str> {
         match &self.word {
             Word::Key(key) => Some(key.as_str()),
@@ -69,7 +71,7 @@ impl Mark {
     }
 }
 
-/// The marks of the text of these bytes, up to its first fault. `AllocError` where memory is refused.
+/// The marks of the text of these bytes, up to its first fault. `AllocError` if memory is refused.
 pub(crate) fn marks_in(alloc: Global, bytes: &[u8]) -> Result<Vec<Mark>, AllocError> {
     match characters(alloc, bytes) {
         Ok(text) => marks_of_text(alloc, text.as_slice()),
@@ -85,7 +87,7 @@ fn marks_of_text(alloc: Global, text: &[char]) -> Result<Vec<Mark>, AllocError>
     marks_of(alloc, raws.as_slice())
 }
 
-/// The marks of all lines, in the order of the text. `AllocError` where memory is refused.
+/// The marks of all lines, in the order of the text. `AllocError` if memory is refused.
 pub(crate) fn marks_of(alloc: Global, raws: &[RawLine<'_>]) -> Result<Vec<Mark>, AllocError> {
     let read = read_lines(alloc, raws)?;
     marks_of_lines(alloc, read.lines.as_slice())
@@ -102,7 +104,7 @@ fn marks_of_lines(alloc: Global, lines: &[Line<'_, '_>]) -> Result<Vec<Mark>, Al
     Ok(walk.marks)
 }
 
-// Whether the line belongs to the flow that begins on an earlier line whose content stands at this column.
+// Whether the line belongs to the flow that begins on an earlier line whose content is at this column.
 fn is_within(flow: Option<usize>, line: &Line<'_, '_>) -> bool {
     match flow {
         Some(column) => {
@@ -128,7 +130,7 @@ struct Walk {
     marks: Vec<Mark>,
 }
 
-// Whether the column is the one that is known, or the first.
+// Whether the column is the known one, or none is known.
 fn fits(known: Option<usize>, column: usize) -> bool {
     match known {
         Some(known) => known == column,
@@ -153,7 +155,8 @@ impl Walk {
         }
     }
 
-    // Marks what the line begins. Where a flow begins in it, the answer is the column that the flow's lines stand behind.
+    // Marks what the line begins. If a flow begins in it, the answer is the column that the flow's lines are
+    // deeper than.
     fn take_line(
         &mut self,
         alloc: Global,
@@ -275,7 +278,7 @@ impl Walk {
         Ok(())
     }
 
-    // Whether a key at this column is one of a table of the configuration, which is the owner then.
+    // Whether a key at this column is one of a table of the configuration. That table is then the owner.
     fn is_of_a_table(&mut self, column: usize, key: &str) -> bool {
         if fits(self.top_keys, column) {
             self.begin_top_key(column, key);

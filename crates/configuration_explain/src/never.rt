@@ -7,17 +7,19 @@ use hook_base::{OutOfMemory, Text};
 use hook_config::{Config, Hook, Stages};
 use std::alloc::{AllocError, Global};
 
-// The file that hooks of a commit's message get.
+// The file that hooks of a commit's message get (git-commit(1), "FILES").
 const MESSAGE_PATH: &str = ".git/COMMIT_EDITMSG";
 
-// The paths that the patterns of the whole configuration let through.
+// The paths that the patterns of the whole configuration let through: of the folder's files, and of the
+// message.
 #[derive(Drop)]
 struct Candidates<'p, 'm> {
     paths: Vec<&'p str>,
     message: Vec<&'m str>,
 }
 
-/// Puts the hooks of which no stage comes here, and those that get none of these files at any stage and aren't run without.
+/// Puts the hooks that never run. They have no stage that a command here runs, or get none of these files at
+/// any of their stages and don't run without files.
 pub(crate) fn push_never(
     alloc: Global,
     text: &mut String,
@@ -66,7 +68,7 @@ fn push_never_line(
     push_all(text, &[": ", why, "\n"])
 }
 
-// Why the hook never runs, if it doesn't.
+// Why the hook never runs, or none if it may run.
 fn why_never(
     alloc: Global,
     hook: &Hook,
@@ -89,7 +91,7 @@ fn has_served_stage(stages: Stages) -> bool {
         || stages.manual
 }
 
-// Whether the hook's patterns let a file through at one of its stages. Behind a commit there are no files.
+// Whether the hook's patterns let a file through at one of its stages. After a commit there are no files.
 fn gets_a_file(
     alloc: Global,
     hook: &Hook,

@@ -5,8 +5,8 @@ use crate::shown::{columns_before, push_shown};
 use bstr::ByteSlice;
 use std::alloc::{AllocError, Global};
 
-/// The line with this number, from 1, without its end and without a byte order mark, as a text: each piece that isn't UTF-8
-/// stands there as U+FFFD. It is empty where there is no such line. `AllocError` where memory is refused.
+/// The line with this number, from 1, without its end and without a byte order mark. Each piece that isn't
+/// UTF-8 is U+FFFD. It is empty if there is no such line. `AllocError` if memory is refused.
 pub(crate) fn line_at(alloc: Global, bytes: &[u8], number: usize) -> Result<String, AllocError> {
     String::from_utf8_lossy(alloc, without_mark(bytes_at(bytes, number)))
 }
@@ -27,7 +27,7 @@ fn without_mark(bytes: &[u8]) -> &[u8] {
     }
 }
 
-/// Where the character stands first in the line, in characters from 0.
+/// The first place of the character in the line, in characters from 0.
 pub(crate) fn column_of(line: &str, wanted: char) -> Option<usize> {
     for (i, c) in line.chars().enumerate() {
         if c == wanted {
@@ -37,8 +37,8 @@ pub(crate) fn column_of(line: &str, wanted: char) -> Option<usize> {
     None
 }
 
-/// Puts the line, two columns in, and under it a mark at the place, where its column is known and shown. Nothing is put for
-/// an empty line. `AllocError` where memory is refused.
+/// Puts the line, indented by two columns, and under it a mark at the place, if its column is known and
+/// shown. Nothing is put for an empty line. `AllocError` if memory is refused.
 pub(crate) fn push_own_line(text: &mut String, line: &str, place: Place) -> Result<(), AllocError> {
     if line.is_empty() {
         return Ok(());

@@ -1,4 +1,4 @@
-//! Which patterns `regex` refuses and which commands have no words, and which paths patterns are found in.
+//! Which patterns `regex` refuses, which commands have no words, and which paths patterns are found in.
 
 use crate::tables::text_in;
 use arg_partition::{WordsFault, words};
@@ -9,7 +9,7 @@ use regex::{Matcher, Regex};
 use std::alloc::{AllocError, Global};
 use yaml_profile::Node;
 
-/// Whether `regex` doesn't take the text as a pattern. `AllocError` where memory is refused.
+/// Whether `regex` doesn't take the text as a pattern. `AllocError` if memory is refused.
 pub(crate) fn is_refused_pattern(alloc: Global, text: &str) -> Result<bool, AllocError> {
     match Pattern::build(alloc, text) {
         Ok(_) => Ok(false),
@@ -18,8 +18,8 @@ pub(crate) fn is_refused_pattern(alloc: Global, text: &str) -> Result<bool, Allo
     }
 }
 
-/// Whether `regex` doesn't take the text as the entry of a `pygrep` hook with these arguments. `AllocError` where memory is
-/// refused.
+/// Whether `regex` doesn't take the text as the entry of a `pygrep` hook with these arguments. `AllocError`
+/// if memory is refused.
 pub(crate) fn is_refused_entry(
     alloc: Global,
     entry: &str,
@@ -33,7 +33,8 @@ pub(crate) fn is_refused_entry(
     }
 }
 
-/// Whether the text is no command: it can't be cut into words, has none, or its first is empty. `AllocError` where memory is refused.
+/// Whether the text is no command: it can't be cut into words, has none, or its first word is empty.
+/// `AllocError` if memory is refused.
 pub(crate) fn is_refused_command(alloc: Global, text: &str) -> Result<bool, AllocError> {
     match words(alloc, text) {
         Ok(words) => Ok(!matches!(words.as_slice(), [first, ..] if !first.is_empty())),
@@ -50,7 +51,7 @@ fn words_of<'n>(alloc: Global, args: &'n [Node]) -> Result<Vec<&'n str>, AllocEr
     Ok(words)
 }
 
-/// The paths in which the first pattern is found, and the second isn't. `OutOfMemory` where memory is refused.
+/// The paths in which the first pattern is found, and the second isn't. `OutOfMemory` if memory is refused.
 pub(crate) fn passing<'p>(
     alloc: Global,
     files: &Pattern,
@@ -70,7 +71,8 @@ pub(crate) fn passing<'p>(
     Ok(passing)
 }
 
-/// Whether the first pattern is found in one of the paths in which the second isn't. `OutOfMemory` where memory is refused.
+/// Whether the first pattern is found in one of the paths in which the second isn't. `OutOfMemory` if memory
+/// is refused.
 pub(crate) fn passes_any(
     alloc: Global,
     files: &Pattern,
@@ -89,7 +91,7 @@ pub(crate) fn passes_any(
     Ok(false)
 }
 
-/// Whether the pattern is found in the path. `OutOfMemory` where memory is refused.
+/// Whether the pattern is found in the path. `OutOfMemory` if memory is refused.
 pub(crate) fn finds(alloc: Global, pattern: &Pattern, path: &str) -> Result<bool, OutOfMemory> {
     let regex = built(alloc, pattern)?;
     let mut matcher = regex.matcher(alloc)?;
@@ -100,7 +102,7 @@ fn passes(files: &mut Matcher<'_>, exclude: &mut Matcher<'_>, path: &str) -> boo
     files.is_match(path) && !exclude.is_match(path)
 }
 
-// The pattern once more: a text of which one was built. Only memory can be refused.
+// Compiles the pattern's text again, which was compiled before. So it fails only if memory is refused.
 fn built(alloc: Global, pattern: &Pattern) -> Result<Regex, OutOfMemory> {
     Regex::new(alloc, pattern.as_str()).map_err(|_| OutOfMemory)
 }

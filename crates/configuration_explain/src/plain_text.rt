@@ -1,10 +1,11 @@
-//! A plain text over several lines, which isn't read here.
+//! A plain text over several lines (YAML 1.2.2, section 7.3.3), which isn't read here.
 
-/// What is said of it.
+/// The sentence for it.
 pub(crate) const GOES_ON: &str =
     "a text without quotes goes on here from the line above: write it on one line, or as a block text (`>-`)";
 
-/// Whether a plain text of the line before goes on in a line: it stands further in, and is neither a key nor an item.
+/// Whether a plain text of the line before goes on in a line: the line is further in, and is neither a key
+/// nor an item.
 pub(crate) fn goes_on(before: &str, line: &str) -> bool {
     let (text, own) = (line.trim_start_matches(' '), before.trim_start_matches(' '));
     let is_further_in = line.len().saturating_sub(text.len())
@@ -20,7 +21,7 @@ fn is_text(content: &str) -> bool {
         || content.ends_with(':'))
 }
 
-// What stands behind the dashes of items and a key.
+// What follows the dashes of items and a key.
 fn value_of(content: &str) -> &str {
     let behind = content.trim_start_matches("- ");
     match behind.split_once(": ") {

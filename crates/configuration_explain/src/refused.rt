@@ -1,4 +1,4 @@
-//! What is said of a configuration that is refused.
+//! What is said about a configuration that is refused.
 
 use crate::doubled::{Doubled, doubled_in};
 use crate::finding::{Finding, finding_of};
@@ -21,8 +21,9 @@ pub(crate) struct NamedBytes<'b> {
     pub(crate) bytes: &'b [u8],
 }
 
-/// Puts where each fault is, what it is, and the line itself, in the order of the lines: the one of the YAML alone, or those of the
-/// configuration, of which this fault is one. `AllocError` where memory is refused.
+/// Puts where each fault is, what it is, and the line itself, in the order of the lines. A fault of the YAML
+/// is put alone. Otherwise all faults of the configuration are put, and this fault is one of them.
+/// `AllocError` if memory is refused.
 pub(crate) fn push_refused(
     alloc: Global,
     text: &mut String,
@@ -54,7 +55,7 @@ fn push_yaml_fault(
     push_plain_fault(alloc, text, file, fault)
 }
 
-// A key of one of the configuration's tables that stands there already.
+// A key of one of the configuration's tables that is there already.
 fn push_doubled(
     alloc: Global,
     text: &mut String,
@@ -95,7 +96,7 @@ fn push_plain_fault(
     push_own_line(text, line.as_str(), place)
 }
 
-// What is said of the fault in this line.
+// The sentence for the fault in this line.
 fn sentence_of(
     alloc: Global,
     bytes: &[u8],
@@ -144,7 +145,7 @@ fn push_finding(
     push_own_line(text, line.as_str(), one.place)
 }
 
-// Says that not all faults were told, where there are too many.
+// Says that no further faults are listed, if there are as many as are listed at most.
 fn push_more(text: &mut String, findings: &[Finding<'_>]) -> Result<(), AllocError> {
     if findings.len() < MOST_FINDINGS {
         return Ok(());
@@ -152,7 +153,7 @@ fn push_more(text: &mut String, findings: &[Finding<'_>]) -> Result<(), AllocErr
     text.push_str("no more than 100 faults are told at once\n")
 }
 
-// The name of the file and the line, before what is said of it.
+// The name of the file and the line, before the sentence.
 fn push_place(alloc: Global, text: &mut String, name: &str, line: usize) -> Result<(), AllocError> {
     push_shown(text, name)?;
     text.push(':')?;

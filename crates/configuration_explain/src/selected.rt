@@ -1,4 +1,4 @@
-//! Which files each hook gets, and where its stages come from.
+//! Which files each hook gets, and which key its stages come from.
 
 use crate::hook_names::push_hook;
 use crate::shown::{push_all, push_quoted};
@@ -8,7 +8,7 @@ use hook_config::{ConfigWithNode, Hook};
 use std::alloc::{AllocError, Global};
 use yaml_profile::Node;
 
-// What a hook has where its table doesn't say it.
+// The pattern that is found in every path.
 const EVERY_PATH: &str = "";
 
 /// The pattern that is found in no path.
@@ -16,8 +16,8 @@ pub(crate) const NO_PATH: &str = "^$";
 
 const EVERY_FILE: &str = "file";
 
-/// Puts a line for each hook: its patterns and tags, where it has any, and which key its stages come from. `AllocError` where memory
-/// is refused.
+/// Puts a line for each hook: its patterns and tags, if it has any, and which key its stages come from.
+/// `AllocError` if memory is refused.
 pub(crate) fn push_selected(
     alloc: Global,
     text: &mut String,
@@ -68,7 +68,7 @@ fn push_patterns(text: &mut String, hook: &Hook) -> Result<(), AllocError> {
     )
 }
 
-// A part, unless it is as where a hook doesn't say it.
+// A part, unless it is what a hook has by default.
 fn push_part(text: &mut String, name: &str, value: &str, default: &str) -> Result<(), AllocError> {
     if value == default {
         return Ok(());

@@ -1,4 +1,4 @@
-//! What is said of a finding.
+//! The sentence for a finding.
 
 use crate::edits::nearest;
 use crate::finding::{Finding, Wanted};
@@ -10,8 +10,8 @@ use crate::tables::text_at;
 use std::alloc::{AllocError, Global};
 use yaml_profile::Node;
 
-/// Puts which hook it is, which key, what is found there and what is wanted, and the known word that is near to it, if one
-/// is. `AllocError` where memory is refused.
+/// Puts which hook it is, which key, what is found there and what is wanted, and the known word that is near
+/// to it, if there is one. `AllocError` if memory is refused.
 pub(crate) fn push_sentence(
     alloc: Global,
     text: &mut String,

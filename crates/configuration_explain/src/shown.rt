@@ -1,13 +1,13 @@
-//! Texts as they are shown: of what a configuration holds no control character reaches a terminal as it is, nor one that
-//! turns the direction of a text.
+//! Texts as they are shown. No control character of a configuration reaches a terminal as it is, nor one that
+//! changes the direction of a text.
 
 use std::alloc::{AllocError, Global};
 use unicode_width::UnicodeWidthChar;
 
-// How many characters of a text are shown. Behind them stands `...`.
+// How many characters of a text are shown. After them comes `...`.
 const MOST_SHOWN: usize = 200;
 
-/// Puts the pieces at the text's end, as they are. `AllocError` where memory is refused.
+/// Puts the pieces at the text's end, as they are. `AllocError` if memory is refused.
 pub(crate) fn push_all(text: &mut String, pieces: &[&str]) -> Result<(), AllocError> {
     for piece in pieces {
         text.push_str(piece)?;
@@ -15,7 +15,7 @@ pub(crate) fn push_all(text: &mut String, pieces: &[&str]) -> Result<(), AllocEr
     Ok(())
 }
 
-/// Puts the number at the text's end, in decimal digits. `AllocError` where memory is refused.
+/// Puts the number at the text's end, in decimal digits. `AllocError` if memory is refused.
 pub(crate) fn push_number(
     alloc: Global,
     text: &mut String,
@@ -24,8 +24,9 @@ pub(crate) fn push_number(
     text.push_str(number.to_string(alloc)?.as_str())
 }
 
-/// Puts the text's first characters at the other's end: a line feed as `\n`, a tab as `\t`, another control character as
-/// `\x` and two hexadecimal digits, and one that turns a text's direction or ends a line elsewhere as `?`.
+/// Puts the first `MOST_SHOWN` characters of `shown` at the text's end: a line feed as `\n`, a tab as `\t`,
+/// another control character as `\x` and two hexadecimal digits. One that changes a text's direction or
+/// separates lines in Unicode is put as `?`. `AllocError` if memory is refused.
 pub(crate) fn push_shown(text: &mut String, shown: &str) -> Result<(), AllocError> {
     for (i, c) in shown.chars().enumerate() {
         if i >= MOST_SHOWN {
@@ -53,7 +54,7 @@ pub(crate) fn is_shown_whole(shown: &str) -> bool {
     true
 }
 
-/// In how many columns the characters before this one are shown, where they are.
+/// How many columns show the characters before this one. None if it isn't shown.
 pub(crate) fn columns_before(shown: &str, character: usize) -> Option<usize> {
     let mut columns = 0usize;
     for (i, c) in shown.chars().enumerate() {
@@ -92,7 +93,7 @@ fn digit_of(value: u32) -> char {
     char::from_digit(value, 16).unwrap_or('?')
 }
 
-// What turns a text's direction, and what some terminals take as a line's end.
+// Characters that change a text's direction, and those that some terminals take as a line's end.
 fn is_hidden(c: char) -> bool {
     matches!(
         c,

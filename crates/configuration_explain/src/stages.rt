@@ -12,7 +12,7 @@ struct ServedStage {
     name: &'static str,
 }
 
-// In the order in which a commit runs them, and then the one that `run` alone runs.
+// The stages in the order in which a commit runs them, and then the one that only `run` runs.
 const SERVED_STAGES: [ServedStage; 5] = [
     ServedStage {
         stage: Stage::PreCommit,
@@ -36,7 +36,8 @@ const SERVED_STAGES: [ServedStage; 5] = [
     },
 ];
 
-/// Puts the hooks of each stage that a command here runs, with what each runs. A stage without hooks is left out.
+/// Puts the hooks of each stage that a command here runs, with what each runs. A stage without hooks is left
+/// out.
 pub(crate) fn push_stages(
     alloc: Global,
     text: &mut String,
@@ -106,7 +107,7 @@ fn language_word(language: &Language) -> &'static str {
     }
 }
 
-/// Puts the hooks that run at every stage, and so at each of a commit, where there are any, and what follows of it.
+/// Puts the hooks that run at every stage, and so at each of a commit, if there are any, and what this means.
 pub(crate) fn push_each_time(
     alloc: Global,
     text: &mut String,

@@ -1,8 +1,8 @@
-//! The tables of a configuration's node.
+//! The tables and lists of a configuration's node.
 
 use yaml_profile::Node;
 
-/// A table's rows, none where the node is no table.
+/// A table's rows, none if the node is no table.
 pub(crate) fn rows_in(node: &Node) -> &[(String, Node)] {
     match node {
         Node::Table(rows) => rows.as_slice(),
@@ -10,7 +10,7 @@ pub(crate) fn rows_in(node: &Node) -> &[(String, Node)] {
     }
 }
 
-/// A list's items, none where the node is no list.
+/// A list's items, none if the node is no list.
 pub(crate) fn items_in(node: &Node) -> &[Node] {
     match node {
         Node::List(items) => items.as_slice(),
@@ -36,7 +36,7 @@ pub(crate) fn value_at<'n>(rows: &'n [(String, Node)], key: &str) -> Option<&'n 
     None
 }
 
-/// The items of the list at the key of a table, none where there is no list.
+/// The items of the list at the key of a table, none if there is no list.
 pub(crate) fn items_at<'n>(table: &'n Node, key: &str) -> &'n [Node] {
     match value_at(rows_in(table), key) {
         Some(value) => items_in(value),
@@ -44,7 +44,7 @@ pub(crate) fn items_at<'n>(table: &'n Node, key: &str) -> &'n [Node] {
     }
 }
 
-/// The text at the key of a table, empty where there is no text.
+/// The text at the key of a table, empty if there is no text.
 pub(crate) fn text_at<'n>(table: &'n Node, key: &str) -> &'n str {
     match value_at(rows_in(table), key) {
         Some(value) => text_in(value).unwrap_or(""),

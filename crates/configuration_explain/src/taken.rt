@@ -1,4 +1,4 @@
-//! What is said of a configuration that is taken.
+//! What is said about a configuration that is taken.
 
 use crate::ignored::push_ignored;
 use crate::marks::marks_in;
@@ -12,8 +12,8 @@ use hook_base::{OutOfMemory, Text};
 use hook_config::ConfigWithNode;
 use std::alloc::{AllocError, Global};
 
-/// Puts how many hooks there are, those of each stage, which files each gets, the keys that are ignored, what is to be said of when
-/// hooks run, and what may be meant otherwise.
+/// Puts how many hooks there are, those of each stage, which files each gets, and the keys that are ignored.
+/// Then come the hooks that never run or run at every stage, and what may be a mistake.
 pub(crate) fn push_taken(
     alloc: Global,
     text: &mut String,

@@ -10,8 +10,8 @@ use std::alloc::{AllocError, Global};
 // Files in which several tools keep their settings.
 const SHARED_SETTINGS: [&str; 4] = ["package.json", "pyproject.toml", "setup.cfg", "tox.ini"];
 
-/// Of these paths the first that holds settings of the hook's command, a known tool, and isn't found by the pattern that the hook
-/// itself has for further files. `AllocError` where memory is refused.
+/// The first of these paths that has settings of the hook's command, a known tool, and in which the hook's
+/// own `x_reads` isn't found. `AllocError` if memory is refused.
 pub(crate) fn left_out<'p>(
     alloc: Global,
     read: &ConfigWithNode,
@@ -57,12 +57,13 @@ fn left_out_by<'p>(
     Ok(None)
 }
 
-// The pattern once more: a text of which one was built. Only memory can be refused.
+// Compiles the pattern, which was compiled before. So it fails only if memory is refused.
 fn built(alloc: Global, pattern: &str) -> Result<Regex, OutOfMemory> {
     Regex::new(alloc, pattern).map_err(|_| OutOfMemory)
 }
 
-// Whether a file at the top has settings of a tool by its name: that of the tool is part of it, or several tools keep theirs there.
+// Whether a file at the top has settings of a tool, by the file's name: it contains that of the tool, or
+// several tools keep theirs there.
 fn are_settings(path: &str, tool: &str) -> bool {
     !path.contains('/') && (path.contains(tool) || SHARED_SETTINGS.contains(&path))
 }

@@ -1,4 +1,4 @@
-//! What is taken, and may be meant otherwise.
+//! What is taken, and may be a mistake.
 
 use crate::edits::nearest;
 use crate::git_calls::{calls_git, names_git_state, push_git_reads};
@@ -11,8 +11,9 @@ use hook_base::Text;
 use hook_config::{ConfigWithNode, Hook, TagNames};
 use std::alloc::{AllocError, Global};
 
-/// Puts a line for each tag that no file has, each id that an earlier hook has, each known tool whose settings its `x_reads` leaves
-/// out, and each command that calls Git where its `x_reads` doesn't name Git's state. `AllocError` where memory is refused.
+/// Puts a line for each tag that no file has, each id that an earlier hook has, and each known tool whose
+/// settings the hook's own `x_reads` leaves out. So it does for each command that calls Git, if its `x_reads`
+/// doesn't name Git's state. `AllocError` if memory is refused.
 pub(crate) fn push_warnings(
     alloc: Global,
     text: &mut String,

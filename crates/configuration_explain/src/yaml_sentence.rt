@@ -1,9 +1,9 @@
-//! What is said of a fault of the YAML, and where in its line it stands, where that can be told.
+//! The sentence for a fault of the YAML, and its place in its line, if that is known.
 
 use crate::own_line::column_of;
 use yaml_profile::YamlKind;
 
-/// What is said of the fault in this line.
+/// The sentence for the fault in this line.
 pub(crate) fn yaml_sentence(kind: YamlKind, line: &str) -> &'static str {
     match kind {
         YamlKind::NotUtf8 => "a byte is not UTF-8: write the file in UTF-8",
@@ -55,7 +55,7 @@ fn unsupported_sign(line: &str) -> Option<char> {
     None
 }
 
-/// Where in its line the fault stands, in characters from 0, where that can be told.
+/// The place of the fault in its line, in characters from 0, if it is known.
 pub(crate) fn yaml_column(kind: YamlKind, line: &str) -> Option<usize> {
     match kind {
         YamlKind::NotUtf8 => column_of(line, '\u{fffd}'),
@@ -66,7 +66,7 @@ pub(crate) fn yaml_column(kind: YamlKind, line: &str) -> Option<usize> {
     }
 }
 
-// Where the first control character stands, or else a sign with which a value would begin.
+// The place of the first control character, or otherwise of a sign with which a value would begin.
 fn unsupported_column(line: &str) -> Option<usize> {
     control_column(line).or(last_beginning(line, Sign::LeftOut))
 }
@@ -85,7 +85,7 @@ fn control_column(line: &str) -> Option<usize> {
 enum Sign {
     /// A quote.
     Quote,
-    /// One with which no text begins.
+    /// One with which no text may begin (YAML 1.2.2, section 5.3).
     LeftOut,
 }
 
@@ -96,8 +96,8 @@ fn is_sign(sign: Sign, c: char) -> bool {
     }
 }
 
-// Where the last value of the line begins that begins with such a sign: a value begins at the line's start, behind a dash, a
-// question mark or a colon with a blank, and behind an opening bracket or a comma.
+// The place of the last value in the line that begins with such a sign. A value begins at the line's start,
+// after a dash, a question mark or a colon and a blank, and after an opening bracket or a comma.
 fn last_beginning(line: &str, sign: Sign) -> Option<usize> {
     let mut found = None;
     let mut begins = true;
@@ -112,7 +112,7 @@ fn last_beginning(line: &str, sign: Sign) -> Option<usize> {
     found
 }
 
-// Whether a value begins behind this character, before which this other one stands.
+// Whether a value begins after this character. `before` is the character before it.
 fn begins_behind(begins: bool, before: char, c: char) -> bool {
     match c {
         ' ' | '\t' => begins || matches!(before, '-' | '?' | ':'),

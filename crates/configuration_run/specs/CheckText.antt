@@ -1,4 +1,4 @@
--- What `check` says of a configuration.
+-- What `check` says about a configuration.
 use Rattle.std.specs.Prelude.{ℕ, List, ◌++◌, length, codes}
 use Rattle.std.specs.List.{flat_map}
 use Rattle.std.specs.Fmt.{decimal}
@@ -9,7 +9,7 @@ use Rattle.report_text.specs.Report.{line}
 abbrev pub hooks_line : ℕ → List ℕ
 hooks_line count = line (codes "hooks: " ++ decimal count)
 
--- a key that nothing knows
+-- a key that no table knows
 abbrev pub ignored_line : List ℕ → List ℕ
 ignored_line key = line (codes "ignored key: " ++ key)
 

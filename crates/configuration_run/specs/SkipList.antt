@@ -1,4 +1,5 @@
--- The hooks that the environment skips: the ids and aliases in a text, with commas between them.
+-- The hooks that the environment skips: the ids and aliases in a text, with commas between them
+-- (pre-commit.com, "Temporarily disabling hooks").
 use Rattle.std.specs.Prelude.{ℕ, ◌==◌, Bool, true, false, if◌then◌else◌, List, [], ◌∷◌, map}
 use Rattle.std.specs.List.{filter, slice_split}
 
@@ -12,7 +13,7 @@ abbrev pub without_spaces_before : List ℕ → List ℕ
 without_spaces_before [] = []
 without_spaces_before (byte ∷ bytes) = if is_space byte then without_spaces_before bytes else byte ∷ bytes
 
--- the byte before the rest, left out where it is a space and nothing follows
+-- the byte and the rest, but not a space that nothing follows
 abbrev pub before_rest : ℕ → List ℕ → List ℕ
 before_rest byte [] = if is_space byte then [] else byte ∷ []
 before_rest byte (next ∷ rest) = byte ∷ next ∷ rest
@@ -29,6 +30,6 @@ abbrev pub is_name : List ℕ → Bool
 is_name [] = false
 is_name (byte ∷ bytes) = true
 
--- the pieces between commas, without the spaces around them, but for those that are empty then
+-- the pieces between commas, without the spaces around them, except those that are then empty
 abbrev pub skip_list : List ℕ → List (List ℕ)
 skip_list text = filter is_name (map without_spaces (slice_split is_comma text))

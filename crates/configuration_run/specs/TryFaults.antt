@@ -1,4 +1,5 @@
--- The numbers and the printed names of a run's refusals, and the refusal of a run whose configuration is refused.
+-- The numbers and the printed names of a run's refusals, and the refusal of a run whose configuration is
+-- refused.
 use Rattle.std.specs.Prelude.{◌≡◌, ◌≢◌, ℕ, List, codes}
 use Rattle.hook_config.specs.declared.config_fault.ConfigFault.{ConfigFault}
 use Rattle.hook_config.specs.declared.config_fault.ConfigKind.TheVariants as kind
@@ -19,7 +20,8 @@ name_of Write = codes "Write"
 name_of OutOfMemory = codes "OutOfMemory"
 name_of Spent = codes "Spent"
 
--- want of memory while the configuration is read is the run's own; any other refusal is the configuration's
+-- want of memory while the configuration is read is the run's own refusal; any other one is the
+-- configuration's
 abbrev pub IsTryFaultOf : ConfigFault → TryFault → Type 0
 IsTryFaultOf fault (BadConfig same) = (same ≡ fault) × (fault.kind ≢ kind.OutOfMemory)
 IsTryFaultOf fault OutOfMemory = fault.kind ≡ kind.OutOfMemory

@@ -22,7 +22,7 @@ use Rattle.hook_run.specs.RunOuts.{IsRunOver, IsStoppedRun}
 use Rattle.configuration_run.specs.declared.try_fault.TryFault.{TryFault}
 use Rattle.configuration_run.specs.declared.try_fault.TryFault.TheVariants.{Read, Config as BadConfig, Write, OutOfMemory, Spent}
 use Rattle.text_output.specs.Outputs.{Has, HasBeginning, Output}
--- ---- what is read. Of a reader that doesn't say its bytes nothing is claimed
+-- ---- what is read; nothing is claimed of a reader that doesn't say its bytes
 
 -- the greatest number of bytes of a configuration is that of any text
 pub use Rattle.yaml_lines.specs.Characters.{most_bytes}
@@ -40,8 +40,8 @@ pub record ReadsConfiguration (given left : Option (List ℕ)) (config : Config)
   pub ended : IsAtEnd left
   pub meant : configuration_of bytes ≡ Some config
 
--- The bytes that were read are no configuration, or hold a pattern that `regex` refuses: they are all that there are, or one
--- more than a configuration may have, which is refused as such.
+-- The bytes that were read are no configuration, or hold a pattern that `regex` refuses. They are all that
+-- there are, or one more than a configuration may have, which is refused as such.
 pub record ReadsNoConfiguration (given left : Option (List ℕ)) (fault : ConfigFault) : Type 0 where
   pub bytes : List ℕ
   pub read : Consumes given left bytes
@@ -51,18 +51,20 @@ pub record ReadsNoConfiguration (given left : Option (List ℕ)) (fault : Config
 
 -- ---- what is run
 
--- the hooks of the stage `pre-commit`, with all files of the tree as candidates: no hook is skipped and none left out
+-- the hooks of the stage `pre-commit`, with all files of the tree as candidates; no hook is skipped or left
+-- out
 abbrev pub ask_for_all : List File → RunAsk
 ask_for_all tree =
     record { stage = PreCommit; candidates = map (λ row. row.path) tree; only = None; skip = []; reuse = All }
 
--- a run of the hooks of this configuration on the tree gives this, between these counts. No answer is remembered before it, so
--- that each outcome is one that the children may tell; of its own answers as many are as a new store remembers
+-- A run of the hooks of this configuration on the tree gives this, between these counts. No answer is cached
+-- before it, so that each outcome is one that the children may give. Of its own answers as many are cached as
+-- a new store keeps.
 pub record IsRunOnAll (tells : List (List ℕ) → List File → Outcome → Type 0) (calls calls_after faults faults_after : ℕ) (config : Config) (tree : List File) (out : RunOut) : Type 0 where
   pub remembered : Contents
   pub run : IsRunOver tells (moment calls faults (nothing first_limit)) (moment calls_after faults_after remembered) config (ask_for_all tree) tree out
 
--- such a run is refused so
+-- such a run is refused with this refusal
 pub record IsStoppedOnAll (tells : List (List ℕ) → List File → Outcome → Type 0) (calls calls_after faults faults_after : ℕ) (config : Config) (tree : List File) (refusal : RunRefusal) : Type 0 where
   pub remembered : Contents
   pub stopped : IsStoppedRun tells (moment calls faults (nothing first_limit)) (moment calls_after faults_after remembered) config (ask_for_all tree) tree refusal
@@ -74,8 +76,8 @@ pub record IsReadAndRun (given left : Option (List ℕ)) (tells : List (List ℕ
   pub read : ReadsConfiguration given left config
   pub run : IsRunOnAll tells calls calls_after faults faults_after config tree out
 
--- What was read is a configuration, there is a run of its hooks on the tree, and what was written is its report. `passed`
--- says whether no hook failed. Of a writer that doesn't say its bytes nothing is claimed.
+-- What was read is a configuration, there is a run of its hooks on the tree, and what was written is its
+-- report. `passed` says whether no hook failed. Nothing is claimed of a writer that doesn't say its bytes.
 pub record IsTriedOver (given left : Option (List ℕ)) (output : Output) (tells : List (List ℕ) → List File → Outcome → Type 0)
     (calls calls_after faults faults_after : ℕ) (tree : List File) (passed : Bool) : Type 0 where
   pub out : RunOut
@@ -90,24 +92,25 @@ pub record NoneCalled (calls calls_after faults faults_after : ℕ) : Type 0 whe
   pub called : calls_after ≡ calls
   pub faulted : faults_after ≡ faults
 
--- what was read is a configuration, and a run of its hooks on the tree is refused so, behind the outcomes that the children
--- told and that are counted
+-- What was read is a configuration, and a run of its hooks on the tree is refused with this refusal. The
+-- outcomes that the children gave before it are counted.
 pub record IsReadAndStopped (given left : Option (List ℕ)) (tells : List (List ℕ) → List File → Outcome → Type 0)
     (calls calls_after faults faults_after : ℕ) (tree : List File) (refusal : RunRefusal) : Type 0 where
   pub config : Config
   pub read : ReadsConfiguration given left config
   pub stopped : IsStoppedOnAll tells calls calls_after faults faults_after config tree refusal
 
--- what was read is a configuration, there is a run of its hooks on the tree, and the writer took its report up to an error
+-- what was read is a configuration, there is a run of its hooks on the tree, and the writer took its report
+-- up to an error
 pub record IsCutOff (given left : Option (List ℕ)) (output : Output) (tells : List (List ℕ) → List File → Outcome → Type 0)
     (calls calls_after faults faults_after : ℕ) (tree : List File) : Type 0 where
   pub out : RunOut
   pub over : IsReadAndRun given left tells calls calls_after faults faults_after tree out
   pub begun : HasBeginning output out.report
 
--- What holds where a run is refused. Until the configuration is read no child is called, and at `Write` the run has ended.
--- `Spent` stops it where a further child is needed, and no more can be counted. Want of memory comes before any child is
--- called, or stops it.
+-- What holds if a run is refused. Until the configuration is read no child is called, and at `Write` the run
+-- has ended. `Spent` stops it if a further child is needed, and no more can be counted. Want of memory comes
+-- before any child is called, or stops the run.
 abbrev pub IsRefusedBy : Option (List ℕ) → Option (List ℕ) → Output → (List (List ℕ) → List File → Outcome → Type 0)
     → ℕ → ℕ → ℕ → ℕ → List File → TryFault → Type 0
 IsRefusedBy given left output tells calls calls_after faults faults_after tree Read =
@@ -124,8 +127,8 @@ IsRefusedBy given left output tells calls calls_after faults faults_after tree S
 
 -- ---- for contracts of private functions alone
 
--- a configuration's run is refused for want of memory, before any child is called or later, or since a further child is
--- needed and no more can be counted
+-- a configuration's run is refused for want of memory, before any child is called or later, or because a
+-- further child is needed and no more can be counted
 abbrev pub IsRefusedRun : (List (List ℕ) → List File → Outcome → Type 0) → ℕ → ℕ → ℕ → ℕ → Config → List File → TryFault → Type 0
 IsRefusedRun tells calls calls_after faults faults_after config tree OutOfMemory =
     NoneCalled calls calls_after faults faults_after

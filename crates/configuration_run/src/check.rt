@@ -11,8 +11,8 @@ use hook_config::Config;
 use report_text::{push, push_line};
 use std::alloc::Global;
 
-/// What `check` says of a configuration: how many hooks it has, and each key that nothing knows, in the order of the
-/// text, a line each.
+/// What `check` says about a configuration, a line each: how many hooks it has, and each key that no table
+/// knows, in the order of the text.
 pub fn check_text(alloc: Global, config: &Config) -> Result<Bytes, OutOfMemory>
     ensures { IfOk result (λ text. text ≡ check_text config.now) }
 {

@@ -1,4 +1,4 @@
-//! The bytes of a configuration, from its reader.
+//! Reads the bytes of a configuration.
 //!
 //! The contracts cite `specs/Reading.antt`.
 
@@ -15,13 +15,13 @@ use yaml_lines::MOST_BYTES;
 /// The greatest number of bytes of a configuration, which is that of any text.
 pub const MOST_CONFIGURATION_BYTES: usize = MOST_BYTES;
 
-// How many bytes are asked of the reader at a time, at most.
+// The greatest number of bytes that the reader is asked for at a time.
 const PIECE: usize = 8192;
 
-/// The bytes up to the input's end, which is where a read gives none. Of a longer input it gives one byte more than a
-/// configuration may have, and reads no further.
+/// The bytes up to the input's end, which is where a read gives none. From a longer input it reads one byte
+/// more than a configuration may have, and no further.
 ///
-/// A refusal is `Read` where the reader gives an error, or `OutOfMemory`.
+/// A refusal is `Read` if the reader gives an error, or `OutOfMemory`.
 pub fn read_bytes<R: Read>(alloc: Global, reader: &mut R) -> Result<Vec<u8>, TryFault>
     ensures read { IfOk result (λ bytes. ReadsToLimit (R.remaining reader.old) (R.remaining reader.new) bytes.items) }
     ensures refused { IfErr result (λ e. (e ≡ fault.Read) ⊎ (e ≡ fault.OutOfMemory)) }
@@ -37,7 +37,7 @@ pub fn read_bytes<R: Read>(alloc: Global, reader: &mut R) -> Result<Vec<u8>, Try
     Ok(bytes)
 }
 
-// Reads once, at most so many bytes, and puts them at the end of those that are there. The answer is how many came.
+// Reads once, at most so many bytes, and adds them after the others. The answer is how many were read.
 fn read_piece<R: Read>(reader: &mut R, bytes: &mut Vec<u8>, most: usize) -> Result<usize, TryFault>
     requires { 1 ≤ most }
     ensures piece { IfOk result (ReadsPiece (R.remaining reader.old) (R.remaining reader.new) bytes.old.items bytes.new.items) }

@@ -1,4 +1,4 @@
-//! The run of a configuration over a tree, with its report written out.
+//! The run of a configuration over a tree, and the writing of its report.
 //!
 //! The contract of [`try_over`] cites `specs/TryOver.antt`.
 
@@ -21,20 +21,22 @@ use std::io::{Read, Write};
 use store_faults::FIRST_LIMIT;
 use text_output::{Unwritten, write_out};
 
-/// Reads a configuration, runs the hooks of the stage `pre-commit` on the tree with all its files as candidates, and
-/// writes the report and nothing else. The answer says whether every hook passed.
+/// Reads a configuration, runs the hooks of the stage `pre-commit` on the tree with all its files as
+/// candidates, and writes the report and nothing else. The answer says whether every hook passed.
 ///
-/// A read that gives no bytes ends the input. Of an input of more than 1,048,576 bytes one more than that is read. The
-/// refusals are, in the order in which they may come:
+/// A read that gives no bytes ends the input. From an input of more than 1,048,576 bytes one more than that
+/// is read. The refusals are, in the order in which they may come:
 ///
-/// - `Read` where the reader gives an error, and `Config` where the bytes are no configuration, or where `regex` refuses one of
-///   its patterns: no child was called;
-/// - `Spent` where a further child is needed and the children have told as many outcomes as can be counted;
-/// - `Write` where the writer gives an error: the run has ended, and the report is out up to some byte, maybe to its last;
+/// - `Read` if the reader gives an error, and `Config` if the bytes are no configuration, or `regex` refuses
+///   one of its patterns: no child was called;
+/// - `Spent` if a further child is needed, and the children have given as many outcomes as can be counted;
+/// - `Write` if the writer gives an error: the run has ended, and the report is written up to some byte,
+///   maybe to its last;
 /// - `OutOfMemory` at any time before the report is written.
 ///
-/// After a refusal other than `Write` nothing was written. What the children told by then stays counted: after `Spent`, and
-/// after `OutOfMemory` where a child was called, a run of the configuration begins with it.
+/// After a refusal other than `Write` nothing was written. The outcomes that the children gave until then
+/// stay counted: after `Spent`, and after `OutOfMemory` if a child was called, a run of the configuration
+/// begins with them.
 pub fn try_over<R: Read, W: Write, C: Children>(
     alloc: Global,
     reader: &mut R,
@@ -90,7 +92,7 @@ fn run_on_all<C: Children>(
         Ok(ran) => Ok(ran.out),
         Err(RunRefusal::OutOfMemory) => Err(TryFault::OutOfMemory),
         Err(RunRefusal::Spent) => Err(TryFault::Spent),
-        // No hook is asked for by its name, and a book in memory refuses for want of memory alone.
+        // `ask_for_all` names no hook, and a book in memory refuses only for want of memory.
         Err(RunRefusal::NoSuchHook | RunRefusal::Book(_)) => unreachable!(),
     }
 }

@@ -1,9 +1,11 @@
-//! A configuration from its bytes on, without a repository: its run over a tree with the report written out ([`try_over`]),
-//! what `check` prints of it ([`check_text`]), and the hooks that the environment skips ([`skip_list_of`]).
+//! A configuration without a repository, from its bytes on. There are its run over a tree with the report
+//! written ([`try_over`]), what `check` prints about it ([`check_text`]), and the hooks that the environment
+//! skips ([`skip_list_of`]).
 //!
-//! The contracts cite `specs/TryOver.antt`, which stands on the definitions of `hook_run` (what a run is, its report, and where
-//! it is refused) and of `text_output` (how much of a text a writer took), `specs/TryFaults.antt` (the refusals of a run),
-//! `specs/CheckText.antt` and `specs/SkipList.antt`. `specs/Reading.antt` serves private functions only.
+//! The contracts cite `specs/TryOver.antt`, `specs/TryFaults.antt` (the refusals of a run),
+//! `specs/CheckText.antt` and `specs/SkipList.antt`. `specs/TryOver.antt` builds on the definitions of
+//! `hook_run` (what a run is, its report, and where it is refused) and of `text_output` (how much of a text a
+//! writer took). `specs/Reading.antt` serves private functions only.
 #![tactic(auto)]
 
 mod check;

@@ -10,7 +10,8 @@ use hook_config::Stage;
 use hook_run::{Reuse, RunAsk};
 use std::alloc::Global;
 
-/// The hooks of the stage `pre-commit`, with all files of the tree as candidates: none is left out, and none skipped.
+/// The hooks of the stage `pre-commit`, with all files of the tree as candidates. No hook is left out or
+/// skipped.
 pub fn ask_for_all(alloc: Global, tree: &Tree) -> Result<RunAsk, OutOfMemory>
     ensures { IfOk result (λ ask. ask ≡ ask_for_all tree.now) }
 {

@@ -8,8 +8,8 @@ ghost use Rattle.configuration_run.specs.SkipList.{skip_list, without_spaces, wi
 use hook_base::{Items, OutOfMemory, Text};
 use std::alloc::Global;
 
-/// The ids and aliases that the text of `SKIP` names: the pieces between its commas, without the spaces around them, but for
-/// those that are empty then.
+/// The ids and aliases that the text of `SKIP` names (pre-commit.com, "Temporarily disabling hooks"). They
+/// are the pieces between its commas, without the spaces around them, except those that are then empty.
 pub fn skip_list_of(alloc: Global, text: &str) -> Result<Items<Text>, OutOfMemory>
     ensures { IfOk result (λ names. names ≡ skip_list text.now) }
 {

@@ -13,17 +13,17 @@ pub enum TryFault {
     /// The reader gave an error.
     #[error("the configuration cannot be read to its end")]
     Read,
-    /// The bytes that were read are no configuration, as those over the limit aren't, or `regex` refuses one of their
-    /// patterns.
+    /// The bytes that were read are no configuration, as when there are more than a configuration may have,
+    /// or `regex` refuses one of their patterns.
     #[error("the configuration is refused: {0}")]
     Config(ConfigFault),
-    /// The writer gave an error. Some bytes of the report may be out.
+    /// The writer gave an error. A part of the report may be written.
     #[error("the report cannot be written")]
     Write,
     /// Memory was refused.
     #[error("out of memory")]
     OutOfMemory,
-    /// A child is needed, and the children have told as many outcomes as can be counted.
+    /// A child is needed, and the children have given as many outcomes as can be counted.
     #[error("no more children can be counted")]
     Spent,
 }
@@ -81,7 +81,7 @@ impl From<AllocError> for TryFault {
     }
 }
 
-/// Want of memory while the configuration was read is want of memory of the run.
+/// Want of memory while the configuration is read is the run's own refusal.
 impl From<ConfigFault> for TryFault {
     ghost use Rattle.configuration_run.specs.TryFaults.{IsTryFaultOf};
 

@@ -1,4 +1,5 @@
--- What a tree is to an older one of whose files some have changed or are gone. This serves private functions alone.
+-- How a tree differs from an older one, if some files have changed or are gone. Only private functions use
+-- this.
 use Rattle.std.specs.Prelude.{◌≡◌, ℕ, Bool, false, List, [], ◌∷◌, map, Option, None, Some}
 use Rattle.std.specs.declared.cmp.Ordering.{Ordering}
 use Rattle.std.specs.declared.cmp.Ordering.TheVariants.{Greater}
@@ -17,17 +18,18 @@ is_among paths path = list_any (λ other. bytes_eq other path) paths
 abbrev pub paths_named : List Change → List (List ℕ)
 paths_named = map (λ change. change.path)
 
--- the new tree holds what the old one does at all paths but these, and nothing where the old one holds nothing
+-- the new tree has the same as the old one at all paths but these, and nothing where the old one has
+-- nothing
 pub record IsChangedAt (paths : List (List ℕ)) (old new : List File) : Type 0 where
   pub elsewhere : (path : List ℕ) → is_among paths path ≡ false → entry_of path new ≡ entry_of path old
   pub absent : (path : List ℕ) → entry_of path old ≡ None → entry_of path new ≡ None
 
--- where the first of the paths stands by a path: behind every path where there is none
+-- how the first of the paths compares to a path: `Greater` if there is no first one
 abbrev pub first_cmp : List (List ℕ) → List ℕ → Ordering
 first_cmp [] path = Greater
 first_cmp (first ∷ paths) path = path_cmp first path
 
--- what stands at a path, as a row
+-- the file at a path, as a row
 abbrev pub row_with : List ℕ → Option FileEntry → List File
 row_with path None = []
 row_with path (Some entry) = record { path = path; entry = entry } ∷ []

@@ -1,8 +1,8 @@
--- Whether bytes look like text.
+-- Whether bytes look like text (identify 2.5's is_text).
 use Rattle.std.specs.Prelude.{ℕ, Bool, ◌==◌, ◌||◌, ◌&&◌, nat_le, List, take}
 use Rattle.std.specs.List.{list_all}
 
--- the bytes at the front that are looked at
+-- how many bytes at the file's start are examined
 abbrev pub looked_at : ℕ
 looked_at = 1_024
 

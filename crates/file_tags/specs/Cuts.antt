@@ -20,19 +20,20 @@ is_tab byte = byte == 9
 abbrev pub is_blank : ℕ → Bool
 is_blank byte = is_space byte || is_tab byte
 
--- the last of the parts between bytes that pass
+-- what follows the last byte that passes, or all bytes if none passes
 abbrev pub last_part : (ℕ → Bool) → List ℕ → List ℕ
 last_part passes [] = []
 last_part passes (byte ∷ bytes) =
     if list_any passes bytes then last_part passes bytes else (if passes byte then bytes else byte ∷ bytes)
 
--- what stands before each dot, the longest first
+-- what comes before each dot, the longest first
 abbrev pub before_dots : List ℕ → List (List ℕ)
 before_dots [] = []
 before_dots (byte ∷ bytes) =
     map (λ before. byte ∷ before) (before_dots bytes) ++ (if is_dot byte then [] ∷ [] else [])
 
--- what follows the last dot that has another character somewhere before it, or nothing where there is no such dot
+-- What follows the last dot that has another character somewhere before it, or nothing if there is no such
+-- dot. (The extension of Python 3.11's os.path.splitext, without its dot.)
 abbrev pub extension_of : List ℕ → List ℕ
 extension_of [] = []
 extension_of (byte ∷ bytes) =

@@ -1,4 +1,4 @@
--- The tags of a file, rule by rule (the library `identify`).
+-- The tags of a file, rule by rule (identify 2.5's tags_from_path; docs/REFERENCE.md, "Tags of a file").
 use Rattle.std.specs.Prelude.{ℕ, Bool, ◌||◌, if◌then◌else◌, List, [], ◌∷◌, ◌++◌, map, codes}
 use Rattle.std.specs.Char.{to_ascii_lowercase}
 use Rattle.std.specs.List.{list_any, slice_split}
@@ -15,7 +15,7 @@ use Rattle.file_tags.specs.Contents.{is_text}
 abbrev pub has_tag : List ℕ → List (List ℕ) → Bool
 has_tag tag tags = list_any (λ other. bytes_eq other tag) tags
 
--- every file has these, by its mode
+-- the tags that every file has, by its mode
 abbrev pub mode_tags : Mode → List (List ℕ)
 mode_tags Plain = codes "file" ∷ codes "non-executable" ∷ []
 mode_tags Executable = codes "file" ∷ codes "executable" ∷ []
@@ -24,38 +24,40 @@ mode_tags Executable = codes "file" ∷ codes "executable" ∷ []
 abbrev pub name_of : List ℕ → List ℕ
 name_of path = last_part is_slash path
 
--- of the name, whole, and of its pieces between dots the first that is known
+-- the tags of the whole name, otherwise of the first of its pieces between dots that is known (identify
+-- 2.5's tags_from_filename)
 abbrev pub name_tags : List ℕ → List (List ℕ)
 name_tags name = tags_of_first name_rows (name ∷ slice_split is_dot name)
 
--- of the name's extension, A to Z made small
+-- the tags of the name's extension, with A to Z in lower case (identify 2.5's tags_from_filename)
 abbrev pub extension_tags : List ℕ → List (List ℕ)
 extension_tags name = tags_in extension_rows (map to_ascii_lowercase (extension_of name))
 
--- of an interpreter's name, or else of what stands before its last dot, and so on until one is known
+-- the tags of an interpreter's name, otherwise of what comes before its last dot, and so on until one is
+-- known (identify 2.5's tags_from_interpreter)
 abbrev pub interpreter_tags : List (List ℕ) → List (List ℕ)
 interpreter_tags [] = []
 interpreter_tags (word ∷ words) =
     tags_of_first interpreter_rows (last_part is_slash word ∷ before_dots (last_part is_slash word))
 
--- of the program that an executable file names in its first line
+-- the tags of the program that an executable file names in its first line
 abbrev pub script_tags : Mode → List ℕ → List (List ℕ)
 script_tags Plain bytes = []
 script_tags Executable bytes = interpreter_tags (from_interpreter (shebang_of bytes))
 
--- of the name and its extension, or where they give none, of the first line
+-- the tags of the name and its extension; if they give none, those of the first line
 abbrev pub told_tags : List ℕ → FileEntry → List (List ℕ)
 told_tags name entry = or_else (name_tags name ++ extension_tags name) (script_tags entry.mode entry.bytes)
 
--- whether one of the tags tells that the file is text, or that it is binary
+-- whether one of the tags says that the file is text, or that it is binary
 abbrev pub tell_encoding : List (List ℕ) → Bool
 tell_encoding tags = has_tag (codes "text") tags || has_tag (codes "binary") tags
 
--- what the bytes look like
+-- `text` or `binary`, as the bytes look
 abbrev pub encoding_of : List ℕ → List ℕ
 encoding_of bytes = if is_text bytes then codes "text" else codes "binary"
 
--- where nothing has told whether the file is text or binary, its bytes do
+-- if no tag says whether the file is text or binary, its bytes do
 abbrev pub content_tags : List (List ℕ) → List ℕ → List (List ℕ)
 content_tags told bytes = if tell_encoding told then [] else encoding_of bytes ∷ []
 

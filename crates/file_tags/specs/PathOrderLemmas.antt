@@ -1,4 +1,4 @@
--- Lemmas, also for the crates above: sorting paths and leaving repetitions out keeps which paths there are.
+-- Lemmas, also for other crates: sorting paths and leaving repetitions out keeps the same paths.
 use Rattle.std.proofs.Common.{◌≡◌, ℕ, Bool, true, false, ◌||◌, if◌then◌else◌, List, [], ◌∷◌, refl, ap, ◌∙◌}
 use Rattle.std.specs.List.{list_any, dedup, dedup_from, AllByRecursion}
 use Rattle.std.specs.List.Sorted.{IsStrictlySortedBy}
@@ -22,7 +22,7 @@ unfolding IsStrictlySortedBy
 rising-of_sorted [] sorted = tt
 rising-of_sorted (path ∷ paths) sorted = (below_all-of_sorted path paths sorted.0, rising-of_sorted paths sorted.1)
 
--- a path is among the referred ones where a reference refers to it
+-- a path is among the referred ones if a reference refers to it
 pub is_among-texts_of : (path : List ℕ) (paths : List (Bor (List ℕ))) → is_among (texts_of paths) path ≡ list_any (λ other. bytes_eq other.now path) paths
 is_among-texts_of path [] = refl
 is_among-texts_of path (other ∷ paths) = ap (λ rest. bytes_eq other.now path || rest) (is_among-texts_of path paths)
@@ -42,7 +42,7 @@ module _ {X : Type 0} (same : X → X → Bool) (test : X → Bool) (alike : (x 
         | false ↦ λ e. ap (λ rest. test first || rest) (from_first item items)
       ] refl
 
-  -- a test that can't tell repetitions apart finds as much without them
+  -- a test that can't distinguish repetitions finds as much without them
   pub list_any-dedup : (items : List X) → list_any test (dedup same items) ≡ list_any test items
   list_any-dedup [] = refl
   list_any-dedup (item ∷ items) = from_first item items

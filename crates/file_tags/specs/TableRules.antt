@@ -1,4 +1,4 @@
--- What the tables obey.
+-- The rules of the tables.
 use Rattle.std.specs.Prelude.{ℕ, Bool, true, false, not, ◌&&◌, List, [], ◌∷◌, map}
 use Rattle.std.specs.Char.{to_ascii_lowercase}
 use Rattle.std.specs.List.{list_all, list_any}
@@ -13,12 +13,12 @@ abbrev pub are_some_tags : List (List ℕ) → Bool
 are_some_tags [] = false
 are_some_tags (tag ∷ tags) = list_all is_some_name (tag ∷ tags)
 
--- each row has a name that isn't empty and no later row has, and gives at least one tag
+-- each row has a name that isn't empty and that no later row has, and gives at least one tag
 abbrev pub are_rows : List TagRow → Bool
 are_rows [] = true
 are_rows (row ∷ rows) =
     is_some_name row.name && are_some_tags row.tags && not (list_any (λ later. bytes_eq later.name row.name) rows) && are_rows rows
 
--- no name has a capital letter of ASCII
+-- no name has an ASCII capital letter
 abbrev pub are_small : List TagRow → Bool
 are_small = list_all (λ row. bytes_eq (map to_ascii_lowercase row.name) row.name)

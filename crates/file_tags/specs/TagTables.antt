@@ -1,4 +1,4 @@
--- The tables of tags. Their rows stand once, in the module `tables`, and the definitions read them there.
+-- The tables of tags. Their rows are only in the module `tables`, where the definitions read them.
 use Rattle.std.specs.Prelude.{ℕ, if◌then◌else◌, List, [], ◌∷◌, map}
 use Rattle.std.specs.Str.{bytes_eq}
 use denote.Ref.{Bor}
@@ -17,7 +17,7 @@ texts_of = map (λ text. text.now)
 abbrev pub rows_of : List (Bor (List ℕ) × Bor (List (Bor (List ℕ)))) → List TagRow
 rows_of = map (λ row. record { name = row.0.now; tags = texts_of row.1.now })
 
--- names of files, and of parts of them
+-- names of files, and of their pieces between dots
 unfoldable pub name_rows : List TagRow
 name_rows = map (λ row. record { name = row.0.now; tags = map (λ tag. tag.now) row.1.now }) NAMES
 
@@ -29,17 +29,17 @@ extension_rows = map (λ row. record { name = row.0.now; tags = map (λ tag. tag
 unfoldable pub interpreter_rows : List TagRow
 interpreter_rows = map (λ row. record { name = row.0.now; tags = map (λ tag. tag.now) row.1.now }) INTERPRETERS
 
--- the tags of a name, none where no row has it
+-- the tags of a name; none if no row has it
 abbrev pub tags_in : List TagRow → List ℕ → List (List ℕ)
 tags_in [] name = []
 tags_in (row ∷ rows) name = if bytes_eq row.name name then row.tags else tags_in rows name
 
--- the first list where it has an item, else the second
+-- the first list if it has an item, otherwise the second
 abbrev pub or_else : List (List ℕ) → List (List ℕ) → List (List ℕ)
 or_else [] second = second
 or_else (tag ∷ tags) second = tag ∷ tags
 
--- the tags of the first name that a row has, none where no row has any
+-- the tags of the first name that a row has; none if no row has any
 abbrev pub tags_of_first : List TagRow → List (List ℕ) → List (List ℕ)
 tags_of_first rows [] = []
 tags_of_first rows (name ∷ names) = or_else (tags_in rows name) (tags_of_first rows names)

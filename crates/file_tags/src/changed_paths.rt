@@ -1,4 +1,6 @@
 //! The paths that changes name.
+//!
+//! The contracts cite `specs/ChangedFiles.antt`.
 
 ghost use Rattle.std.specs.Prelude.{◌≡◌, ℕ, List, IfOk};
 ghost use Rattle.hook_base.specs.Rising.{IsRisingBy};
@@ -8,7 +10,7 @@ ghost use Rattle.file_tags.specs.TagTables.{texts_of};
 use hook_base::{Change, OutOfMemory, RepoPath};
 use std::alloc::Global;
 
-/// The paths that changes name, in their order, each once. `OutOfMemory` where memory is refused.
+/// The paths that changes name, sorted, each once. `OutOfMemory` if memory is refused.
 pub(crate) fn changed_paths<'c>(
     alloc: Global,
     changes: &'c [Change],

@@ -1,10 +1,12 @@
 //! Names, and where they are cut.
+//!
+//! The contracts cite `specs/Cuts.antt` and `specs/LastCuts.antt`.
 
 ghost use Rattle.std.specs.Prelude.{◌≡◌, ◌<◌};
 ghost use Rattle.file_tags.specs.Cuts.{is_slash, last_part, extension_of};
 ghost use Rattle.file_tags.specs.LastCuts.{IsCutAtLast, has_other_than_dots};
 
-// What stands before the last such character and what follows it, or `None` where there is none.
+// What comes before the last such character and what follows it. `None` if there is none.
 pub(crate) fn cut_at_last(text: &str, mark: char) -> Option<(&str, &str)>
     requires { mark < 128 }
     ensures { IsCutAtLast mark text.now result }
@@ -12,7 +14,7 @@ pub(crate) fn cut_at_last(text: &str, mark: char) -> Option<(&str, &str)>
     text.rsplit_once(mark)
 }
 
-/// What follows the last slash, or all of the text where there is none.
+/// What follows the last slash, or all of the text if there is none.
 pub(crate) fn last_part(text: &str) -> &str
     ensures { result.now ≡ last_part is_slash text.now }
 {
@@ -22,7 +24,8 @@ pub(crate) fn last_part(text: &str) -> &str
     }
 }
 
-/// What follows the last dot that has another character somewhere before it, or nothing where there is no such dot.
+/// What follows the last dot that has another character somewhere before it, or nothing if there is no such
+/// dot. (The extension of Python 3.11's os.path.splitext, without its dot.)
 pub(crate) fn extension_of(name: &str) -> &str
     ensures { result.now ≡ extension_of name.now }
 {

@@ -1,4 +1,6 @@
 //! The words of a script's first line.
+//!
+//! The contracts cite `specs/Shebangs.antt`.
 
 ghost use Rattle.std.specs.Prelude.{◌≡◌, ◌++◌, IfOk, OnOk};
 ghost use Rattle.std.specs.List.{filter, slice_split, before_first};
@@ -9,12 +11,16 @@ ghost use Rattle.file_tags.specs.Shebangs.{is_word, line_of, shebang_of, without
 use hook_base::{Items, OutOfMemory, Text};
 use std::alloc::Global;
 
-/// The most bytes that may follow `#!` in the first line of a script, a carriage return at its end among them: 1,024.
+/// The most bytes that may follow `#!` in the first line of a script, including a carriage return at its
+/// end: 1,024.
 pub const MOST_SHEBANG_BYTES: usize = 1_024;
 
-/// The words of a script's first line after `#!`, as spaces and tabs part them. There are none where the file doesn't begin
-/// with `#!`, or where more than [`MOST_SHEBANG_BYTES`] or bytes that aren't UTF-8 follow it in its line. One carriage
-/// return at the line's end isn't part of a word. `OutOfMemory` where memory is refused.
+/// The words of a script's first line after `#!`, separated by spaces and tabs.
+///
+/// There are none if the file doesn't begin with `#!`. There are none either if more than
+/// [`MOST_SHEBANG_BYTES`], or bytes that aren't UTF-8, follow it in its line. One carriage return at the
+/// line's end isn't part of a word. `OutOfMemory` if memory is refused. (After identify 2.5's
+/// parse_shebang, which also reads quotes.)
 pub fn shebang(alloc: Global, bytes: &[u8]) -> Result<Items<Text>, OutOfMemory>
     ensures { IfOk result (λ words. words ≡ shebang_of bytes.now) }
 {

@@ -1,4 +1,6 @@
 //! The tags of a tree's files, kept from change to change.
+//!
+//! The contracts cite `specs/TreeTags.antt`.
 
 ghost use Rattle.std.specs.Prelude.{◌≡◌, ◌<◌, length, slice_get, Some, IfOk, OnOk, OnErr};
 ghost use Rattle.hook_base.specs.Trees.{apply_changes};
@@ -12,7 +14,8 @@ use hook_base::{Change, OutOfMemory, Tree};
 use std::alloc::Global;
 use std::marker::Model;
 
-/// The tags of the files of a tree, in its order, each kept until its file changes. Contracts see the list of them.
+/// The tags of the files of a tree, in its order, each kept until its file changes. Contracts see the list
+/// of them.
 #[derive(Debug, Drop)]
 pub struct KeptTags {
     kept: Vec<SharedTags>,
@@ -27,7 +30,7 @@ impl Model for KeptTags {
 }
 
 impl KeptTags {
-    /// The tags of the files of a tree, or `OutOfMemory` where memory is refused.
+    /// The tags of the files of a tree. `OutOfMemory` if memory is refused.
     pub fn of(alloc: Global, tree: &Tree) -> Result<KeptTags, OutOfMemory>
         ensures { IfOk result (λ kept. kept ≡ tags_of_tree tree.now) }
     {
@@ -50,8 +53,9 @@ impl KeptTags {
         self.kept[index].as_tags()
     }
 
-    /// Goes over from the tags of a tree to those of the tree that changes made of it: the tags of the files that they name are
-    /// made, and the others kept. `OutOfMemory` where memory is refused, which leaves the tags as they were.
+    /// Turns the tags of the tree `old` into those of the tree `new`, which these changes make of it. The
+    /// tags of the files that the changes name are computed, and the others kept. `OutOfMemory` if memory
+    /// is refused, which leaves the tags as they were.
     pub fn follow(&mut self, old: &Tree, new: &Tree, changes: &[Change]) -> Result<(), OutOfMemory>
         requires held { self.old ≡ tags_of_tree old.now }
         requires applied { new.now ≡ apply_changes changes.now old.now }

@@ -1,4 +1,5 @@
-//! Laws of what the contracts cite. Each is a function that gives nothing: what it ensures is a theorem.
+//! Laws of the definitions that the contracts cite. Each law is a function that returns nothing: what it
+//! ensures is a theorem.
 
 ghost use Rattle.std.specs.Prelude.{◌≡◌, ◌↔◌, ℕ, IsTrue, List};
 ghost use Rattle.hook_base.specs.declared.file.FileEntry.{FileEntry};
@@ -10,12 +11,13 @@ ghost use Rattle.file_tags.specs.TagTables.{name_rows, extension_rows, interpret
 
 use crate::MOST_SHEBANG_BYTES;
 
-/// The limit of the code is that which the definitions name.
+/// The most bytes after `#!`: code and definitions have the same number.
 pub fn the_limit_is_that_defined()
     ensures { MOST_SHEBANG_BYTES ≡ most_shebang_bytes }
 {}
 
-/// In each table every row gives a tag, and no name is empty or stands twice. Extensions are in small letters.
+/// In each table every row gives a tag, and no name is empty or occurs twice. Extensions have no ASCII
+/// capital letter.
 #[tactic(auto, unfolding(crate::specs::TagTables::name_rows, crate::specs::TagTables::extension_rows, crate::specs::TagTables::interpreter_rows))]
 pub fn the_tables_are_fit()
     ensures names { IsTrue (are_rows name_rows) }
@@ -24,7 +26,7 @@ pub fn the_tables_are_fit()
     ensures interpreters { IsTrue (are_rows interpreter_rows) }
 {}
 
-/// A file has a tag exactly where one of the rules gives it.
+/// A file has a tag exactly if one of the rules gives it.
 pub fn each_tag_has_a_reason()
     ensures { (tag path : List ℕ) (entry : FileEntry) → IsTrue (has_tag tag (tags_of_file path entry)) ↔ Reason tag path entry }
 {}

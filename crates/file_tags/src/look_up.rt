@@ -1,4 +1,6 @@
 //! What the tables give for a name.
+//!
+//! The contracts cite `specs/TagTables.antt` and `specs/FileTags.antt`.
 
 ghost use Rattle.std.specs.Prelude.{◌≡◌, ◌∷◌};
 ghost use Rattle.file_tags.specs.Cuts.{before_dots};
@@ -8,7 +10,7 @@ ghost use Rattle.file_tags.specs.TagTables.{texts_of, rows_of, name_rows, extens
 use crate::cuts::cut_at_last;
 use crate::tables::{EXTENSIONS, INTERPRETERS, NAMES};
 
-// The tags of the first row that has the name, none where no row has it.
+// The tags of the first row that has the name; none if no row has it.
 fn tags_in(
     rows: &'static [(&'static str, &'static [&'static str])],
     name: &str,
@@ -37,7 +39,7 @@ fn row_of_interpreter(name: &str) -> &'static [&'static str]
     tags_in(&INTERPRETERS, name)
 }
 
-/// The tags of an extension in small letters.
+/// The tags of an extension in lower case.
 #[tactic(auto, unfolding(crate::specs::TagTables::extension_rows))]
 pub(crate) fn row_of_extension(extension: &str) -> &'static [&'static str]
     ensures { texts_of result.now ≡ tags_in extension_rows extension.now }
@@ -45,7 +47,8 @@ pub(crate) fn row_of_extension(extension: &str) -> &'static [&'static str]
     tags_in(&EXTENSIONS, extension)
 }
 
-/// The tags of a file's name, whole, or else of the first of its pieces between dots that has any.
+/// The tags of a file's whole name, otherwise of the first of its pieces between dots that has any.
+/// (identify 2.5's tags_from_filename: `Dockerfile.xenial` is a `Dockerfile`.)
 pub(crate) fn name_tags(name: &str) -> &'static [&'static str]
     ensures { texts_of result.now ≡ name_tags name.now }
 {
@@ -58,7 +61,8 @@ pub(crate) fn name_tags(name: &str) -> &'static [&'static str]
     tags
 }
 
-/// The tags of an interpreter, or else of the longest part of its name before a dot that has any.
+/// The tags of an interpreter, otherwise of the longest part of its name before a dot that has any.
+/// (identify 2.5's tags_from_interpreter: `python3.5.2`, `python3.5`, `python3`.)
 pub(crate) fn interpreter_tags(interpreter: &str) -> &'static [&'static str]
     ensures { texts_of result.now ≡ tags_of_first interpreter_rows (interpreter.now ∷ before_dots interpreter.now) }
 {

@@ -1,4 +1,6 @@
 //! The tags of a file, rule by rule.
+//!
+//! The contracts cite `specs/FileTags.antt`.
 
 ghost use Rattle.std.specs.Prelude.{◌≡◌, IfOk, codes};
 ghost use Rattle.std.specs.Str.{bytes_eq};
@@ -14,12 +16,16 @@ use crate::tags::{Tags, has_tag};
 use hook_base::{FileEntry, Mode, OutOfMemory, RepoPath, Text};
 use std::alloc::Global;
 
-// The bytes at the front of a file that tell whether it is text.
+// How many bytes at a file's start decide whether it is text.
 const LOOKED_AT: usize = 1_024;
 
-/// The tags of the file that stands at a path: `file`, and `executable` or `non-executable` by its mode; those of its name
-/// and of its extension; where these give none, those of the interpreter that an executable file names in its first line;
-/// and `text` or `binary` by its first 1,024 bytes where none of these says it. `OutOfMemory` where memory is refused.
+/// The tags of the file at a path, by the rules of identify 2.5's tags_from_path:
+/// - `file`, and `executable` or `non-executable` by its mode;
+/// - those of its name and of its extension;
+/// - if these give none, those of the interpreter that an executable file names in its first line;
+/// - if none of these says it, `text` or `binary` by its first 1,024 bytes.
+///
+/// `OutOfMemory` if memory is refused.
 pub fn tags_of(alloc: Global, path: &RepoPath, entry: &FileEntry) -> Result<Tags, OutOfMemory>
     ensures { IfOk result (λ tags. tags ≡ tags_of_file path.now entry.now) }
 {
@@ -110,7 +116,7 @@ fn content_tags(told: &[&'static str], bytes: &[u8]) -> &'static [&'static str]
     }
 }
 
-// Whether the first bytes are all those of a text.
+// Whether the first bytes are all those of a text. (identify 2.5's is_text.)
 fn is_text(bytes: &[u8]) -> bool
     ensures { result ≡ is_text bytes.now }
 {

@@ -1,4 +1,4 @@
-//! Tags that lists of them share.
+//! A file's tags, shared between lists of them.
 
 ghost use Rattle.std.specs.Prelude.{◌≡◌, IfOk};
 
@@ -23,7 +23,7 @@ impl Model for SharedTags {
 }
 
 impl SharedTags {
-    /// The tags, to be shared, or `OutOfMemory` where memory is refused.
+    /// The tags, to be shared. `OutOfMemory` if memory is refused.
     pub(crate) fn new(alloc: Global, tags: Tags) -> Result<SharedTags, OutOfMemory>
         ensures { IfOk result (λ shared. shared ≡ tags) }
     {
@@ -39,7 +39,7 @@ impl SharedTags {
     }
 }
 
-// The same tags, shared once more. `AllocError` where they have too many owners to be counted.
+// The same tags, shared once more. `AllocError` if they have too many owners to be counted.
 impl Clone for SharedTags {
     ghost use Rattle.std.specs.Prelude.{◌≡◌};
 

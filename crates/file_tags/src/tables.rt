@@ -1,5 +1,8 @@
-//! The tables of tags: each name with all tags that it gives, `text` or `binary` among them where it tells this. They
-//! stand here alone, and `specs/TagTables.antt` reads them here. No name stands twice in a table.
+//! The tables of tags: each name with all tags that it gives, including `text` or `binary` if it decides
+//! this. The rows are only here, where `specs/TagTables.antt` reads them. No name occurs twice in a table.
+//!
+//! (They have fewer rows than the tables of the package `identify`; docs/REFERENCE.md, "Tags of a file",
+//! lists them.)
 
 /// Names of files, and of pieces of them between dots.
 pub static NAMES: [(&str, &[&str]); 16] = [
@@ -21,7 +24,7 @@ pub static NAMES: [(&str, &[&str]); 16] = [
     ("makefile", &["makefile", "text"]),
 ];
 
-/// Extensions of names, in small letters.
+/// Extensions of names, in lower case.
 pub static EXTENSIONS: [(&str, &[&str]); 58] = [
     ("bash", &["bash", "shell", "text"]),
     ("c", &["c", "text"]),

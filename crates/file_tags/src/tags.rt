@@ -6,7 +6,8 @@ ghost use Rattle.file_tags.specs.TagTables.{texts_of};
 
 use std::marker::Model;
 
-/// What a file is, as `python` or `executable`. Contracts see the list of the tags, each as the list of its bytes.
+/// What a file is, for example `python` or `executable`. Contracts see the list of the tags, each as the
+/// list of its bytes.
 #[derive(Debug, Drop)]
 pub struct Tags {
     tags: Vec<&'static str>,
@@ -29,7 +30,7 @@ impl Tags {
         Tags { tags }
     }
 
-    /// Whether a tag is among them, letter by letter. It takes no memory.
+    /// Whether a tag is among them. Upper and lower case differ. It takes no memory.
     pub fn has(&self, tag: &str) -> bool
         ensures { result ≡ has_tag tag.now self.now }
     {

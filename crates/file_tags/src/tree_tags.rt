@@ -1,4 +1,6 @@
-//! The tags of all files of a tree, made anew, or taken over from those of an older tree.
+//! The tags of all files of a tree, computed, or shared with those of an older tree.
+//!
+//! The contracts cite `specs/TreeTags.antt` and `specs/ChangedFiles.antt`.
 
 ghost use Rattle.std.specs.Prelude.{◌≡◌, ◌++◌, ◌<◌, drop, IfOk, OnOk};
 ghost use Rattle.std.specs.Option.{option_copied};
@@ -13,7 +15,7 @@ use hook_base::{File, FileEntry, OutOfMemory, RepoPath, Tree};
 use std::alloc::Global;
 use std::cmp::Ordering;
 
-/// The tags of each file, in the order of the tree. `OutOfMemory` where memory is refused.
+/// The tags of each file, in the order of the tree. `OutOfMemory` if memory is refused.
 pub(crate) fn tags_of_tree(alloc: Global, tree: &Tree) -> Result<Vec<SharedTags>, OutOfMemory>
     ensures { IfOk result (λ tags. tags.items ≡ tags_of_tree tree.now) }
 {
@@ -31,8 +33,9 @@ fn tags_of_row(alloc: Global, row: &File) -> Result<SharedTags, OutOfMemory>
     SharedTags::new(alloc, tags_of(alloc, &row.path, &row.entry)?)
 }
 
-/// The tags of the files of a tree, given those of an older tree, from which it differs at these paths alone, which rise: the
-/// tags of the files there are made, and the others shared. `OutOfMemory` where memory is refused.
+/// The tags of the files of the tree `new`, given those of the tree `old`. The trees differ only at these
+/// paths, which are sorted. The tags of the files there are computed, and the others shared. `OutOfMemory`
+/// if memory is refused.
 pub(crate) fn tags_after(
     alloc: Global,
     tags: &[SharedTags],
@@ -49,7 +52,7 @@ pub(crate) fn tags_after(
     let mut after = Vec::with_capacity(alloc, new.len())?;
     let mut index = 0;
     let mut next = 0;
-    // Rows and paths both rise, so that the first path left is that of the row at hand or of a later one.
+    // Rows and paths both rise, so the first path left is that of the current row or of a later one.
     'rows: while index < count {
         let row = old.entry(index);
         match first_cmp(paths, next, &row.path) {
@@ -67,7 +70,7 @@ pub(crate) fn tags_after(
     Ok(after)
 }
 
-// Where the first of the paths from an index on stands by a path.
+// How the first of the paths from an index on compares to a path: `Greater` if there is none.
 fn first_cmp(paths: &[&RepoPath], next: usize, path: &RepoPath) -> Ordering
     ensures { result ≡ first_cmp (drop next (texts_of paths.now)) path.now }
 {
@@ -77,7 +80,7 @@ fn first_cmp(paths: &[&RepoPath], next: usize, path: &RepoPath) -> Ordering
     }
 }
 
-// Puts the tags of what stands at a path behind others.
+// Appends the tags of the file at a path, if there is one.
 #[tactic(auto, unfolding(crate::specs::TreeTags::tags_of_row))]
 fn push_tags(
     alloc: Global,

@@ -1,4 +1,4 @@
--- Lemmas: `==` of files and of changes says that they are the same.
+-- Lemmas: `==` of files and of changes holds exactly if they are the same.
 use Rattle.std.specs.Prelude.{◌≡◌, ℕ, Bool, IsTrue, ◌&&◌, List, Option, None, Some, refl}
 use Rattle.std.specs.Bool.{Decides}
 use Rattle.std.specs.Cmp.{IsPartialEquivalence, IsEquivalence, both_ways, equiv}
@@ -64,6 +64,6 @@ per_from_decides E d = record {
 pub equiv_from_decides : {X : Type 0} (E : X → X → Bool) → ((a b : X) → Decides (E a b) (a ≡ b)) → IsEquivalence E
 equiv_from_decides E d = equiv (per_from_decides E d) (λ x. (d x x).1 refl)
 
--- what `==` says of two lists, where `==` of their items says that they are the same
+-- `==` of two lists holds exactly if they are the same, if that is so for their items
 pub lists_same : {X : Type 0} {E : X → X → Bool} → ((a b : X) → Decides (E a b) (a ≡ b)) → (xs ys : List X) (r : Bool) → r ≡ pointwise E xs ys → (IsTrue r → xs ≡ ys) × (xs ≡ ys → IsTrue r)
 lists_same decides xs ys r e = subst (λ (b : Bool). Decides b (xs ≡ ys)) (sym e) (pointwise_decides decides xs ys)

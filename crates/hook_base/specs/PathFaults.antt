@@ -1,4 +1,4 @@
--- The numbers of the reasons why a text is no path.
+-- The numbers of the reasons why a text isn't a path (docs/REFERENCE.md, "Paths").
 use Rattle.std.specs.Prelude.{ℕ}
 use Rattle.hook_base.specs.declared.path_fault.PathFault.{PathFault}
 use Rattle.hook_base.specs.declared.path_fault.PathFault.TheVariants.{Empty, Absolute, DotPart, EmptyPart, TooLong, ControlByte, UnderGit, OutOfMemory}

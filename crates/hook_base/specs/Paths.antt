@@ -1,4 +1,4 @@
--- Paths inside a repository, as lists of bytes.
+-- Paths inside a repository, as lists of bytes (docs/REFERENCE.md, "Paths").
 use Rattle.std.specs.Prelude.{◌≡◌, ◌⊎◌, ℕ, Bool, false, ◌==◌, ◌||◌, nat_lt, if◌then◌else◌, List, [], ◌∷◌, length, Option, None, Some, codes}
 use Rattle.std.specs.List.{slice_split, list_any}
 use Rattle.std.specs.Str.{bytes_eq}
@@ -36,7 +36,7 @@ abbrev pub begins_with_slash : List ℕ → Bool
 begins_with_slash [] = false
 begins_with_slash (byte ∷ bytes) = is_slash byte
 
--- the first reason, in this order, why the bytes are no path inside a repository
+-- the first reason, in this order, why the bytes aren't a path inside a repository
 unfoldable pub path_fault : List ℕ → Option PathFault
 path_fault path =
     if is_empty_part path then Some Empty else
@@ -47,10 +47,10 @@ path_fault path =
     (if list_any is_dot_part (parts_of path) then Some DotPart else
     (if is_under_git path then Some UnderGit else None))))))
 
--- where the message of a commit stands
+-- the file with the message of a commit (githooks(5), "commit-msg"; git-commit(1), "FILES")
 abbrev pub message_path : List ℕ
 message_path = codes ".git/COMMIT_EDITMSG"
 
--- a path that a tree may hold: a legal one, or the message's
+-- a path that a tree may have: a legal one, or that of the message
 abbrev pub IsRepoPath : List ℕ → Type 0
 IsRepoPath path = (path_fault path ≡ None) ⊎ (path ≡ message_path)

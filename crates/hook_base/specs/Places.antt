@@ -1,5 +1,5 @@
--- Where a path's row stands among rows that rise: at an index, or, where no row has the path, before one. This serves
--- private functions alone: the search of a tree, and the edits of a store's files in `repo_store`.
+-- Where a path is among rows that rise: at an index, or, if no row has the path, before one. This serves
+-- private functions alone: the search in a tree, and the edits of a store's files in `repo_store`.
 use Rattle.std.specs.Prelude.{◌≡◌, ℕ, zero, suc, List, [], ◌∷◌}
 use Rattle.hook_base.specs.declared.file.File.{File}
 use Rattle.hook_base.specs.declared.place.Place.{Place}

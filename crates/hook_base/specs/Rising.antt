@@ -1,4 +1,4 @@
--- Lists that are in the order of their paths. Paths are compared by their bytes.
+-- Lists in the rising order of their paths. Paths are compared by their bytes.
 use Rattle.std.specs.Prelude.{◌≡◌, ℕ, List, [], ◌∷◌}
 use Rattle.std.specs.declared.cmp.Ordering.{Ordering}
 use Rattle.std.specs.declared.cmp.Ordering.TheVariants.{Less}
@@ -11,7 +11,7 @@ path_cmp = slice_cmp nat_cmp
 pub record IsBelow (path later : List ℕ) : Type 0 where
   pub is_less : path_cmp path later ≡ Less
 
--- the path comes before that of each item
+-- the path comes before the path of each item
 abbrev pub IsBelowAll : {X : Type 0} → (X → List ℕ) → List ℕ → List X → Type 0
 IsBelowAll path_of path [] = Unit {0}
 IsBelowAll path_of path (item ∷ items) = IsBelow path (path_of item) × IsBelowAll path_of path items

@@ -1,4 +1,4 @@
--- Lemmas on the order of paths, and on lists that are in it.
+-- Lemmas on the order of paths, and on lists in that order.
 use Rattle.std.specs.Prelude.{◌≡◌, ◌⊎◌, ℕ, zero, suc, ◌<◌, length, Bool, true, false, List, [], ◌∷◌, filter, if◌then◌else◌, refl}
 use Rattle.std.specs.declared.cmp.Ordering.TheVariants.{Less, Equal, Greater}
 use Rattle.std.specs.Ordering.{is_eq, ordering_reverse}
@@ -8,7 +8,7 @@ use Rattle.std.proofs.Common.{ap, sym, ◌∙◌, inl, inr, subst, get_or, arith
 use Rattle.std.proofs.lemmas.Cmp.{tied_itself}
 use Rattle.hook_base.specs.Rising.{path_cmp, IsBelow, IsBelowAll, IsRisingBy}
 
--- a path is tied with itself alone
+-- only equal paths compare as equal
 pub path_tied : (p q : List ℕ) → path_cmp p q ≡ Equal → p ≡ q
 path_tied p q e = (bytes_decides p q).0 (texts_ties p q ∙ ap is_eq e)
 
@@ -43,7 +43,7 @@ below_differs p q below = bytes_differ p q (below_not_same p q below)
 pub above_differs : (p q : List ℕ) → IsBelow q p → bytes_eq p q ≡ false
 above_differs p q below = bytes_differ p q (λ e. below_not_same q p below (sym e))
 
--- two paths stand in one order or the other, or are the same
+-- two paths are in one order or the other, or are the same
 pub path_cases : (p q : List ℕ) → (IsBelow p q ⊎ (p ≡ q)) ⊎ IsBelow q p
 path_cases p q =
     elim (path_cmp p q) as (λ o. path_cmp p q ≡ o → (IsBelow p q ⊎ (p ≡ q)) ⊎ IsBelow q p) [
@@ -66,7 +66,7 @@ module _ {X : Type 0} (path_of : X → List ℕ) where
         | false ↦ below_all_filter p keeps items all.1
       ]
 
-  -- what a filter keeps of a rising list rises
+  -- a filter keeps a rising list rising
   pub IsRisingBy-filter : (keeps : X → Bool) (items : List X) → IsRisingBy path_of items → IsRisingBy path_of (filter keeps items)
   IsRisingBy-filter keeps [] rising = tt
   IsRisingBy-filter keeps (item ∷ items) rising =
@@ -75,7 +75,7 @@ module _ {X : Type 0} (path_of : X → List ℕ) where
         | false ↦ IsRisingBy-filter keeps items rising.1
       ]
 
-  -- in a rising list each item comes before the next, and that is enough
+  -- a list rises exactly if each item comes before the next
 
   pub rising_next : (items : List X) (k : ℕ) (d e : X) → suc k < length items → IsRisingBy path_of items → IsBelow (path_of (get_or items k d)) (path_of (get_or items (suc k) e))
   rising_next [] k d e within rising = absurd (omega arith)

@@ -1,4 +1,4 @@
--- Lemmas: what says whether two files are the same is right.
+-- Lemmas: `is_same_file` holds exactly if two files are the same.
 use Rattle.std.specs.Prelude.{◌≡◌, ◌&&◌, refl}
 use Rattle.std.specs.Bool.{Decides}
 use Rattle.std.specs.Cmp.Lexicographic.{bytes_decides}

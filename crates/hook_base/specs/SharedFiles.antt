@@ -1,4 +1,4 @@
--- Serves private functions only: how a file that trees share is told apart.
+-- The code of a shared file as a value, by which files are distinguished. It serves private functions alone.
 use Rattle.std.specs.Prelude.{ℕ, List, refl}
 use Rattle.std.specs.Coded.{Coded, code_by, coded×, coded_ℕ, coded_list}
 use Rattle.hook_base.specs.declared.file.File.{File}

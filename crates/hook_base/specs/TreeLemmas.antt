@@ -1,5 +1,5 @@
--- Lemmas on trees: what each edit does at a path's place, that edits keep the order, and that a tree is fixed by its
--- look-ups.
+-- Lemmas on trees: what each edit does at the place of a path, that edits keep the order, and that look-ups
+-- determine a tree.
 use Rattle.std.specs.Prelude.{◌≡◌, ℕ, zero, suc, ◌<◌, Bool, true, false, if◌then◌else◌, List, [], ◌∷◌, ◌++◌, length, filter, Option, None, Some, refl, insert, remove}
 use Rattle.std.proofs.Common.{ap, sym, ◌∙◌, inl, inr, subst, get_or, set, arith}
 use Rattle.std.specs.declared.cmp.Ordering.TheVariants.{Less, Equal, Greater}
@@ -12,7 +12,7 @@ use Rattle.hook_base.specs.RisingLemmas.{below_all_later, below_all_filter, grea
 use Rattle.hook_base.specs.Trees.{IsPartOf, IsRising, IsRisingChanges, change_to, changes_between, path_of, entry_of, remove_file, put_before, put_file, put_found, put_row, with_bytes, rewrite_file, apply_at, apply_changes}
 use Rattle.hook_base.specs.Places.{IsAt, IsGap}
 
--- where the path has a row
+-- if the path has a row
 
 pub at_within : (path : List ℕ) (rows : List File) (k : ℕ) → IsAt path rows k → k < length rows
 at_within path [] k at = absurd at
@@ -35,7 +35,7 @@ put_row-at new (row ∷ rows) zero at = rw (path_itself new.path row.path at)
 put_row-at new (row ∷ rows) (suc k) at =
     rw (greater_from_below row.path new.path at.0) (ap (λ (rest : List File). row ∷ rest) (put_row-at new rows k at.1))
 
--- to put what another tree holds at a path is to put the row that stands there
+-- putting what another tree has at a path is putting the row at that place
 pub put_found-at : (path : List ℕ) (others rows : List File) (k : ℕ) (d : File) → IsAt path others k → put_found path (entry_of path others) rows ≡ put_row (get_or others k d) rows
 put_found-at path [] rows k d at = absurd at
 put_found-at path (row ∷ others) rows zero d at =
@@ -43,7 +43,7 @@ put_found-at path (row ∷ others) rows zero d at =
 put_found-at path (row ∷ others) rows (suc k) d at =
     rw (above_differs path row.path at.0) (put_found-at path others rows k d at.1)
 
--- an edit of the rows of one path leaves rows of later paths
+-- editing the rows of one path leaves rows of later paths
 
 pub remove_file-later : (path : List ℕ) (rows : List File) → IsBelowAll path_of path rows → remove_file path rows ≡ rows
 remove_file-later path [] later = refl
@@ -76,7 +76,7 @@ rewrite_file-at path bytes (row ∷ rows) zero d rising at =
 rewrite_file-at path bytes (row ∷ rows) (suc k) d rising at =
     rw (above_differs path row.path at.0) (ap (λ (rest : List File). row ∷ rest) (rewrite_file-at path bytes rows k d rising.1 at.1))
 
--- where it has none
+-- if the path has no row
 
 pub gap_within : (path : List ℕ) (rows : List File) (k : ℕ) → IsGap path rows k → k < suc (length rows)
 gap_within path rows zero at = omega arith
@@ -196,7 +196,7 @@ pub apply_changes-append : (first second : List Change) (rows : List File) → a
 apply_changes-append [] second rows = refl
 apply_changes-append (change ∷ first) second rows = apply_changes-append first second (apply_at change.path change.now rows)
 
--- a tree in order is fixed by its look-ups
+-- look-ups determine a tree whose rows are in order
 
 pub entry_of-first : (path : List ℕ) (row : File) (rows : List File) → path ≡ row.path → entry_of path (row ∷ rows) ≡ Some row.entry
 entry_of-first path row rows same = rw (bytes_same path row.path same)
@@ -211,7 +211,7 @@ before_first : (path : List ℕ) (row : File) (rows : List File) → IsBelow pat
 before_first path row rows below rising =
     entry_of-later path (row ∷ rows) (below, below_all_later path_of path row.path rows below rising.0)
 
--- what the look-ups of two trees with one first path say of the other rows
+-- if two trees begin with the same path and agree at all paths, their other rows agree too
 same_rest : (first second : File) (xs ys : List File) → first.path ≡ second.path → IsRising (first ∷ xs) → IsRising (second ∷ ys) → ((path : List ℕ) → entry_of path (first ∷ xs) ≡ entry_of path (second ∷ ys)) → (path : List ℕ) → entry_of path xs ≡ entry_of path ys
 same_rest first second xs ys same up others look path =
     elim (path_cases path first.path) [
@@ -244,7 +244,7 @@ same_rows (x ∷ xs) (y ∷ ys) up others look =
       | inr above ↦ absurd (absent_and_there y.entry (entry_of y.path (y ∷ ys)) (sym (look y.path) ∙ before_first y.path x xs above up) (entry_of-first y.path y ys refl))
     ]
 
--- a part of a tree
+-- parts of a tree
 
 pub IsPartOf-refl : (tree : List File) → IsPartOf tree tree
 IsPartOf-refl tree = record { held = λ path entry found. found }
@@ -252,7 +252,7 @@ IsPartOf-refl tree = record { held = λ path entry found. found }
 pub IsPartOf-trans : (a b c : List File) → IsPartOf a b → IsPartOf b c → IsPartOf a c
 IsPartOf-trans a b c first second = record { held = λ path entry found. second.held path entry (first.held path entry found) }
 
--- what a filter keeps of a tree holds at a path nothing, or what the tree holds there
+-- at each path, a filtered tree has nothing, or what the tree has
 filter_held : (keeps : File → Bool) (rows : List File) → IsRising rows → (path : List ℕ) (entry : FileEntry) → entry_of path (filter keeps rows) ≡ Some entry → entry_of path rows ≡ Some entry
 filter_held keeps [] rising path entry = λ found. found
 filter_held keeps (row ∷ rows) rising path entry =

@@ -1,4 +1,4 @@
-//! Rows that trees share.
+//! The base rows that a tree shares with its copies.
 
 ghost use Rattle.std.specs.Prelude.{◌≡◌, [], IfOk};
 
@@ -7,7 +7,7 @@ use std::alloc::Global;
 use std::marker::Model;
 use std::rc::Rc;
 
-/// Rows that a tree and its copies share, or none. They never change. Contracts see the list of them.
+/// Rows that a tree and its copies share, or none. They never change. Contracts see them as a list.
 #[derive(Debug, Drop)]
 pub(crate) struct Base {
     rows: Option<Rc<Items<SharedFile>>>,
@@ -31,7 +31,7 @@ impl Base {
         Base { rows: None }
     }
 
-    /// These rows, to be shared, or `OutOfMemory` where memory is refused.
+    /// Makes these rows shareable. `OutOfMemory` if memory is refused.
     pub(crate) fn of(alloc: Global, rows: Vec<SharedFile>) -> Result<Base, OutOfMemory>
         ensures { IfOk result (λ base. base ≡ rows.items) }
     {
@@ -39,7 +39,7 @@ impl Base {
         Ok(Base { rows: Some(shared) })
     }
 
-    /// The same rows, shared once more. `OutOfMemory` where they have too many owners to be counted.
+    /// The same rows, shared with one more owner. `OutOfMemory` if they have too many owners to be counted.
     pub(crate) fn share(&self) -> Result<Base, OutOfMemory>
         ensures { IfOk result (λ base. base ≡ self.now) }
     {

@@ -11,8 +11,8 @@ use std::alloc::{AllocError, Global};
 use std::cmp::Ordering;
 use std::marker::Model;
 
-/// What became of the files of a tree: at most one change a path, in the order of the paths. Contracts see the list of
-/// the changes.
+/// What became of the files of a tree: at most one change for each path, in the order of the paths. Contracts
+/// see the list of the changes.
 #[derive(Debug, Drop)]
 pub struct Changes {
     changes: Vec<Change>,
@@ -41,7 +41,7 @@ impl Changes {
         }
     }
 
-    /// What became of the files of a tree in `after`, or `OutOfMemory` where memory is refused.
+    /// What became of the files of `before` in `after`, or `OutOfMemory` if memory is refused.
     pub(crate) fn between(
         alloc: Global,
         before: &Tree,
@@ -60,8 +60,8 @@ impl Changes {
         Ok(Changes { changes })
     }
 
-    /// Takes changes whose paths rise, each before the next. Others are given back as they were, as are those that name a
-    /// path twice. It takes no memory.
+    /// Accepts changes whose paths rise, each before the next. Other changes are returned as they were, also
+    /// if they name a path twice. It allocates nothing.
     pub fn from_rising(changes: Vec<Change>) -> Result<Changes, Vec<Change>>
         ensures taken { IfOk result (λ made. (made ≡ changes.items) × IsRisingChanges changes.items) }
         ensures given_back { IfErr result (λ back. (back.items ≡ changes.items) × ¬ IsRisingChanges changes.items) }
@@ -73,7 +73,7 @@ impl Changes {
         }
     }
 
-    /// The same changes, as a `Vec`. It takes no memory.
+    /// The same changes, as a `Vec`. It allocates nothing.
     pub fn into_vec(self) -> Vec<Change>
         ensures { result.items ≡ self }
     {
@@ -140,14 +140,14 @@ impl Eq for Changes {
     ghost laws = { equiv_from_decides (pointwise ⟦<Change as PartialEq>⟧.eq) (pointwise_decides change_decides) };
 }
 
-// How far a walk along the files of a tree has come, and what stands at the path that it looked for.
+// How far a walk along the files of a tree has come, and what it found at the path it looked for.
 #[derive(Drop)]
 struct Reached<'a> {
     index: usize,
     entry: Option<&'a FileEntry>,
 }
 
-// Goes on to a path from an index that none of the files before it comes behind.
+// Walks on to a path from `passed`. All files before that index come before the path.
 fn reach<'a>(after: &'a Tree, passed: usize, path: &RepoPath) -> Reached<'a>
     requires { UpTo path.now after.now passed }
     ensures entry { option_copied result.entry ≡ entry_of path.now after.now }
@@ -162,7 +162,7 @@ fn reach<'a>(after: &'a Tree, passed: usize, path: &RepoPath) -> Reached<'a>
     }
 }
 
-// Adds what became of a row to the changes, if anything did, where `after` is what stands at its path now.
+// Adds what became of a row to the changes, if anything did. `after` is what the later tree has at its path.
 fn add_change(
     changes: &mut Vec<Change>,
     row: &File,
@@ -176,7 +176,7 @@ fn add_change(
     Ok(())
 }
 
-// What became of a row, where `after` is what stands at its path now.
+// What became of a row. `after` is what the later tree has at its path.
 fn change_to(row: &File, after: Option<&FileEntry>) -> Result<Option<Change>, OutOfMemory>
     ensures { IfOk result (λ change. option_to_list change ≡ change_to row.now (option_copied after.entry)) }
 {

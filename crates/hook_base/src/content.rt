@@ -1,4 +1,4 @@
-//! What files contain, shared by all that contain the same.
+//! The bytes of files. Files with the same bytes can share them.
 
 ghost use Rattle.std.specs.Prelude.{◌≡◌, length, IfOk};
 ghost use Rattle.sha2.specs.Sha256.{sha256};
@@ -9,15 +9,15 @@ use std::alloc::{AllocError, Global};
 use std::marker::Model;
 use std::rc::Rc;
 
-// Bytes, and the SHA-256 of them where it was made.
+// Bytes, and their SHA-256 if it was computed.
 #[derive(Debug, Drop)]
 struct Shared {
     digest: Option<[u8; 32]>,
     bytes: Bytes,
 }
 
-/// Bytes, and their SHA-256 (FIPS 180-4) where they are to be kept or looked up by it. A copy shares both and takes no
-/// memory. Contracts see the bytes.
+/// Bytes, with their SHA-256 (FIPS 180-4) if they are to be kept or looked up by it. A copy shares both and
+/// allocates nothing. Contracts see the bytes.
 #[derive(Debug, Drop)]
 pub struct Content {
     shared: Rc<Shared>,
@@ -35,7 +35,7 @@ impl Model for Content {
 }
 
 impl Content {
-    /// These bytes, which are hashed each time that their SHA-256 is asked for, or `OutOfMemory` where memory is refused.
+    /// These bytes, without a digest: `digest` hashes them each time. `OutOfMemory` if memory is refused.
     pub fn new(alloc: Global, bytes: Bytes) -> Result<Content, OutOfMemory>
         ensures { IfOk result (λ content. content ≡ bytes) }
     {
@@ -49,7 +49,7 @@ impl Content {
         Ok(Content { shared })
     }
 
-    /// These bytes, which are hashed now and not again, or `OutOfMemory` where memory is refused.
+    /// These bytes, hashed once, here. `OutOfMemory` if memory is refused.
     pub fn hashed(alloc: Global, bytes: Bytes) -> Result<Content, OutOfMemory>
         ensures { IfOk result (λ content. content ≡ bytes) }
     {
@@ -57,7 +57,7 @@ impl Content {
         Content::with_digest(alloc, digest, bytes)
     }
 
-    /// These bytes, whose SHA-256 is known, or `OutOfMemory` where memory is refused.
+    /// These bytes, whose SHA-256 is known, or `OutOfMemory` if memory is refused.
     pub fn with_digest(
         alloc: Global,
         digest: [u8; 32],
@@ -76,7 +76,7 @@ impl Content {
         Ok(Content { shared })
     }
 
-    /// A copy of the bytes, which are hashed as those of `new` are, or `OutOfMemory` where memory is refused.
+    /// A copy of the bytes, without a digest, as `new` makes it. `OutOfMemory` if memory is refused.
     pub fn copy_of(alloc: Global, bytes: &[u8]) -> Result<Content, OutOfMemory>
         ensures { IfOk result (λ content. content ≡ bytes.now) }
     {
@@ -108,7 +108,7 @@ impl Content {
     }
 }
 
-// The same bytes, shared once more. `AllocError` where they have too many owners to be counted.
+// The same bytes, shared with one more owner. `AllocError` if they have too many owners to be counted.
 impl Clone for Content {
     ghost use Rattle.std.specs.Prelude.{◌≡◌};
 

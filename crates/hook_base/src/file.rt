@@ -1,30 +1,30 @@
-//! A file: its path, whether it is to be run, and its bytes.
+//! A file: its path, whether it is executable, and its bytes.
 
 use crate::{Content, RepoPath};
 
-/// Whether a file is to be run as a program.
+/// Whether a file is executable.
 #[derive(Clone, Copy, Debug, PartialEq, Eq)]
 pub enum Mode {
-    /// It isn't.
+    /// It isn't executable.
     Plain,
-    /// It is.
+    /// It is executable.
     Executable,
 }
 
-/// What stands at a path.
+/// The file at a path, without the path.
 #[derive(Clone, Debug, Drop, PartialEq, Eq)]
 pub struct FileEntry {
-    /// Whether it is to be run as a program.
+    /// Whether it is executable.
     pub mode: Mode,
-    /// What it contains.
+    /// Its bytes.
     pub bytes: Content,
 }
 
-/// A path with what stands there: a row of a tree.
+/// A path and the file there: a row of a tree.
 #[derive(Clone, Debug, Drop, PartialEq, Eq)]
 pub struct File {
-    /// Where it stands.
+    /// The file's path.
     pub path: RepoPath,
-    /// What stands there.
+    /// Its mode and bytes.
     pub entry: FileEntry,
 }

@@ -1,14 +1,16 @@
 //! Paths, trees of files and the changes between them.
 //!
-//! `RepoPath` is a path inside a repository (`PathFault` says why a text is none), `Tree` the files of one moment in the
-//! order of their paths (`File`, `FileEntry`, `Mode`), and `Changes` what a program did to the files of a tree (`Change`).
-//! Trees share their files (`SharedFile`) and the rows that they have in common (`Base`, of which `LiveRows` says what stands
-//! in one tree), and files what they contain (`Content`). `owned_lists` has the collections and the refusal of memory that
-//! all crates above take from here.
+//! `RepoPath` is a path inside a repository; `PathFault` says why a text isn't one. `Tree` has the files of
+//! one moment in the order of their paths (`File`, `FileEntry`, `Mode`). `Changes` says what a program did to
+//! the files of a tree (`Change`).
 //!
-//! The contracts cite `specs/Paths.antt`, `specs/PathFaults.antt`, `specs/Rising.antt`, `specs/Trees.antt` and
-//! `specs/Limits.antt`; `specs/Places.antt` and `specs/Overlays.antt` serve private functions alone. [`laws`] says that the
-//! limits of the code are those of the definitions.
+//! Trees share their files (`SharedFile`) and the rows that they have in common (`Base`). `LiveRows` says
+//! which of these rows one tree still has. Files share their bytes (`Content`). Crates that build on this one
+//! take the collections and `OutOfMemory` of `owned_lists` from here.
+//!
+//! The contracts cite `specs/Paths.antt`, `specs/PathFaults.antt`, `specs/Rising.antt`, `specs/Trees.antt`
+//! and `specs/Limits.antt`; `specs/Places.antt` and `specs/Overlays.antt` serve private functions alone.
+//! [`laws`] says that the limits in the code are those of the definitions.
 #![tactic(auto)]
 
 mod base;

@@ -1,4 +1,4 @@
-//! The base rows that stand in one tree.
+//! The base rows that one tree still has.
 
 ghost use Rattle.std.specs.Prelude.{◌≡◌, ◌<◌, ◌^◌, [], length, slice_get, get_or, set, remove, IfOk};
 ghost use Rattle.hook_base.specs.Trees.{IsRising, apply_changes};
@@ -12,14 +12,14 @@ use crate::{Change, OutOfMemory, SharedFile};
 use std::alloc::Global;
 use std::marker::Model;
 
-/// The rows of a base that stand in one tree, some of them replaced by others of their paths. A copy shares the base.
-/// Contracts see the list of the rows that stand.
+/// The rows of a base that one tree still has, some replaced by other rows of the same path. A copy shares
+/// the base. Contracts see the list of these rows.
 #[derive(Debug, Drop)]
 pub(crate) struct LiveRows {
     base: Base,
     // One for each row of the base.
     states: Vec<RowState>,
-    // The indices in the base of the rows that stand, so that the row at an index is found without a walk.
+    // The indices in the base of the rows that remain, so that the row at an index is found without a walk.
     live: Vec<usize>,
 }
 
@@ -37,7 +37,7 @@ impl Model for LiveRows {
 }
 
 impl LiveRows {
-    /// No rows, over no base.
+    /// No rows, over an empty base.
     pub(crate) fn new(alloc: Global) -> LiveRows
         ensures { result ≡ [] }
     {
@@ -48,7 +48,7 @@ impl LiveRows {
         }
     }
 
-    /// These rows, all of them standing, as a base. `OutOfMemory` where memory is refused.
+    /// These rows as a base, none of them removed. `OutOfMemory` if memory is refused.
     pub(crate) fn of(rows: Vec<SharedFile>) -> Result<LiveRows, OutOfMemory>
         requires { IsRising rows.items }
         ensures { IfOk result (λ made. made ≡ rows.items) }
@@ -81,7 +81,7 @@ impl LiveRows {
         )
     }
 
-    /// Puts a row in the place of the one at an index, which has its path. It takes no memory.
+    /// Replaces the row at an index by another of the same path. It allocates nothing.
     pub(crate) fn replace(&mut self, index: usize, row: SharedFile)
         requires within { index < length self.old }
         requires path { row.path ≡ (get_or self.old index row).path }
@@ -90,7 +90,7 @@ impl LiveRows {
         set_state(&mut self.states, self.live[index], RowState::Replaced(row));
     }
 
-    /// Removes the row at an index. It takes no memory.
+    /// Removes the row at an index. It allocates nothing.
     pub(crate) fn remove(&mut self, index: usize)
         requires { index < length self.old }
         ensures { self.new ≡ remove self.old index }
@@ -99,7 +99,7 @@ impl LiveRows {
         set_state(&mut self.states, gone, RowState::Gone);
     }
 
-    /// The same rows over the same base, or `OutOfMemory` where memory is refused.
+    /// The same rows over the same base, or `OutOfMemory` if memory is refused.
     pub(crate) fn copy(&self) -> Result<LiveRows, OutOfMemory>
         ensures { IfOk result (λ copy. copy ≡ self.now) }
     {
@@ -109,7 +109,8 @@ impl LiveRows {
         Ok(LiveRows { base, states, live })
     }
 
-    /// The rows after changes, each applied to what the earlier ones left. `OutOfMemory` where memory is refused.
+    /// The rows after the changes, each applied to the result of the earlier ones. `OutOfMemory` if memory is
+    /// refused.
     pub(crate) fn after(self, changes: Vec<Change>) -> Result<LiveRows, OutOfMemory>
         ensures { IfOk result (λ made. made ≡ apply_changes changes.items self) }
     {

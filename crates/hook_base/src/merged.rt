@@ -1,4 +1,4 @@
-//! The rows of a tree in order: those of its base that stand, and those that were added.
+//! The rows of a tree in order: the base rows that remain, and the added rows.
 
 ghost use Rattle.std.specs.Prelude.{◌≡◌, ◌+◌, ◌<◌, Some, length, slice_get};
 ghost use Rattle.hook_base.specs.Overlays.{AreApart, IsSplit, put_rows};
@@ -8,8 +8,8 @@ use crate::SharedFile;
 use crate::live_rows::LiveRows;
 use std::cmp::Ordering;
 
-// How many added rows stand before an index, by halves: an added row does where it comes before the base row that would
-// then be the last before the index.
+// How many added rows come before the row at an index of the tree. It is a binary search: an added row does
+// if it comes before the base row that would otherwise be the last one before the index.
 fn added_before(base: &LiveRows, added: &[SharedFile], index: usize) -> usize
     requires rising { IsRising added.now }
     requires apart { AreApart added.now base.now }
@@ -29,7 +29,8 @@ fn added_before(base: &LiveRows, added: &[SharedFile], index: usize) -> usize
     low
 }
 
-/// The row at an index among the base rows that stand and the added rows, in the order of all paths.
+/// The row at an index among the remaining base rows and the added rows together, in the order of their
+/// paths.
 pub(crate) fn merged_row<'a>(
     base: &'a LiveRows,
     added: &'a [SharedFile],

@@ -1,4 +1,4 @@
-//! Whether a text is a path inside a repository: one test a rule.
+//! Whether a text is a path inside a repository: one test for each rule of docs/REFERENCE.md, "Paths".
 
 ghost use Rattle.std.specs.Prelude.{◌≡◌};
 ghost use Rattle.std.specs.List.{list_any};
@@ -6,7 +6,8 @@ ghost use Rattle.hook_base.specs.Paths.{begins_with_slash, is_control_byte, is_d
 
 use crate::{MOST_PATH_BYTES, PathFault};
 
-/// The first reason, in the order of `PathFault`, why a text is no path inside a repository. It is never `OutOfMemory`.
+/// The first reason, in the order that `PathFault` gives, why a text isn't a path inside a repository. It is
+/// never `OutOfMemory`.
 #[tactic(auto, unfolding(crate::specs::Paths::path_fault))]
 pub(crate) fn fault_of(text: &str) -> Option<PathFault>
     ensures { result ≡ path_fault text.now }

@@ -1,4 +1,4 @@
-//! The reasons why a text is not taken as a path.
+//! The reasons why a text is refused as a path (docs/REFERENCE.md, "Paths").
 
 ghost use Rattle.std.specs.Prelude.{◌≡◌};
 ghost use Rattle.hook_base.specs.PathFaults.{number_of};
@@ -8,8 +8,9 @@ use crate::MOST_PATH_BYTES;
 use std::alloc::{AllocError, AllocFailed};
 use thiserror::Error;
 
-/// Why a text isn't taken as a path inside a repository. Of several reasons the first in this order is named: `Empty`,
-/// `TooLong`, `ControlByte`, `Absolute`, `EmptyPart`, `DotPart`, `UnderGit`, `OutOfMemory`.
+/// Why a text is refused as a path inside a repository. If there are several reasons, the first in this order
+/// is given: `Empty`, `TooLong`, `ControlByte`, `Absolute`, `EmptyPart`, `DotPart`, `UnderGit`,
+/// `OutOfMemory`.
 #[derive(Clone, Copy, Debug, PartialEq, Eq, Error)]
 pub enum PathFault {
     /// The text has no bytes.
@@ -18,13 +19,13 @@ pub enum PathFault {
     /// The path begins with a slash.
     #[error("the path begins with a slash")]
     Absolute,
-    /// A part between slashes is `.` or `..`.
+    /// A part is `.` or `..`.
     #[error("the path has a part . or ..")]
     DotPart,
-    /// A part between slashes has no bytes.
+    /// A part between slashes, or the last one, has no bytes.
     #[error("the path has an empty part")]
     EmptyPart,
-    /// The text has more than [`MOST_PATH_BYTES`](crate::MOST_PATH_BYTES) bytes, which are 4,096.
+    /// The text has more than [`MOST_PATH_BYTES`](crate::MOST_PATH_BYTES) (4,096) bytes.
     #[error("the path has more than {} bytes", MOST_PATH_BYTES)]
     TooLong,
     /// A byte is under 32, or is 127.
@@ -33,7 +34,7 @@ pub enum PathFault {
     /// The first part is `.git`.
     #[error("the path lies under .git")]
     UnderGit,
-    /// Memory was refused. The text is a path.
+    /// Memory was refused. The text has none of the other faults.
     #[error("out of memory")]
     OutOfMemory,
 }

@@ -1,4 +1,4 @@
-//! Where a path's row stands in rows that rise.
+//! Where a path is, or would be, among rows in rising order of their paths.
 
 ghost use Rattle.std.specs.Prelude.{◌+◌, ◌<◌, ◌≤◌, length, IsTrue};
 ghost use Rattle.hook_base.specs.Trees.{IsRising};
@@ -9,16 +9,17 @@ use crate::live_rows::LiveRows;
 use crate::{RepoPath, SharedFile, Tree};
 use std::cmp::Ordering;
 
-/// Where a path stands in a list of rows.
+/// Where a path is, or would be, in a list of rows.
 #[derive(Clone, Copy)]
 pub(crate) enum Place {
-    /// The row of this index has the path.
+    /// The row at this index has the path.
     At(usize),
-    /// No row has the path: its place is before the row of this index.
+    /// No row has the path, and it belongs before the row at this index, or at the end if there is no such
+    /// row.
     Before(usize),
 }
 
-/// Where a path stands in rows that rise.
+/// Finds the place of a path in rows that rise, by binary search.
 pub(crate) fn place_of(rows: &[SharedFile], path: &RepoPath) -> Place
     requires { IsRising rows.now }
     ensures { IsPlace path.now rows.now result }
@@ -26,7 +27,7 @@ pub(crate) fn place_of(rows: &[SharedFile], path: &RepoPath) -> Place
     place_between(rows, 0, rows.len(), path)
 }
 
-// The same by halves, where it stands at or behind the one index and at or before the other.
+// The same for a place that is known to be at or after `first`, and at or before `end`.
 fn place_between(rows: &[SharedFile], first: usize, end: usize, path: &RepoPath) -> Place
     requires rising { IsRising rows.now }
     requires order { first ≤ end }
@@ -48,8 +49,8 @@ fn place_between(rows: &[SharedFile], first: usize, end: usize, path: &RepoPath)
     Place::Before(low)
 }
 
-/// The same, looked for near an index, from which it goes on in steps that double: so paths that rise are found, each
-/// near the last, in a time that grows with the rows that they pass.
+/// The same, searched from `near` on in steps that double. If paths rise and each is searched from the place
+/// of the last, the time grows with the number of rows passed.
 pub(crate) fn place_near(rows: &[SharedFile], near: usize, path: &RepoPath) -> Place
     requires { IsRising rows.now }
     ensures { IsPlace path.now rows.now result }
@@ -64,7 +65,7 @@ pub(crate) fn place_near(rows: &[SharedFile], near: usize, path: &RepoPath) -> P
     }
 }
 
-// The same for a path that comes behind the row at an index.
+// The same for a path that comes after the row at `near`.
 fn place_further(rows: &[SharedFile], near: usize, path: &RepoPath) -> Place
     requires rising { IsRising rows.now }
     requires within { near < length rows.now }
@@ -86,7 +87,7 @@ fn place_further(rows: &[SharedFile], near: usize, path: &RepoPath) -> Place
     place_between(rows, low, count, path)
 }
 
-// The same for a path that comes before the row at an index.
+// The same for a path that comes before the row at `near`.
 fn place_back(rows: &[SharedFile], near: usize, path: &RepoPath) -> Place
     requires rising { IsRising rows.now }
     requires within { near < length rows.now }
@@ -103,7 +104,7 @@ fn place_back(rows: &[SharedFile], near: usize, path: &RepoPath) -> Place
     }
 }
 
-// Whether a path comes behind those of all rows, of which there is one at least.
+// Whether a path comes after the paths of all rows. It answers false if there are no rows.
 fn is_behind(rows: &[SharedFile], path: &RepoPath) -> bool
     requires { IsRising rows.now }
     ensures { IsTrue result → IsGap path.now rows.now (length rows.now) }
@@ -118,7 +119,8 @@ fn is_behind(rows: &[SharedFile], path: &RepoPath) -> bool
     }
 }
 
-/// The same, for a row that is to be put there. Rows are mostly put in their order, so the end is looked at first.
+/// The same, for a row that is to be inserted there. Rows are mostly inserted in order, so the end is tried
+/// first.
 pub(crate) fn place_for(rows: &[SharedFile], path: &RepoPath) -> Place
     requires { IsRising rows.now }
     ensures { IsPlace path.now rows.now result }
@@ -129,7 +131,7 @@ pub(crate) fn place_for(rows: &[SharedFile], path: &RepoPath) -> Place
     place_of(rows, path)
 }
 
-/// Where a path stands among the base rows that stand in a tree, by halves.
+/// Finds the place of a path among the base rows that a tree still has, by binary search.
 pub(crate) fn place_among(rows: &LiveRows, path: &RepoPath) -> Place
     ensures place { IsPlace path.now rows.now result }
     ensures rising { IsRising rows.now }
@@ -147,7 +149,8 @@ pub(crate) fn place_among(rows: &LiveRows, path: &RepoPath) -> Place
     Place::Before(low)
 }
 
-/// Where a path stands among the files of a tree, by a walk from an index that it comes behind.
+/// Finds the place of a path among the files of a tree, by a walk from `first`. All files before that index
+/// come before the path.
 pub(crate) fn place_from(tree: &Tree, first: usize, path: &RepoPath) -> Place
     requires { UpTo path.now tree.now first }
     ensures { IsPlace path.now tree.now result }

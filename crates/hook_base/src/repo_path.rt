@@ -9,9 +9,10 @@ use std::alloc::{AllocError, Global};
 use std::cmp::Ordering;
 use std::marker::Model;
 
-/// A path of a file inside a repository: parts between slashes, none of them empty, `.` or `..`, none of the bytes a
-/// control byte, the first part not `.git`, at most [`MOST_PATH_BYTES`](crate::MOST_PATH_BYTES) bytes; or the path of the
-/// message of a commit. Paths are ordered by their bytes. Contracts see the list of these.
+/// The path of a file inside a repository. It has parts between slashes, none of them empty, `.` or `..`, and
+/// the first isn't `.git`. It has no control byte, and at most [`MOST_PATH_BYTES`](crate::MOST_PATH_BYTES)
+/// bytes. The path of the message of a commit is one too. Paths are ordered by their bytes. Contracts see the
+/// list of these.
 #[derive(Debug, Drop)]
 pub struct RepoPath {
     text: String,
@@ -30,8 +31,8 @@ impl Model for RepoPath {
 }
 
 impl RepoPath {
-    /// Takes a text as a path. Refused is a text that is none, with the first fault in the order of [`PathFault`], and a
-    /// legal path where memory is refused: `OutOfMemory` is never said of a text that is no path.
+    /// Accepts a text as a path. A text that isn't one is refused with its first fault in the order of
+    /// [`PathFault`]. A legal path is refused only if memory is: `OutOfMemory` never hides another fault.
     pub fn read(alloc: Global, text: &str) -> Result<RepoPath, PathFault>
         ensures taken { IfOk result (λ path. (path ≡ text.now) × (path_fault text.now ≡ None)) }
         ensures refused { IfErr result (λ fault. ((fault ≡ PathFault.OutOfMemory) × (path_fault text.now ≡ None)) ⊎ (path_fault text.now ≡ Some fault)) }
@@ -43,7 +44,8 @@ impl RepoPath {
         Ok(RepoPath { text })
     }
 
-    /// The path of the message of a commit, `.git/COMMIT_EDITMSG`, or `OutOfMemory` where memory is refused.
+    /// The path of the message of a commit, `.git/COMMIT_EDITMSG` (githooks(5), "commit-msg"; git-commit(1),
+    /// "FILES"). `OutOfMemory` if memory is refused.
     pub fn message(alloc: Global) -> Result<RepoPath, OutOfMemory>
         ensures { IfOk result (λ path. path ≡ message_path) }
     {
@@ -51,7 +53,7 @@ impl RepoPath {
         Ok(RepoPath { text })
     }
 
-    /// The path as a text.
+    /// The path as text.
     pub fn as_str(&self) -> &str
         ensures same { result.now ≡ self.now }
         ensures path { IsRepoPath self.now }

@@ -2,13 +2,13 @@
 
 use crate::SharedFile;
 
-/// What became of a base row in one tree; for the other trees that share the base it stands as it was.
+/// What became of a base row in one tree. The other trees that share the base aren't affected.
 #[derive(Clone, Debug, Drop)]
 pub(crate) enum RowState {
-    /// It stands as in the base.
+    /// The tree has the row of the base.
     Kept,
-    /// Another row of the same path stands in its place.
+    /// The tree has another row of the same path instead.
     Replaced(SharedFile),
-    /// No row stands in its place.
+    /// It is removed. A row of its path may be among the added rows.
     Gone,
 }

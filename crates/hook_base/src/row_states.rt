@@ -1,4 +1,4 @@
-//! The states of base rows, one a row, and their edits.
+//! The states of base rows, one for each row, and edits of them.
 
 ghost use Rattle.std.specs.Prelude.{◌≡◌, ◌<◌, Some, length, set, IfOk, OnOk};
 ghost use Rattle.hook_base.specs.Places.{IsAt};
@@ -9,7 +9,7 @@ use crate::place::{Place, place_near};
 use crate::row_state::RowState;
 use crate::{Change, Content, File, FileEntry, OutOfMemory, RepoPath, SharedFile};
 
-/// The states of rows that stand all, or `OutOfMemory` where memory is refused.
+/// States that keep all rows, or `OutOfMemory` if memory is refused.
 pub(crate) fn keep_all(rows: &Vec<SharedFile>) -> Result<Vec<RowState>, OutOfMemory>
     ensures { IfOk result (λ states. states.items ≡ all_kept rows.now.items) }
 {
@@ -20,14 +20,14 @@ pub(crate) fn keep_all(rows: &Vec<SharedFile>) -> Result<Vec<RowState>, OutOfMem
     Ok(states)
 }
 
-/// The same states, or `OutOfMemory` where memory is refused.
+/// A copy of the states, or `OutOfMemory` if memory is refused.
 pub(crate) fn copy_states(states: &Vec<RowState>) -> Result<Vec<RowState>, OutOfMemory>
     ensures { IfOk result (λ copy. copy.items ≡ states.now.items) }
 {
     Ok(states.clone()?)
 }
 
-/// The indices of the rows that stand, in order, or `OutOfMemory` where memory is refused.
+/// The indices of the rows that remain, in order, or `OutOfMemory` if memory is refused.
 pub(crate) fn indices_of(states: &Vec<RowState>) -> Result<Vec<usize>, OutOfMemory>
     ensures { IfOk result (λ live. live.items ≡ live_indices 0 states.now.items) }
 {
@@ -49,7 +49,7 @@ pub(crate) fn set_state(states: &mut Vec<RowState>, index: usize, state: RowStat
     states[index] = state;
 }
 
-/// The row that stands in the place of a base row, or the base row where it is gone.
+/// The row that the tree has for a base row; the base row itself if that is gone.
 pub(crate) fn standing_row<'a>(
     base: &'a [SharedFile],
     states: &'a [RowState],
@@ -65,7 +65,8 @@ pub(crate) fn standing_row<'a>(
     }
 }
 
-// Puts other bytes into the row in the place of a base row, where it isn't gone. A refusal leaves the states as they were.
+// Gives other bytes to the row that the tree has for a base row, unless that is gone. A refusal leaves the
+// states as they were.
 fn rewrite_state(
     base: &[SharedFile],
     states: &mut Vec<RowState>,
@@ -92,8 +93,8 @@ fn rewrite_state(
     Ok(())
 }
 
-// Applies one change to the rows that stand, and answers near which index its path stands; it is looked for near another. A
-// refusal leaves the states as they were.
+// Applies one change to the rows that remain. Its path is searched from `near` on, and the answer is the
+// index where it was found or belongs. A refusal leaves the states as they were.
 fn apply_to_state(
     base: &[SharedFile],
     states: &mut Vec<RowState>,
@@ -122,7 +123,8 @@ fn apply_to_state(
     }
 }
 
-/// Applies changes to the rows that stand, each to what the earlier ones left. After a refusal some may be applied.
+/// Applies changes to the rows that remain, each to the result of the earlier ones. After a refusal some may
+/// have been applied.
 pub(crate) fn apply_to_states(
     base: &[SharedFile],
     states: &mut Vec<RowState>,

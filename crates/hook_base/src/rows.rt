@@ -1,4 +1,4 @@
-//! Edits of rows that rise, each at the place of one path.
+//! Edits of rows that rise, each at one path.
 
 ghost use Rattle.std.specs.Prelude.{◌≡◌, is_some, IfOk, OnOk, OnErr};
 ghost use Rattle.hook_base.specs.Trees.{IsRising, entry_of, put_row, remove_file};
@@ -6,7 +6,7 @@ ghost use Rattle.hook_base.specs.Trees.{IsRising, entry_of, put_row, remove_file
 use crate::place::{Place, place_for, place_of};
 use crate::{OutOfMemory, RepoPath, SharedFile};
 
-/// Puts a row in place of the one of its path, or adds it. A refusal leaves the rows as they were.
+/// Replaces the row of the same path, or adds the row. A refusal leaves the rows as they were.
 pub(crate) fn put_row(rows: &mut Vec<SharedFile>, row: SharedFile) -> Result<(), OutOfMemory>
     requires { IsRising rows.old.items }
     ensures put { OnOk result (rows.new.items ≡ put_row row rows.old.items) }
@@ -20,7 +20,7 @@ pub(crate) fn put_row(rows: &mut Vec<SharedFile>, row: SharedFile) -> Result<(),
     Ok(())
 }
 
-/// Removes the row of a path. Answers whether there was one.
+/// Removes the row of a path, and answers whether there was one.
 pub(crate) fn remove_row(rows: &mut Vec<SharedFile>, path: &RepoPath) -> bool
     requires { IsRising rows.old.items }
     ensures found { result ≡ is_some (entry_of path.now rows.old.items) }
@@ -36,7 +36,7 @@ pub(crate) fn remove_row(rows: &mut Vec<SharedFile>, path: &RepoPath) -> bool
     }
 }
 
-/// The same rows, or `OutOfMemory` where memory is refused.
+/// A copy of the rows, or `OutOfMemory` if memory is refused.
 pub(crate) fn copy_rows(rows: &Vec<SharedFile>) -> Result<Vec<SharedFile>, OutOfMemory>
     ensures { IfOk result (λ copy. copy.items ≡ rows.now.items) }
 {

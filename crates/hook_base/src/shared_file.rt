@@ -7,8 +7,8 @@ use std::alloc::{AllocError, Global};
 use std::marker::Model;
 use std::rc::Rc;
 
-/// A file, shared by the trees that have it: a copy takes no memory, and a list of files is copied at the cost of their
-/// addresses. Contracts see the file.
+/// A file, shared by the trees that have it. A copy allocates nothing, and a list of files is copied at the
+/// cost of their addresses. Contracts see the file.
 #[derive(Debug, Drop)]
 pub struct SharedFile {
     file: Rc<File>,
@@ -26,7 +26,7 @@ impl Model for SharedFile {
 }
 
 impl SharedFile {
-    /// The file, to be shared, or `OutOfMemory` where memory is refused.
+    /// Makes the file shareable. `OutOfMemory` if memory is refused.
     pub fn of(alloc: Global, file: File) -> Result<SharedFile, OutOfMemory>
         ensures { IfOk result (λ shared. shared ≡ file) }
     {
@@ -42,7 +42,7 @@ impl SharedFile {
     }
 }
 
-// The same file, shared once more. `AllocError` where it has too many owners to be counted.
+// The same file, shared with one more owner. `AllocError` if it has too many owners to be counted.
 impl Clone for SharedFile {
     ghost use Rattle.std.specs.Prelude.{◌≡◌};
 

@@ -1,4 +1,4 @@
-//! The files of one moment.
+//! Trees: the files of one moment.
 
 ghost use Rattle.std.specs.Prelude.{◌≡◌, ◌↔◌, ◌<◌, [], length, is_some, slice_get, IfOk, OnOk, OnErr, IsTrue};
 ghost use Rattle.std.specs.Option.{option_copied};
@@ -13,13 +13,14 @@ use crate::{Change, Changes, File, FileEntry, OutOfMemory, RepoPath, SharedFile}
 use std::alloc::{AllocError, Global};
 use std::marker::Model;
 
-/// The files of one moment, one a path, in the order of their paths. A tree and its copies share one base of rows, and each
-/// says what of it stands and which rows were added since: a copy of a copy costs a state and an index for each base row and
-/// an address for each added one, and no path or contents. Contracts see the list of the rows.
+/// The files of one moment, one for each path, in the order of their paths. A tree and its copies share one
+/// base of rows. Each tree records which of them it still has, and the rows added since. So a copy of a copy
+/// costs a state and an index for each base row and an address for each added one, but no path or contents.
+/// Contracts see the list of the rows.
 #[derive(Debug, Drop)]
 pub struct Tree {
     base: LiveRows,
-    // Rows of paths that have none in `base`, in the order of their paths.
+    // Rows whose paths have no row in `base`, in the order of their paths.
     added: Vec<SharedFile>,
 }
 
@@ -71,7 +72,7 @@ impl Tree {
         self.shared(index).as_file()
     }
 
-    /// The same file, for other trees to share it.
+    /// The same file, to be shared with other trees.
     pub fn shared(&self, index: usize) -> &SharedFile
         requires { index < length self.now }
         ensures row { slice_get self.now index ≡ Some result.now }
@@ -93,7 +94,7 @@ impl Tree {
         }
     }
 
-    /// What stands at a path, or `None` where nothing does.
+    /// The file at a path, or `None` if there is none.
     pub fn get(&self, path: &RepoPath) -> Option<&FileEntry>
         ensures { option_copied result ≡ entry_of path.now self.now }
     {
@@ -103,8 +104,8 @@ impl Tree {
         }
     }
 
-    /// Puts a file in place of the one at its path, or adds it: its mode and its bytes are the new ones. `OutOfMemory`
-    /// where memory is refused, which leaves the tree as it was.
+    /// Replaces the file at a path, with its mode and bytes, or adds it. `OutOfMemory` if memory is refused,
+    /// which leaves the tree as it was.
     pub fn put(&mut self, path: RepoPath, entry: FileEntry) -> Result<(), OutOfMemory>
         ensures put { OnOk result (self.new ≡ put_file path entry self.old) }
         ensures kept { OnErr result (self.new ≡ self.old) }
@@ -114,8 +115,8 @@ impl Tree {
         self.put_shared(row)
     }
 
-    /// Puts a file, which is shared then, in place of the one at its path, or adds it. `OutOfMemory` where memory is refused,
-    /// which leaves the tree as it was.
+    /// Replaces the file at the path of this one, or adds it, and shares this file from then on.
+    /// `OutOfMemory` if memory is refused, which leaves the tree as it was.
     pub fn put_shared(&mut self, file: SharedFile) -> Result<(), OutOfMemory>
         ensures put { OnOk result (self.new ≡ put_row file self.old) }
         ensures kept { OnErr result (self.new ≡ self.old) }
@@ -130,14 +131,15 @@ impl Tree {
         }
     }
 
-    /// Puts what stands at a path of another tree, which both trees share then, in place of the file at that path, or adds
-    /// it. Nothing is changed where nothing stands there, nor by `OutOfMemory`, where memory is refused.
+    /// Puts the file that another tree has at a path in place of the one here, or adds it. Both trees share
+    /// it then. If the other tree has none there, nothing changes. `OutOfMemory` if memory is refused, which
+    /// changes nothing either.
     pub fn put_from(&mut self, other: &Tree, path: &RepoPath) -> Result<(), OutOfMemory>
         ensures put { OnOk result (self.new ≡ put_found path.now (entry_of path.now other.now) self.old) }
         ensures kept { OnErr result (self.new ≡ self.old) }
         ensures rising { IsRising self.new }
     {
-        // The invariant is known where a field is used.
+        // An invariant becomes known to the proof only where a field is used.
         let _ = &self.base;
         match other.find(path) {
             Some(row) => self.put_shared(row.clone()?),
@@ -145,7 +147,7 @@ impl Tree {
         }
     }
 
-    /// Removes the file at a path. Answers whether there was one.
+    /// Removes the file at a path, and answers whether there was one.
     pub fn remove(&mut self, path: &RepoPath) -> bool
         ensures found { result ≡ is_some (entry_of path.now self.old) }
         ensures removed { self.new ≡ remove_file path.now self.old }
@@ -160,7 +162,7 @@ impl Tree {
         }
     }
 
-    /// The same files, which both trees share, or `OutOfMemory` where memory is refused.
+    /// A copy that shares the files with this tree, or `OutOfMemory` if memory is refused.
     pub fn copy(&self) -> Result<Tree, OutOfMemory>
         ensures { IfOk result (λ copy. copy ≡ self.now) }
     {
@@ -174,16 +176,16 @@ impl Tree {
         Ok(Tree { base, added })
     }
 
-    /// What became of the files of this tree in `after`: their bytes where they differ, or that they are gone. Modes
-    /// don't count, and neither do files that only `after` holds. `OutOfMemory` where memory is refused.
+    /// What became of the files of this tree in `after`: their bytes if they differ, or that they are gone.
+    /// Modes don't count, nor do files that only `after` has. `OutOfMemory` if memory is refused.
     pub fn changes_to(&self, after: &Tree) -> Result<Changes, OutOfMemory>
         ensures { IfOk result (λ changes. changes ≡ changes_between self.now after.now) }
     {
         Changes::between(*self.added.allocator(), self, after)
     }
 
-    /// Applies changes, each to what the earlier ones left. Modes stay, and a change of a path that the tree lacks has
-    /// no effect. `OutOfMemory` where memory is refused, which leaves the tree as it was.
+    /// Applies changes, each to the result of the earlier ones. Modes stay, and a change of a path that the
+    /// tree lacks has no effect. `OutOfMemory` if memory is refused, which leaves the tree as it was.
     pub fn apply(&mut self, changes: &[Change]) -> Result<(), OutOfMemory>
         ensures applied { OnOk result (self.new ≡ apply_changes changes.now self.old) }
         ensures kept { OnErr result (self.new ≡ self.old) }
@@ -193,8 +195,9 @@ impl Tree {
         self.absorb(changes)
     }
 
-    /// Applies changes as [`apply`](Tree::apply) does, and keeps their paths and bytes, so that none is copied.
-    /// `OutOfMemory` where memory is refused, which leaves the tree as it was; the changes are gone then.
+    /// Applies changes as [`apply`](Tree::apply) does, but adopts their paths and bytes, so none is
+    /// copied. `OutOfMemory` if memory is refused, which leaves the tree as it was; the changes are lost
+    /// then.
     pub fn absorb(&mut self, changes: Vec<Change>) -> Result<(), OutOfMemory>
         ensures applied { OnOk result (self.new ≡ apply_changes changes.items self.old) }
         ensures kept { OnErr result (self.new ≡ self.old) }
@@ -210,7 +213,7 @@ impl Tree {
         Ok(())
     }
 
-    // All rows as base rows. Where rows were added, these and the others make a new base.
+    // All rows as base rows. If rows were added, a base is made of all of them.
     fn as_base(&self) -> Result<LiveRows, OutOfMemory>
         ensures { IfOk result (λ base. base ≡ self.now) }
     {
@@ -221,7 +224,7 @@ impl Tree {
         }
     }
 
-    // All rows in their order.
+    // All rows in order.
     fn rows(&self) -> Result<Vec<SharedFile>, OutOfMemory>
         ensures { IfOk result (λ rows. (rows.items ≡ self.now) × IsRising self.now) }
     {

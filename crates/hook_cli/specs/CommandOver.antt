@@ -1,4 +1,5 @@
--- The commands over a repository: what each makes of it, which children it calls, what it prints, and the exit status.
+-- The commands over a repository: what each changes, which children it starts, what it prints, and the exit
+-- status.
 use Rattle.std.specs.Prelude.{◌≡◌, ◌⊎◌, ℕ, Bool, List, [], ◌∷◌, length, Option, None, Some, IsSome, option_map, Result, Ok, Err, IfErr, IfOk, OnOk}
 use Rattle.sqlite_trees.specs.declared.store.Store.{Ghosts}
 use Rattle.hook_base.specs.declared.file.File.{File}
@@ -68,17 +69,17 @@ use Rattle.repository_text.specs.StatusText.{status_text}
 use Rattle.configuration_run.specs.TryOver.{NoneCalled}
 use Rattle.run_options.specs.declared.options.RunOptions.{RunOptions}
 
--- one word names the path
+-- the path is given by one word
 abbrev pub IsOneWord : PathSource → Type 0
 IsOneWord (Words (path ∷ [])) = Unit {0}
 IsOneWord paths = ⊥
 
--- the files are named in the line itself, where they are named
+-- if files are named, the line itself names them
 abbrev pub IsNamed : FileChoice → Type 0
 IsNamed (Listed from) = ⊥
 IsNamed files = Unit {0}
 
--- one call of the host does the update
+-- one call of the host makes the update
 abbrev pub IsOneCall : Update → Type 0
 IsOneCall (Add paths mode) = IsOneWord paths
 IsOneCall (Remove paths) = IsOneWord paths
@@ -88,7 +89,7 @@ IsOneCall (Commit message no_verify color) = Unit {0}
 IsOneCall Forget = Unit {0}
 IsOneCall (Limit limit) = Unit {0}
 
--- the line is a command over a repository, which one call of the host does
+-- the line is a command over a repository that needs one call of the host
 abbrev pub IsOverHost : Line → Type 0
 IsOverHost (line.Standalone asked) = ⊥
 IsOverHost (line.LookUp asked) = Unit {0}
@@ -96,10 +97,10 @@ IsOverHost (line.Update update) = IsOneCall update
 
 -- ---- the commands that change the repository
 
--- what each reply prints: a file that was added or removed nothing, fixes that were accepted how many there were, a commit what is
--- reported of its hooks, with its number where it was made, answers that were forgotten how many there were, and a refusal why.
--- Where standard output doesn't take it, standard error says so, and of a commit that it was made. A run prints more than its
--- reply has: `IsRunSaid`.
+-- What each reply prints. A file that was added or removed prints nothing. Accepted fixes and removed cached
+-- results print how many there were. A commit prints what is reported of its hooks, and its number if it was
+-- made. A refusal prints why. If standard output doesn't take the text, standard error says so, and that a
+-- commit was made. A run prints more than its reply has: `IsRunSaid`.
 abbrev pub IsReplied : Output → Output → Reply → CommandEnding → Type 0
 IsReplied out err Added ending = IsSilent out × IsSilent err × (ending ≡ ends.Done)
 IsReplied out err Removed ending = IsSilent out × IsSilent err × (ending ≡ ends.Done)
@@ -110,9 +111,9 @@ IsReplied out err (HooksFailed stage reports) ending = IsSaid ends.Failed out (f
 IsReplied out err (Forgot number) ending = IsSaid ends.Done out (forgotten_text number) err untaken_line ending
 IsReplied out err (Refused refusal) ending = IsSilent out × IsTold ends.Refused err (refusal_text refusal) ending
 
--- One call of the host that runs no hooks, whose answer is printed. Done, it has this reply and leaves this kept, and it may
--- bring contents that collide. The repository takes a step of the host's machine, as a whole or not at all, whatever stops it,
--- and a writer's error undoes none of it.
+-- One call of the host that runs no hooks, and whose answer is printed. If it is done, its reply is `reply`,
+-- the host keeps `after`, and it may bring contents that collide. The repository takes a step of the host's
+-- machine, as a whole or not at all, even if a crash stops it. A writer's error undoes none of it.
 pub record IsChanged {S : Type 0} (g : Ghosts S) (old new : Host S) (command : Command) (reply : Reply) (after : Kept) (BringsCollision : Type 0) (out err : Output) (ending : CommandEnding) : Type 0 where
   pub answer : Result (Unit {0}) HostRefusal
   pub step : Step old.store.kept.repo command (reply_of (λ _. reply) answer) [] new.store.kept.repo
@@ -128,7 +129,7 @@ IsAddOver g old new path bytes mode out err ending =
     IsChanged g old new (command.Add path bytes mode) Added (staging path (entry_to_add old.store.kept.repo path bytes mode) old.store.kept)
     (Collides bytes old.store.kept.contents) out err ending
 
--- the path is taken out of the staged files
+-- the path is removed from the staged files
 abbrev pub IsRemoveOver : {S : Type 0} → Ghosts S → Host S → Host S → List ℕ → Output → Output → CommandEnding → Type 0
 IsRemoveOver g old new path out err ending = IsChanged g old new (command.Remove path) Removed (unstaging path old.store.kept) ⊥ out err ending
 
@@ -137,10 +138,11 @@ abbrev pub IsAcceptOver : {S : Type 0} → Ghosts S → Host S → Host S → Ou
 IsAcceptOver g old new out err ending =
     IsChanged g old new command.Accept (Accepted (length old.store.kept.repo.fixes)) (accepting old.store.kept) ⊥ out err ending
 
--- ---- the remembered answers
+-- ---- the cached results
 
--- All that is remembered is forgotten by one call of the host, whose answer is printed: how many answers there were. Refused, all
--- of it stays remembered. The repository and the contents that are kept stay in any case. A writer's error undoes none of it.
+-- One call of the host removes all cached results, and prints how many there were. If it is refused, all of
+-- them stay. The repository and the contents that the host keeps don't change in either case. A writer's
+-- error undoes none of it.
 pub record IsForgetOver {S : Type 0} (g : Ghosts S) (old new : Host S) (out err : Output) (ending : CommandEnding) : Type 0 where
   pub answer : Result ℕ HostRefusal
   pub step : Step old.store.kept.repo command.Forget (reply_of Forgot answer) [] new.store.kept.repo
@@ -149,14 +151,14 @@ pub record IsForgetOver {S : Type 0} (g : Ghosts S) (old new : Host S) (out err 
   pub forgotten : HasForgotten (remembered_by old.store.kept) (remembered_by new.store.kept) (reply_of Forgot answer)
   pub replied : IsReplied out err (reply_of Forgot answer) ending
 
--- how many answers are left is printed, and a refusal why
+-- prints how many cached results are left, or why the call is refused
 abbrev pub IsLeftSaid : Output → Output → Result ℕ HostRefusal → CommandEnding → Type 0
 IsLeftSaid out err (Ok number) ending = IsSaid ends.Done out (remembered_text number) err untaken_line ending
 IsLeftSaid out err (Err refusal) ending = IsSilent out × IsTold ends.Refused err (refusal_text refusal) ending
 
--- How many answers are remembered at most is set by one call of the host, in one transaction, and its answer is printed: how many
--- are left, those that were used last. Refused, all of them stay remembered, and the limit stays. The repository and the contents
--- that are kept stay in any case. A writer's error undoes none of it.
+-- One call of the host sets how many results are cached at most, in one transaction, and prints how many are
+-- left: those that were used last. If it is refused, all results stay, and so does the limit. The repository
+-- and the contents that the host keeps don't change in either case. A writer's error undoes none of it.
 pub record IsLimitOver {S : Type 0} (g : Ghosts S) (old new : Host S) (limit : ℕ) (out err : Output) (ending : CommandEnding) : Type 0 where
   pub answer : Result ℕ HostRefusal
   pub change : IsAllOrNothing old.store.kept new.store.kept answer (limiting limit old.store.kept)
@@ -167,26 +169,26 @@ pub record IsLimitOver {S : Type 0} (g : Ghosts S) (old new : Host S) (limit : �
 
 -- ---- runs of hooks
 
--- how many outcomes children told before a command and after it, and how many of these were faults
+-- how many outcomes children had reported before a command and after it, and how many of these were faults
 pub record Counts : Type 0 where
   pub calls : ℕ
   pub calls_after : ℕ
   pub faults : ℕ
   pub faults_after : ℕ
 
--- the counts with what the host remembers, before the command and after it
+-- the counts with the results that the host has cached, before the command and after it
 abbrev pub moment_before : {S : Type 0} → Counts → Host S → Moment
 moment_before counts host = moment counts.calls counts.faults (remembered_by host.store.kept)
 
 abbrev pub moment_after : {S : Type 0} → Counts → Host S → Moment
 moment_after counts host = moment counts.calls_after counts.faults_after (remembered_by host.store.kept)
 
--- the files and the stage of a line, as the host has them
+-- the files and the stage that a line asks for, as the host names them
 abbrev pub which_of : FileChoice → Which
 which_of Changed = which.Changed
 which_of All = which.All
 which_of (Named paths) = which.Named paths
--- nothing is asked before the names are read
+-- the caller reads the names first, so this case is never used
 which_of (Listed from) = which.Named []
 
 abbrev pub stage_of : StageChoice → AskStage
@@ -196,7 +198,7 @@ stage_of Manual = ask_stage.Manual
 abbrev pub options_of : RunChoice → RunOptions
 options_of choice = record { cautious = choice.cautious; verbose = choice.verbose }
 
--- what a line asks of the host, with the hooks that are skipped
+-- what a line asks of the host, with the hooks to skip
 abbrev pub ask_of : FileChoice → Option (List ℕ) → StageChoice → Bool → RunChoice → List (List ℕ) → HostAsk
 ask_of files only stage fresh choice skip = record {
   which = which_of files;
@@ -207,14 +209,14 @@ ask_of files only stage fresh choice skip = record {
   options = options_of choice;
 }
 
--- what a run prints: what is reported of its hooks, which of them are unsteady, and in a verbose run how many commands were answered
--- from what is remembered; or why it is refused
+-- What a run prints: what is reported of its hooks, which of them are unsteady, and if it is verbose how many
+-- commands were answered from the cache. A refused run prints why.
 abbrev pub IsRunSaid : Output → Output → Bool → Result StagedRun HostRefusal → CommandEnding → Type 0
 IsRunSaid out err verbose (Ok ran) ending = IsSaid (ending_of ran.passed) out (run_text verbose ran) err untaken_line ending
 IsRunSaid out err verbose (Err refusal) ending = IsSilent out × IsTold ends.Refused err (refusal_text refusal) ending
 
--- Hooks are run on the staged files by one call of the host, whose answer is printed. The repository takes a step of the host's
--- machine over the children, or stays as it is, and a writer's error undoes none of it.
+-- One call of the host runs hooks on the staged files, and its answer is printed. The repository takes a step
+-- of the host's machine over the children, or stays as it was. A writer's error undoes none of it.
 pub record IsRunOverHost {S : Type 0} (g : Ghosts S) (tells : List (List ℕ) → List File → Outcome → Type 0) (counts : Counts) (old new : Host S) (ask : HostAsk) (out err : Output) (ending : CommandEnding) : Type 0 where
   pub answer : Result StagedRun HostRefusal
   pub step : IfOk answer (λ ran. IsRunStep tells (moment_before counts old) (moment_after counts new) old.store.kept.repo ask ran new.store.kept.repo)
@@ -223,8 +225,9 @@ pub record IsRunOverHost {S : Type 0} (g : Ghosts S) (tells : List (List ℕ) �
   pub safe : IsPlayedSafely g tells (moment_before counts old) (moment_after counts new) old.store new.store (command.Run ask) (reply_of reply_of_run answer)
   pub said : IsRunSaid out err ask.options.verbose answer ending
 
--- The staged files are committed through their hooks by one call of the host, whose answer is printed. The repository takes a
--- step of the host's machine over the children, or stays as it is, and a writer's error undoes none of it.
+-- One call of the host commits the staged files through their hooks, and its answer is printed. The
+-- repository takes a step of the host's machine over the children, or stays as it was. A writer's error
+-- undoes none of it.
 pub record IsCommitOverHost {S : Type 0} (g : Ghosts S) (tells : List (List ℕ) → List File → Outcome → Type 0) (counts : Counts) (old new : Host S) (message : List ℕ) (no_verify : Bool) (skip : List (List ℕ)) (out err : Output) (ending : CommandEnding) : Type 0 where
   pub answer : Result CommitEnding HostRefusal
   pub step : IsCommitStep tells (moment_before counts old) (moment_after counts new) old.store.kept.repo message no_verify skip (reply_of reply_of_ending answer) new.store.kept
@@ -240,7 +243,8 @@ bytes_in repo Staged path = option_map (λ (entry : FileEntry). entry.bytes) (en
 bytes_in repo Fixed path = fixed_bytes path repo.fixes
 bytes_in repo (versions.Committed number) path = option_map (λ (entry : FileEntry). entry.bytes) (entry_of path (tree_at number repo.history))
 
--- the text that a look-up prints: `memory` without a limit how many answers are remembered, the others something of the repository
+-- the text that a look-up prints: for `memory` without a limit how many results are cached, for others
+-- something of the repository
 abbrev pub IsAnswer : Kept → LookUp → List ℕ → Type 0
 IsAnswer kept Status text = text ≡ status_text kept.repo.staged (last_tree kept.repo.history)
 IsAnswer kept Fixes text = text ≡ fixes_text kept.repo.fixes
@@ -249,14 +253,14 @@ IsAnswer kept Log text = text ≡ log_text kept.repo.history
 IsAnswer kept (Show number) text = option_map show_text (commit_at number kept.repo.history) ≡ Some text
 IsAnswer kept Memory text = text ≡ remembered_text (count_of (remembered_by kept))
 
--- why a text is no path, or memory was refused, which comes after a fault of the path
+-- why a text isn't a path, or that memory was refused, which comes only if the path has no fault
 abbrev pub IsPathRefusal : List ℕ → HostRefusal → Type 0
 IsPathRefusal path (BadPath fault) = path_fault path ≡ Some fault
 IsPathRefusal path OutOfMemory = IsLegal path
 IsPathRefusal path refusal = ⊥
 
--- what is told where a version has no bytes of a path: it isn't staged, no fix gives it bytes, there is no such commit, or that has
--- no such file
+-- what is printed if a version has no bytes of a path. The path isn't staged, no fix gives it bytes, there is
+-- no such commit, or the commit has no such file
 abbrev pub IsMissingText : Repository → FileVersion → List ℕ → List ℕ → Type 0
 IsMissingText repo Staged path text = text ≡ refusal_text NotStaged
 IsMissingText repo Fixed path text = text ≡ no_fixed_text path
@@ -264,13 +268,13 @@ IsMissingText repo (versions.Committed number) path text =
     ((commit_at number repo.history ≡ None) × (text ≡ no_commit_text number))
     ⊎ (IsSome (commit_at number repo.history) × (text ≡ no_file_text number path))
 
--- what is told where bytes aren't given, in this order: the path is none, or the version has no bytes of it
+-- why `cat` prints no bytes, in this order: the text isn't a path, or the version has no bytes of it
 abbrev pub IsCatText : Repository → FileVersion → List ℕ → List ℕ → Type 0
 IsCatText repo version path text =
     ((refusal : HostRefusal) × IsPathRefusal path refusal × (text ≡ refusal_text refusal))
     ⊎ (IsLegal path × (bytes_in repo version path ≡ None) × IsMissingText repo version path text)
 
--- the text that a refused look-up tells; `memory` without a limit is never refused
+-- the text that a refused look-up prints; `memory` without a limit is never refused
 abbrev pub IsRefusalText : Repository → LookUp → List ℕ → Type 0
 IsRefusalText repo Status text = text ≡ refusal_text OutOfMemory
 IsRefusalText repo Fixes text = text ≡ refusal_text OutOfMemory
@@ -299,12 +303,13 @@ IsLookUp kept look_up out err ending = Answers kept look_up out err ending ⊎ R
 
 -- ---- all of them
 
--- the word that names a path, where one does
+-- the word that is the path, if there is one
 abbrev pub word_of : PathSource → List ℕ
 word_of (Words (path ∷ [])) = path
 word_of paths = []
 
--- the update is made so; the bytes are those of the file that is added, and the names those of the hooks that are skipped
+-- the update is made in this way; `bytes` are those of the file to add, and `skip` has the names of the hooks
+-- to skip
 abbrev pub IsUpdated : {S : Type 0} → Ghosts S → (List (List ℕ) → List File → Outcome → Type 0) → Counts → Host S → Host S → Update → List ℕ → List (List ℕ) → Output → Output → CommandEnding → Type 0
 IsUpdated g tells counts old new (Add paths mode) bytes skip out err ending = IsAddOver g old new (word_of paths) bytes mode out err ending
 IsUpdated g tells counts old new (Remove paths) bytes skip out err ending = IsRemoveOver g old new (word_of paths) out err ending
@@ -316,7 +321,7 @@ IsUpdated g tells counts old new (Commit message no_verify color) bytes skip out
 IsUpdated g tells counts old new Forget bytes skip out err ending = IsForgetOver g old new out err ending
 IsUpdated g tells counts old new (Limit limit) bytes skip out err ending = IsLimitOver g old new limit out err ending
 
--- the line is done so; a look-up leaves the host as it was
+-- the line is done in this way; a look-up leaves the host as it was
 abbrev pub IsEnded : {S : Type 0} → Ghosts S → (List (List ℕ) → List File → Outcome → Type 0) → Counts → Host S → Host S → Line → List ℕ → List (List ℕ) → Output → Output → CommandEnding → Type 0
 IsEnded g tells counts old new (line.Standalone asked) bytes skip out err ending = ⊥
 IsEnded g tells counts old new (line.LookUp asked) bytes skip out err ending = (new ≡ old) × IsLookUp old.store.kept asked out err ending
@@ -333,11 +338,11 @@ abbrev pub IsRunless : Line → Type 0
 IsRunless (line.Update update) = IsHookless update
 IsRunless line = Unit {0}
 
--- children are called by a line that runs hooks alone
+-- children are started only by a line that runs hooks
 abbrev pub IsCalledBy : Line → Counts → Type 0
 IsCalledBy line counts = IsRunless line → NoneCalled counts.calls counts.calls_after counts.faults counts.faults_after
 
--- the line ends in one of these ways, and its exit status is that ending's
+-- the line ends in one of these ways, and has the exit status of that ending
 pub record IsCommandOver {S : Type 0} (g : Ghosts S) (tells : List (List ℕ) → List File → Outcome → Type 0) (counts : Counts) (old new : Host S) (line : Line) (bytes : List ℕ) (skip : List (List ℕ)) (out err : Output) (status : ℕ) : Type 0 where
   pub ending : CommandEnding
   pub ended : IsEnded g tells counts old new line bytes skip out err ending

@@ -1,4 +1,5 @@
--- What `memory` and `forget` say: how many answers are remembered, with a limit how many are left, and how many were forgotten.
+-- What `memory` and `forget` print: how many results are cached, with a limit how many are left, and how many
+-- were removed.
 use Rattle.std.specs.Prelude.{ℕ, List, ◌++◌, codes}
 use Rattle.std.specs.Fmt.{decimal}
 use Rattle.report_text.specs.Report.{line}

@@ -5,7 +5,7 @@ use Rattle.report_text.specs.Report.{line}
 use Rattle.commit_flow.specs.declared.host_refusal.HostRefusal.{HostRefusal}
 use Rattle.commit_flow.specs.Refusals.{inner_number_of, name_of, number_of}
 
--- the number among the faults of its kind, behind a blank, where the refusal hands one on
+-- a blank and the number of the inner fault, if the refusal has one
 abbrev pub inner_text : Option ℕ → List ℕ
 inner_text None = []
 inner_text (Some number) = codes " " ++ decimal number

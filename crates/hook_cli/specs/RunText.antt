@@ -13,23 +13,23 @@ use Rattle.hook_cli.specs.declared.command_ending.CommandEnding.TheVariants.{Don
 use Rattle.text_output.specs.Outputs.{Output}
 use Rattle.hook_cli.specs.Printing.{AreSaid, IsSaid, untaken_line}
 
--- a hook whose answer was another than the remembered one
+-- a hook whose answer differs from the cached one
 abbrev pub unsteady_line : List ℕ → List ℕ
 unsteady_line id = line (codes "unsteady: " ++ id)
 
--- what is reported of hooks, and then those of them
+-- what is reported of hooks, and then the unsteady ones
 abbrev pub reported_text : List ℕ → List (List ℕ) → List ℕ
 reported_text report unsteady = report ++ flat_map unsteady_line unsteady
 
--- how many commands were answered from what is remembered, in a verbose run
+-- how many commands were answered from the cache, in a verbose run
 abbrev pub reused_text : Bool → ℕ → List ℕ
 reused_text verbose reused = if verbose then line (codes "answered from the cache: " ++ decimal reused) else []
 
--- what a run says
+-- what a run prints
 abbrev pub run_text : Bool → StagedRun → List ℕ
 run_text verbose ran = reported_text ran.report ran.unsteady ++ reused_text verbose ran.reused
 
--- what is reported of the hooks behind a commit: nothing where they were stopped
+-- the report of the post-commit hooks: nothing if they were stopped
 abbrev pub post_report : PostCommit → List ℕ
 post_report (Told report) = report
 post_report (Stopped refusal) = []
@@ -38,22 +38,23 @@ post_report (Stopped refusal) = []
 abbrev pub failure_text : List (List ℕ) → List ℕ
 failure_text reports = concat reports
 
--- a commit: what is reported of the hooks of each stage before it, in order, of those behind it, and then its number
+-- a commit: the reports of the stages before it, in order, that of the post-commit hooks, and then its number
 abbrev pub commit_text : ℕ → List (List ℕ) → PostCommit → List ℕ
 commit_text number reports post = concat reports ++ (post_report post ++ line (codes "commit " ++ decimal number))
 
--- that a commit was made, where its text isn't taken
+-- that a commit was made, if its text wasn't taken
 abbrev pub made_line : ℕ → List ℕ
 made_line number = line (codes "hookhost: commit " ++ decimal number ++ codes " was made")
 
--- why the hooks behind a commit were stopped
+-- why the post-commit hooks were stopped
 abbrev pub stopped_text : RunRefusal → List ℕ
 stopped_text refusal = line (codes "hookhost: refused: " ++ decimal (number_of refusal) ++ codes " " ++ name_of refusal)
 
 -- ---- how it is printed
 
--- The text of a commit, with why the hooks behind it were stopped on standard error. Where standard output doesn't take the
--- text, standard error says this too, behind that the commit was made.
+-- The text of a commit, and on standard error why the post-commit hooks were stopped. If standard output
+-- doesn't take the text, standard error says so, then that the commit was made, and then why they were
+-- stopped.
 abbrev pub IsCommitSaid : ℕ → List (List ℕ) → PostCommit → Output → Output → CommandEnding → Type 0
 IsCommitSaid number reports (Told report) out err ending =
     IsSaid Done out (commit_text number reports (Told report)) err (untaken_line ++ made_line number) ending

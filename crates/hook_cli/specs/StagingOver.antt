@@ -1,4 +1,5 @@
--- Several changes of the staged files over a repository: what they make of it, what is told of a refusal, and the exit status.
+-- Several changes of the staged files over a repository: what they do, what is printed of a refusal, and the
+-- exit status.
 use Rattle.std.specs.Prelude.{◌≡◌, ℕ, List, [], ◌++◌, codes, Option, None, Some, MatchOption, MatchResult, Result, IfErr, OnOk, option_and_then, option_map, slice_get}
 use Rattle.sqlite_trees.specs.declared.store.Store.{Ghosts}
 use Rattle.report_text.specs.Report.{line}
@@ -17,16 +18,16 @@ use Rattle.hook_cli.specs.declared.command_ending.CommandEnding.TheVariants.{Don
 use Rattle.hook_cli.specs.Printing.{IsTold, status_of}
 use Rattle.hook_cli.specs.RefusalText.{refusal_text}
 
--- the path that a change is of
+-- the path of a change
 abbrev pub path_of_edit : StagingEdit → List ℕ
 path_of_edit (Add path bytes mode) = path
 path_of_edit (Remove path) = path
 
--- the path of the change with an index
+-- the path of the change at an index
 abbrev pub path_at : List StagingEdit → Option ℕ → Option (List ℕ)
 path_at edits at = option_and_then (λ index. option_map path_of_edit (slice_get edits index)) at
 
--- at which path changes are refused
+-- the path at which changes are refused
 abbrev pub at_path_text : List ℕ → List ℕ
 at_path_text path = line (codes "hookhost: at " ++ told_path path)
 
@@ -34,7 +35,7 @@ abbrev pub at_text : Option (List ℕ) → List ℕ
 at_text None = []
 at_text (Some path) = at_path_text path
 
--- why changes are refused, and at which path, where it is that of one
+-- why changes are refused, and at which path, if one of them is refused alone
 abbrev pub stop_text : List StagingEdit → StagingStop → List ℕ
 stop_text edits stop = refusal_text stop.refusal ++ at_text (path_at edits stop.at)
 
@@ -43,8 +44,9 @@ abbrev pub IsStagingTold : List StagingEdit → Result (Unit {0}) StagingStop �
 IsStagingTold edits result err ending =
     MatchResult result (λ _. IsSilent err × (ending ≡ Done)) (λ stop. IsTold Refused err (stop_text edits stop) ending)
 
--- The changes are made by one call of the host, all or none, whose answer is told. Made, each is a step of the host's machine, of
--- what those before it led to; refused, the first that is refused is told. What a crash leaves is nothing of them, or all.
+-- One call of the host makes the changes, all or none, and its answer is printed. If they are made, each is a
+-- step of the host's machine from where the one before it led. If not, the first refused one is reported. A
+-- crash leaves none of them, or all.
 pub record AreStaged {S : Type 0} (g : Ghosts S) (old new : Host S) (edits : List StagingEdit) (err : Output) (ending : CommandEnding) : Type 0 where
   pub answer : Result (Unit {0}) StagingStop
   pub change : IsAllOrNothing old.store.kept new.store.kept answer (all_edited edits old.store.kept)
@@ -55,7 +57,7 @@ pub record AreStaged {S : Type 0} (g : Ghosts S) (old new : Host S) (edits : Lis
   pub collides : IfErr answer (λ stop. stop.refusal ≡ Collision → MatchOption stop.at ⊥ (CollidesAt edits old.store.kept))
   pub told : IsStagingTold edits answer err ending
 
--- the exit status is that of how the changes end
+-- the exit status is that of the ending
 pub record IsStagingOver {S : Type 0} (g : Ghosts S) (old new : Host S) (edits : List StagingEdit) (err : Output) (status : ℕ) : Type 0 where
   pub ending : CommandEnding
   pub staged : AreStaged g old new edits err ending

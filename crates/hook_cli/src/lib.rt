@@ -1,12 +1,14 @@
-//! The commands of `hookhost` over a repository, with what they print and their exit statuses (`command_over`), and several
-//! changes of the staged files, all or none (`stage_over`). What a program needs beside them is handed on: the command line
-//! (`line_of` of `command_line`), and the run and the check of a configuration without a repository (`try_over`, `check_text` of
-//! `configuration_run`).
+//! The commands of `hookhost` over a repository, with what they print and their exit statuses
+//! (`command_over`), and several changes of the staged files, all or none (`stage_over`).
 //!
-//! The contracts cite `specs/CommandOver.antt` (what each command changes, prints and exits with) and `specs/StagingOver.antt`
-//! (what several changes do, and what is told of a refusal), which stand on the definitions of `commit_flow`, on the texts of
-//! `repository_text`, on `specs/RunText.antt`, `specs/MemoryText.antt` and `specs/RefusalText.antt` (the texts of runs and commits,
-//! of remembered answers, and of refusals), and on `specs/Printing.antt` (which text stands on which output).
+//! What a program needs besides these is in other crates. `command_line` reads the command line (`line_of`),
+//! and `configuration_run` runs and checks a configuration without a repository (`try_over`, `check_text`).
+//!
+//! The contracts cite `specs/CommandOver.antt` (what each command changes, prints and exits with) and
+//! `specs/StagingOver.antt` (what several changes do, and what is printed of a refusal). These build on the
+//! definitions of `commit_flow` and the texts of `repository_text`. They also use `specs/RunText.antt` (runs
+//! and commits), `specs/MemoryText.antt` (cached results), `specs/RefusalText.antt` (refusals) and
+//! `specs/Printing.antt` (which text is on which output).
 #![tactic(auto)]
 
 mod command_ending;

@@ -1,4 +1,4 @@
-//! The commands that look something up in a repository, or in what its host remembers, and print it.
+//! The commands that look something up in a repository, or in the cached results of its host, and print it.
 //!
 //! The contracts cite `specs/CommandOver.antt`.
 
@@ -21,7 +21,7 @@ use sqlite::Alter;
 use std::alloc::Global;
 use std::io::Write;
 
-/// Prints what is looked up in a repository, or how many answers its host remembers.
+/// Prints what is looked up in a repository, or how many results its host has cached.
 pub(crate) fn looked_up<S: Alter, O: Write, E: Write>(
     alloc: Global,
     look_up: &LookUp,
@@ -122,14 +122,14 @@ fn show<S: Alter, O: Write, E: Write>(
     }
 }
 
-// `memory`: how many answers are remembered.
+// `memory`: how many results are cached.
 fn memory<S: Alter, O: Write, E: Write>(host: &Host<S>, out: &mut O, err: &mut E) -> CommandEnding
     ensures { IsLookUp host.now.store.kept Memory (record { held = O.contents out.old; holds = O.contents out.new }) (record { held = E.contents err.old; holds = E.contents err.new }) result }
 {
     say_remembered(out, err, host.remembered())
 }
 
-// The path that a text is.
+// Reads a text as a path.
 fn legal_path(alloc: Global, text: &str) -> Result<RepoPath, HostRefusal>
     ensures same { IfOk result (λ path. path ≡ text.now) }
     ensures legal { OnOk result (IsLegal text.now) }
@@ -139,7 +139,7 @@ fn legal_path(alloc: Global, text: &str) -> Result<RepoPath, HostRefusal>
     Ok(path)
 }
 
-// The bytes that a version of the path has.
+// Prints the bytes that a version of the path has.
 fn cat_at<S: Alter, O: Write, E: Write>(
     path: &RepoPath,
     version: FileVersion,
@@ -170,7 +170,7 @@ fn bytes_of<'a, S: Alter>(
     }
 }
 
-// Tells why a version has no bytes of the path.
+// Reports why a version has no bytes of the path.
 fn tell_missing<S: Alter, E: Write>(
     path: &RepoPath,
     version: FileVersion,

@@ -1,4 +1,4 @@
-//! The commands that change the remembered answers of a repository's host alone.
+//! The commands that change the cached results of a repository's host, and nothing else.
 //!
 //! The contracts cite `specs/CommandOver.antt`.
 
@@ -11,7 +11,7 @@ use commit_flow::Host;
 use sqlite::Alter;
 use std::io::Write;
 
-/// `forget`: forgets all remembered answers. It prints how many there were.
+/// `forget`: removes all cached results, and prints how many there were.
 pub(crate) fn forget<S: Alter, O: Write, E: Write>(
     host: &mut Host<S>,
     out: &mut O,
@@ -25,7 +25,7 @@ pub(crate) fn forget<S: Alter, O: Write, E: Write>(
     }
 }
 
-/// `memory` with a limit: sets how many answers are remembered at most. It prints how many are left.
+/// `memory` with a limit: sets how many results are cached at most, and prints how many are left.
 pub(crate) fn set_limit<S: Alter, O: Write, E: Write>(
     limit: &AnswerLimit,
     host: &mut Host<S>,

@@ -21,25 +21,35 @@ use sqlite::Alter;
 use std::alloc::Global;
 use std::io::Write;
 
-/// Makes the call of a line that is a command over a repository, prints what it answers, and answers the exit status. The
-/// bytes are those of the file that `add` stages, and `skip` the ids and aliases of hooks that runs skip; another command
-/// doesn't look at them.
+/// Makes the host's call for a line that is a command over a repository, prints what the call answers, and
+/// answers the exit status. `bytes` are those of the file that `add` stages; `skip` has the ids and aliases
+/// of hooks that runs skip. Other commands ignore them.
 ///
-/// Done, it is 0: what the command looks up stands on `out` and nothing else, for `accept` how many fixes there were, for
-/// `memory` how many answers are remembered, with a limit how many are left, and for `forget` how many there were, for a run the report of its hooks, a line
-/// for each that is unsteady, and where it is verbose how many commands were answered from the cache, and for a commit the reports of its stages and its number; `add` and `rm` print nothing. It is 1
-/// where a hook failed in a run or before a commit, with what is reported on `out`. Where the hooks behind a commit are stopped,
-/// `err` says why, and it is 0. Refused, it is 3: `hookhost: refused: NUMBER NAME` stands on `err`, with the inner number where
-/// the refusal has one, or for `show` of a number that no commit has `hookhost: no commit N`; nothing is on `out`. Want of memory
-/// is refused as `OutOfMemory`; `memory` without a limit is never refused.
+/// The exit status is 0 if the command is done. `out` then has its text, and nothing else:
 ///
-/// A writer's error gives 3 too: what it took before is out, and what the command changed stays. Where `out` gives one,
-/// `hookhost: standard output was not taken` stands on `err`, and behind it of a commit `hookhost: commit N was made`, and why
-/// the hooks behind it were stopped.
+/// - `add` and `rm` print nothing, and a look-up what it looks up;
+/// - `accept` prints how many fixes there were, and `forget` how many cached results there were;
+/// - `memory` prints how many results are cached, with a limit how many are left;
+/// - a run prints the report of its hooks, a line for each unsteady one, and if it is verbose how many
+///   commands were answered from the cache;
+/// - a commit prints the reports of its stages and its number. If the post-commit hooks are stopped, `err`
+///   says why, and the status is 0 all the same.
 ///
-/// `add`, `rm`, `accept`, runs and commits change the repository as the host's calls do, and a refusal leaves it as it was;
-/// `forget` and `memory` with a limit change what is remembered alone, as a whole or, refused, not at all; the others change nothing. Runs and commits alone
-/// call children, and remember what these answered.
+/// It is 1 if a hook failed in a run or before a commit; `out` has what is reported.
+///
+/// It is 3 if the command is refused. `err` then has `hookhost: refused: NUMBER NAME`, with the inner number
+/// if the refusal has one, and `out` nothing. For a commit that doesn't exist, `show` says
+/// `hookhost: no commit N` instead. Want of memory is refused as `OutOfMemory`; `memory` without a limit is
+/// never refused.
+///
+/// It is 3 too if a writer gives an error: what it took before is out, and what the command changed remains.
+/// If it was `out`, `err` has `hookhost: standard output was not taken`. For a commit
+/// `hookhost: commit N was made` follows, and then why the post-commit hooks were stopped.
+///
+/// `add`, `rm`, `accept`, runs and commits change the repository as the host's calls do, and a refusal leaves
+/// it as it was. `forget` and `memory` with a limit change the cached results alone, and nothing if they are
+/// refused. The other commands change nothing. Only runs and commits start children, and cache what these
+/// answered.
 pub fn command_over<S: Alter, C: Children, O: Write, E: Write>(
     alloc: Global,
     line: &Line,
@@ -76,7 +86,7 @@ fn end_of<S: Alter, C: Children, O: Write, E: Write>(
     match line {
         Line::LookUp(asked) => looked_up(alloc, asked, host, out, err),
         Line::Update(update) => updated(alloc, update, bytes, skip, host, children, out, err),
-        // The caller has these done elsewhere.
+        // The caller does these commands elsewhere.
         Line::Standalone(_) => unreachable!(),
     }
 }
@@ -129,7 +139,7 @@ fn updated<S: Alter, C: Children, O: Write, E: Write>(
     }
 }
 
-// The word that names the path.
+// The word that is the path.
 fn word_of(paths: &PathSource) -> &str
     requires { IsOneWord paths.now }
     ensures { result.now ≡ word_of paths.now }
@@ -160,7 +170,7 @@ fn add<S: Alter, E: Write>(
     }
 }
 
-// `rm`: takes a path out of the staged files. It prints nothing on standard output.
+// `rm`: removes a path from the staged files. It prints nothing on standard output.
 fn remove<S: Alter, E: Write>(
     alloc: Global,
     path: &str,

@@ -18,8 +18,9 @@ use sqlite::Alter;
 use std::alloc::Global;
 use std::io::Write;
 
-/// `run` and `run-files`: runs hooks on the staged files, where memory gave what is asked. It prints what is reported of the
-/// hooks, which of them are unsteady, and where it is verbose how many commands were answered from the cache.
+/// `run` and `run-files`: runs hooks on the staged files. `ask` is a refusal if memory was refused for it. It
+/// prints what is reported of the hooks, which of them are unsteady, and if it is verbose how many commands
+/// were answered from the cache.
 pub(crate) fn run<S: Alter, C: Children, O: Write, E: Write>(
     alloc: Global,
     ask: Result<HostAsk, OutOfMemory>,
@@ -54,8 +55,8 @@ fn run_asked<S: Alter, C: Children, O: Write, E: Write>(
     }
 }
 
-/// `commit`: commits the staged files through their hooks. It prints what is reported of the hooks, and the commit's number where
-/// it was made.
+/// `commit`: commits the staged files through their hooks. It prints what is reported of the hooks, and the
+/// commit's number if it was made.
 pub(crate) fn commit<S: Alter, C: Children, O: Write, E: Write>(
     alloc: Global,
     message: &str,
@@ -92,7 +93,7 @@ fn say_ending<O: Write, E: Write>(out: &mut O, err: &mut E, ending: &CommitEndin
     }
 }
 
-/// What a line asks of the host, with the hooks that are skipped.
+/// What a line asks of the host, with the hooks to skip.
 pub(crate) fn ask_of(
     alloc: Global,
     files: &FileChoice,
@@ -126,7 +127,7 @@ fn which_of(alloc: Global, files: &FileChoice) -> Result<Which, OutOfMemory>
             alloc,
             names.as_slice(),
         )?))),
-        // The caller reads the names.
+        // The caller reads these names first.
         FileChoice::Listed(_) => unreachable!(),
     }
 }

@@ -18,14 +18,15 @@ use sqlite::Alter;
 use std::io::Write;
 use text_output::{Unwritten, write_path, write_pieces};
 
-/// Makes several changes of the staged files by one call of the host, all or none, and answers the exit status. There must be
-/// one at least.
+/// Makes several changes of the staged files by one call of the host, all or none, and answers the exit
+/// status. There must be at least one change.
 ///
-/// Done, it is 0, and nothing is printed. Refused, it is 3, and the repository is as it was: `hookhost: refused: NUMBER NAME`
-/// stands on `err`, as of the command that makes the refused change alone, with the inner number where the refusal has one, and
-/// behind it `hookhost: at PATH`, the path of that change. Where its bytes would end the line it stands in double quotes, as Git
-/// writes it. Where memory or the database refuses all of them together, no path is told. An error of `err` gives 3 too: what it
-/// took before is out.
+/// It is 0 if they are made, and nothing is printed. It is 3 if they are refused, which leaves the repository
+/// as it was. `err` then has `hookhost: refused: NUMBER NAME`, as for the command that makes the refused
+/// change alone, with the inner number if the refusal has one. The next line is `hookhost: at PATH`, with the
+/// path of that change; a path whose bytes would end the line is in double quotes, as Git writes it. If
+/// memory or the database refuses all of them together, there is no such line. It is 3 too if `err` gives an
+/// error: what it took before is out.
 pub fn stage_over<S: Alter, E: Write>(edits: &[StagingEdit], host: &mut Host<S>, err: &mut E) -> u8
     requires { edits.now ≢ [] }
     ensures done { IsStagingOver S.Store host.old host.new edits.now (record { held = E.contents err.old; holds = E.contents err.new }) result }
@@ -49,7 +50,7 @@ fn staged<S: Alter, E: Write>(
     }
 }
 
-// Tells why the changes are refused, and at which path.
+// Reports why the changes are refused, and at which path.
 fn tell_stop<E: Write>(edits: &[StagingEdit], stop: &StagingStop, err: &mut E) -> CommandEnding
     ensures told { IsTold ends.Refused (record { held = E.contents err.old; holds = E.contents err.new }) (stop_text edits.now stop.now) result }
     ensures one_of { (result ≡ ends.Refused) ⊎ (result ≡ ends.Untold) }
@@ -60,7 +61,7 @@ fn tell_stop<E: Write>(edits: &[StagingEdit], stop: &StagingStop, err: &mut E) -
     }
 }
 
-// Tells the path of the change with an index, if it has one.
+// Reports the path of the change at an index, if there is one.
 fn tell_at<E: Write>(edits: &[StagingEdit], at: Option<usize>, err: &mut E) -> CommandEnding
     ensures told { IsTold ends.Refused (record { held = E.contents err.old; holds = E.contents err.new }) (at_text (path_at edits.now at)) result }
     ensures one_of { (result ≡ ends.Refused) ⊎ (result ≡ ends.Untold) }

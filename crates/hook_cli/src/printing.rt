@@ -1,5 +1,5 @@
-//! What a command says, on the writer that it is for. It takes no memory, since what is said is done already, or refused for
-//! want of memory.
+//! What a command says, on the writer for it. Nothing here allocates, since the command is done already, or
+//! refused for want of memory.
 //!
 //! The contracts cite `specs/Printing.antt`, `specs/RefusalText.antt`, `specs/MemoryText.antt` and
 //! `repository_text/specs/FixesText.antt`.
@@ -21,17 +21,17 @@ use itoa::Buffer;
 use std::io::Write;
 use text_output::{Unwritten, write_out, write_pieces};
 
-/// The line that standard error gets where standard output gave an error.
+/// The line on standard error if standard output gave an error.
 pub(crate) const UNTAKEN_LINE: &str = "hookhost: standard output was not taken\n";
 
-/// Says the text of a command that is done.
+/// Prints the text of a command that is done.
 pub(crate) fn say<O: Write, E: Write>(out: &mut O, err: &mut E, text: &[u8]) -> CommandEnding
     ensures { IsSaid ends.Done (record { held = O.contents out.old; holds = O.contents out.new }) text.now (record { held = E.contents err.old; holds = E.contents err.new }) untaken_line result }
 {
     ending_of(write_out(out, text), CommandEnding::Done, err)
 }
 
-/// Says how many fixes were accepted.
+/// Prints how many fixes were accepted.
 pub(crate) fn say_accepted<O: Write, E: Write>(
     out: &mut O,
     err: &mut E,
@@ -42,7 +42,7 @@ pub(crate) fn say_accepted<O: Write, E: Write>(
     say_number(out, err, "accepted: ", u64::from(number))
 }
 
-/// Says how many answers are remembered.
+/// Prints how many results are cached.
 pub(crate) fn say_remembered<O: Write, E: Write>(
     out: &mut O,
     err: &mut E,
@@ -53,7 +53,7 @@ pub(crate) fn say_remembered<O: Write, E: Write>(
     say_number(out, err, "remembered: ", number)
 }
 
-/// Says how many answers were forgotten.
+/// Prints how many cached results were removed.
 pub(crate) fn say_forgotten<O: Write, E: Write>(
     out: &mut O,
     err: &mut E,
@@ -64,7 +64,7 @@ pub(crate) fn say_forgotten<O: Write, E: Write>(
     say_number(out, err, "forgotten: ", number)
 }
 
-// Says a number behind a word.
+// Prints a word and a number.
 fn say_number<O: Write, E: Write>(
     out: &mut O,
     err: &mut E,
@@ -78,7 +78,8 @@ fn say_number<O: Write, E: Write>(
     ending_of(written, CommandEnding::Done, err)
 }
 
-/// How a command ends whose text standard output took, or else gave an error, which standard error then tells.
+/// How a command ends: as given if standard output took its text, otherwise by an error, which standard error
+/// reports.
 pub(crate) fn ending_of<E: Write>(
     written: Result<(), Unwritten>,
     ending: CommandEnding,
@@ -93,7 +94,7 @@ pub(crate) fn ending_of<E: Write>(
     }
 }
 
-/// Tells why a command is refused.
+/// Reports why a command is refused.
 pub(crate) fn tell<E: Write>(err: &mut E, refusal: &HostRefusal) -> CommandEnding
     ensures { IsTold ends.Refused (record { held = E.contents err.old; holds = E.contents err.new }) (refusal_text refusal.now) result }
 {
@@ -109,7 +110,7 @@ pub(crate) fn tell<E: Write>(err: &mut E, refusal: &HostRefusal) -> CommandEndin
     }
 }
 
-// Tells a refusal that hands on the fault with this number.
+// Reports a refusal that carries the number of an inner fault.
 fn tell_refusal_of<E: Write>(err: &mut E, number: &str, name: &str, inner: u8) -> CommandEnding
     ensures { IsTold ends.Refused (record { held = E.contents err.old; holds = E.contents err.new }) (line (codes "hookhost: refused: " ++ number.now ++ codes " " ++ name.now ++ inner_text (Some inner))) result }
 {
@@ -122,7 +123,7 @@ fn tell_refusal_of<E: Write>(err: &mut E, number: &str, name: &str, inner: u8) -
     )
 }
 
-/// Tells that no commit has the number.
+/// Reports that no commit has the number.
 pub(crate) fn tell_no_commit<E: Write>(err: &mut E, number: u32) -> CommandEnding
     ensures { IsTold ends.Refused (record { held = E.contents err.old; holds = E.contents err.new }) (no_commit_text number) result }
 {
@@ -134,7 +135,7 @@ pub(crate) fn tell_no_commit<E: Write>(err: &mut E, number: u32) -> CommandEndin
     )
 }
 
-/// Tells that no fix gives bytes to the path.
+/// Reports that no fix gives bytes to the path.
 pub(crate) fn tell_no_fixed<E: Write>(err: &mut E, path: &str) -> CommandEnding
     ensures { IsTold ends.Refused (record { held = E.contents err.old; holds = E.contents err.new }) (no_fixed_text path.now) result }
 {
@@ -145,7 +146,7 @@ pub(crate) fn tell_no_fixed<E: Write>(err: &mut E, path: &str) -> CommandEnding
     )
 }
 
-/// Tells that the commit has no file at the path.
+/// Reports that the commit has no file at the path.
 pub(crate) fn tell_no_file<E: Write>(err: &mut E, number: u32, path: &str) -> CommandEnding
     ensures { IsTold ends.Refused (record { held = E.contents err.old; holds = E.contents err.new }) (no_file_text number path.now) result }
 {
@@ -163,7 +164,7 @@ pub(crate) fn tell_no_file<E: Write>(err: &mut E, number: u32, path: &str) -> Co
     )
 }
 
-/// Tells a text of a command that ends so, piece by piece.
+/// Writes a text to standard error, piece by piece, for a command that ends in the given way.
 pub(crate) fn tell_pieces<'a, E: Write>(
     err: &mut E,
     pieces: &'a [&'a str],

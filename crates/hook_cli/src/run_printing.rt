@@ -1,4 +1,5 @@
-//! What runs of hooks and commits say, on the writers that it is for. It takes no memory, since what is said is done already.
+//! What runs of hooks and commits say, on the writers for it. Nothing here allocates, since the command is
+//! done already.
 //!
 //! The contracts cite `specs/RunText.antt` and `specs/Printing.antt`.
 
@@ -20,8 +21,8 @@ use itoa::Buffer;
 use std::io::Write;
 use text_output::{Unwritten, write_out, write_pieces};
 
-/// Says what a run answered: the report, the ids of the hooks that answered otherwise than is remembered, and where it is verbose
-/// how many commands were answered from the cache.
+/// Prints what a run answered: the report, and the ids of the hooks whose answer differs from the cached one.
+/// If it is verbose, it also prints how many commands were answered from the cache.
 pub(crate) fn say_run<O: Write, E: Write>(
     out: &mut O,
     err: &mut E,
@@ -44,7 +45,7 @@ fn ending_of_run(passed: bool) -> CommandEnding
     }
 }
 
-/// Says the reports of a commit that hooks refused.
+/// Prints the reports of a commit that hooks refused.
 pub(crate) fn say_failure<O: Write, E: Write>(
     out: &mut O,
     err: &mut E,
@@ -55,8 +56,9 @@ pub(crate) fn say_failure<O: Write, E: Write>(
     ending_of(write_reports(out, reports), CommandEnding::Failed, err)
 }
 
-/// Says the reports of a commit that was made, that of the hooks behind it last, and its number. Why these hooks were stopped
-/// goes to standard error. Where standard output gives an error, standard error says that the commit was made.
+/// Prints the reports of a commit that was made, the post-commit one last, and its number. If the post-commit
+/// hooks were stopped, standard error says why. If standard output gives an error, standard error says that
+/// the commit was made.
 pub(crate) fn say_commit<O: Write, E: Write>(
     out: &mut O,
     err: &mut E,
@@ -78,7 +80,7 @@ pub(crate) fn say_commit<O: Write, E: Write>(
     }
 }
 
-// Tells why the hooks behind a commit were stopped. The commit stands all the same.
+// Reports why the post-commit hooks were stopped. The commit stays made (githooks(5), "post-commit").
 fn tell_stopped<E: Write>(err: &mut E, refusal: &RunRefusal) -> CommandEnding
     ensures { IsTold ends.Done (record { held = E.contents err.old; holds = E.contents err.new }) (stopped_text refusal.now) result }
 {
@@ -91,7 +93,7 @@ fn tell_stopped<E: Write>(err: &mut E, refusal: &RunRefusal) -> CommandEnding
     )
 }
 
-// Tells of a commit whose text wasn't taken that it was made.
+// Reports that a commit was made whose text standard output didn't take.
 fn tell_made<E: Write>(err: &mut E, number: u32) -> CommandEnding
     ensures { IsTold ends.CutOff (record { held = E.contents err.old; holds = E.contents err.new }) (untaken_line ++ made_line number) result }
 {
@@ -108,7 +110,7 @@ fn tell_made<E: Write>(err: &mut E, number: u32) -> CommandEnding
     )
 }
 
-// Tells this, and why the hooks behind the commit were stopped.
+// Reports this, and why the post-commit hooks were stopped.
 fn tell_made_and_stopped<E: Write>(err: &mut E, number: u32, refusal: &RunRefusal) -> CommandEnding
     ensures { IsTold ends.CutOff (record { held = E.contents err.old; holds = E.contents err.new }) (untaken_line ++ (made_line number ++ stopped_text refusal.now)) result }
 {
@@ -147,7 +149,7 @@ fn write_reported<O: Write>(out: &mut O, report: &[u8], unsteady: &[Text]) -> Re
     write_unsteady(out, unsteady)
 }
 
-// How many commands were answered from the cache, where that is asked for.
+// Writes how many commands were answered from the cache, if that is asked for.
 fn write_reused<O: Write>(out: &mut O, verbose: bool, reused: u64) -> Result<(), Unwritten>
     ensures ok { OnOk result (Has (record { held = O.contents out.old; holds = O.contents out.new }) (reused_text verbose reused)) }
     ensures err { OnErr result (HasBeginning (record { held = O.contents out.old; holds = O.contents out.new }) (reused_text verbose reused)) }
@@ -187,7 +189,7 @@ fn write_unsteady_line<O: Write>(out: &mut O, id: &str) -> Result<(), Unwritten>
     write_pieces(out, &["unsteady: ", id, "\n"])
 }
 
-// The reports, that of the hooks behind the commit, and the number of the commit.
+// Writes the reports, the post-commit one last, and the number of the commit.
 fn write_commit<O: Write>(
     out: &mut O,
     number: u32,

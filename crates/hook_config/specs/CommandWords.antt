@@ -2,22 +2,22 @@
 use Rattle.std.specs.Prelude.{ℕ, List, [], ◌∷◌, ◌++◌, Option, Some, None, Ok, Err, option_map}
 use Rattle.arg_partition.specs.Words.{Reading, words_of}
 
--- the first of the words, empty where there are none
+-- the first of the words, or empty if there are none
 abbrev pub first_word : List (List ℕ) → List ℕ
 first_word [] = []
 first_word (word ∷ words) = word
 
--- the words, or none where the first of them names no program
+-- the words, or none if the first of them is empty and so names no program
 abbrev pub unless_nameless : List ℕ → List (List ℕ) → Option (List (List ℕ))
 unless_nameless [] words = None
 unless_nameless (c ∷ cs) words = Some words
 
--- the words that were read, where there is one, and the first isn't empty
+-- the words that were read, if there is one, and the first isn't empty
 abbrev pub named_words : Reading → Option (List (List ℕ))
 named_words (Ok words) = unless_nameless (first_word words) words
 named_words (Err fault) = None
 
--- the words of an entry: it is cut as a shell cuts a line, quotes and backslashes are read
+-- the words of an entry, which is cut as Python's shlex.split does
 unfoldable pub entry_words_of : List ℕ → Option (List (List ℕ))
 entry_words_of entry = named_words (words_of entry)
 

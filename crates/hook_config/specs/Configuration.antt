@@ -1,4 +1,5 @@
--- The configuration that a text's bytes describe (pre-commit.com, "Adding pre-commit plugins to your project").
+-- The configuration that a text's bytes describe (pre-commit.com, "Adding pre-commit plugins to your
+-- project").
 use Rattle.std.specs.Prelude.{ℕ, List, Bool, Option, Some, option_and_then}
 use Rattle.yaml_lines.specs.Meaning.{Meaning}
 use Rattle.yaml_profile.specs.Text.{meaning_of}
@@ -11,7 +12,8 @@ use Rattle.hook_config.specs.declared.stage.Stages.{Stages}
 use Rattle.hook_config.specs.KnownKeys.{at_key}
 use Rattle.hook_config.specs.KnownKeys as key
 
--- the configuration of a table's rows, where these are the patterns at the top, and whether a run stops at a failure
+-- the configuration of a table's rows with these patterns at the top; `fail_fast` says whether a run stops at
+-- a failure
 abbrev pub configuration_with : Stages → List Row → List ℕ → List ℕ → Bool → Option Config
 configuration_with default rows files exclude fail_fast =
     given (at_key key.repos rows) (λ repositories.
@@ -24,7 +26,7 @@ configuration_with default rows files exclude fail_fast =
       unknown = unknown_of_top rows;
     })))
 
--- the configuration of a table's rows, where these are the default stages
+-- the configuration of a table's rows with these default stages
 abbrev pub configuration_by : Stages → List Row → Option Config
 configuration_by default rows =
     given (at_key key.files rows) (λ files.
@@ -32,7 +34,7 @@ configuration_by default rows =
     given (at_key key.fail_fast rows) (λ fail_fast.
     configuration_with default rows files exclude fail_fast)))
 
--- the default stages hold for all hooks, wherever they stand
+-- the default stages hold for all hooks, wherever the key is in the table
 unfoldable pub configuration_of_rows : List Row → Option Config
 configuration_of_rows rows = given (at_key key.default_stages rows) (λ default. configuration_by default rows)
 

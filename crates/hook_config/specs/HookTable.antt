@@ -1,5 +1,5 @@
--- The hook that a table of a configuration describes (pre-commit.com, "Creating new hooks"): its fields are read group by
--- group.
+-- The hook that a table of a configuration describes (pre-commit.com, "Creating new hooks"). Its fields are
+-- read group by group.
 use Rattle.std.specs.Prelude.{List, Option, Some, option_and_then}
 use Rattle.yaml_lines.specs.Meaning.{Meaning}
 use Rattle.hook_config.specs.Rows.{Row, table_of}
@@ -17,7 +17,7 @@ use Rattle.hook_config.specs.declared.stage.Stages.{Stages}
 use Rattle.hook_config.specs.KnownKeys.{at_key}
 use Rattle.hook_config.specs.KnownKeys as key
 
--- none where one of them is more than empty: neither is served
+-- none if one of them isn't empty: neither is served
 unfoldable pub unserved_of : List Row → Option Unserved
 unserved_of rows =
     given (at_key key.log_file rows) (λ log_file.
@@ -38,7 +38,7 @@ names_of rows =
       alias = alias;
     }))))
 
--- the language is that of the name, for the entry and its arguments
+-- the language is the one of that name, for the entry and its arguments
 unfoldable pub command_of : List Row → Option Command
 command_of rows =
     given (at_key key.language rows) (λ name.
@@ -66,7 +66,7 @@ selection_of rows =
       exclude_types = exclude_types;
     }))))))
 
--- where these are the default stages
+-- with these default stages
 unfoldable pub switches_of : Stages → List Row → Option Switches
 switches_of default rows =
     given (at_key (key.stages default) rows) (λ stages.
@@ -91,7 +91,7 @@ reads_of rows =
       x_per_file = x_per_file;
     })))
 
--- the groups behind the command, where these are the default stages
+-- the groups after the command, with these default stages
 unfoldable pub conditions_of : Stages → List Row → Option Conditions
 conditions_of default rows =
     given (selection_of rows) (λ selection.
@@ -128,12 +128,12 @@ hook_of_groups unserved names command conditions = record {
   additional_dependencies = unserved.additional_dependencies;
 }
 
--- the hook of a table's rows, of which these are the first groups
+-- the hook of a table's rows, whose first groups are these
 unfoldable pub hook_with : Stages → List Row → Unserved → Names → Command → Option Hook
 hook_with default rows unserved names command =
     given (conditions_of default rows) (λ conditions. Some (hook_of_groups unserved names command conditions))
 
--- the hook of a table's rows, where these are the default stages
+-- the hook of a table's rows, with these default stages
 unfoldable pub hook_of_fields : Stages → List Row → Option Hook
 hook_of_fields default rows =
     given (unserved_of rows) (λ unserved.

@@ -9,7 +9,7 @@ use Rattle.hook_config.specs.KnownKeys.{at_key, local_word}
 use Rattle.hook_config.specs.KnownKeys as key
 use Rattle.hook_config.specs.Limits.{most_hooks}
 
--- the lists that f gives for each value, joined, or none where it gives none for one of them
+-- the lists that f gives for each value, joined, or none if it gives none for one of them
 abbrev pub joined : {A B : Type 0} → (A → Option (List B)) → List A → Option (List B)
 joined f [] = Some []
 joined f (x ∷ xs) = option_and_then (λ ys. option_map (λ rest. ys ++ rest) (joined f xs)) (f x)
@@ -26,21 +26,21 @@ abbrev pub hooks_of_named : Stages → List Row → List ℕ → Option (List Ho
 hooks_of_named default rows repository =
     if bytes_eq repository local_word then option_and_then (hooks_of_list default) (at_key key.hooks rows) else None
 
--- the hooks of a repository's table, where that repository is `local`
+-- the hooks of a repository's table, if that repository is `local` (pre-commit.com, "Repository local hooks")
 abbrev pub hooks_of_rows : Stages → List Row → Option (List Hook)
 hooks_of_rows default rows = option_and_then (hooks_of_named default rows) (at_key key.repo rows)
 
 abbrev pub hooks_of_repository : Stages → Meaning → Option (List Hook)
 hooks_of_repository default value = option_and_then (hooks_of_rows default) (table_of value)
 
--- the hooks, none where there are too many
+-- the hooks, or none if there are too many
 abbrev pub within_limit : List Hook → Option (List Hook)
 within_limit hooks = if nat_le (length hooks) most_hooks then Some hooks else None
 
--- the hooks before with those that were found after them
+-- the hooks before, with those that were found after them
 abbrev pub after : List Hook → Option (List Hook) → Option (List Hook)
 after before found = option_and_then (λ hooks. within_limit (before ++ hooks)) found
 
--- the hooks of all repositories; the stages are those of a hook that names none
+-- the hooks of all repositories; a hook that names no stages has these
 abbrev pub hooks_of_repositories : Stages → List Meaning → Option (List Hook)
 hooks_of_repositories default repositories = option_and_then within_limit (joined (hooks_of_repository default) repositories)

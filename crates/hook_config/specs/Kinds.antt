@@ -14,8 +14,8 @@ text_of (list items) = None
 text_of (table rows) = None
 text_of empty = None
 
--- the words for true and false: in lower case, with a capital first letter, and in upper case (YAML 1.1, "Boolean
--- Language-Independent Type")
+-- the words for true and false: in lower case, with a capital first letter, and in upper case (YAML 1.1,
+-- "Boolean Language-Independent Type", without `y` and `n`)
 abbrev pub true_words : List (List ℕ)
 true_words =
     codes "true" ∷ codes "True" ∷ codes "TRUE"
@@ -42,7 +42,7 @@ truth_of empty = None
 
 -- ---- lists
 
--- what the kind makes of each of them, or none where it makes none of one
+-- what the kind makes of each of them, or none if it makes none of one
 abbrev pub each : {A : Type 0} → (Meaning → Option A) → List Meaning → Option (List A)
 each kind [] = Some []
 each kind (item ∷ items) = option_and_then (λ first. option_map (λ others. first ∷ others) (each kind items)) (kind item)
@@ -55,16 +55,16 @@ texts_of value = option_and_then (each text_of) (list_of value)
 abbrev pub stage_of : Meaning → Option Stage
 stage_of value = option_and_then stage_of_word (text_of value)
 
--- the stages of a list, or the default where it has no items
+-- the stages of a list, or the default if it has no items
 abbrev pub stages_of_items : Stages → List Meaning → Option Stages
 stages_of_items default [] = Some default
 stages_of_items default (item ∷ items) = option_map stages_among (each stage_of (item ∷ items))
 
--- a list of stages, or the default where it is empty
+-- a list of stages, or the default if it is empty
 abbrev pub stages_of : Stages → Meaning → Option Stages
 stages_of default value = option_and_then (stages_of_items default) (list_of value)
 
--- ---- values that are served where they are empty alone
+-- ---- values that are served only if they are empty
 
 abbrev pub only_empty : {A : Type 0} → List A → Option (List A)
 only_empty [] = Some []
@@ -78,21 +78,21 @@ empty_texts_of value = option_and_then only_empty (texts_of value)
 
 -- ---- values at keys
 
--- what follows from the value, or none where there is none
+-- what follows from the value, or none if there is none
 abbrev pub given : {A B : Type 0} → Option A → (A → Option B) → Option B
 given value follows = option_and_then follows value
 
--- what the kind makes of the value, or this where there is none
+-- what the kind makes of the value, or `absent` if there is none
 abbrev pub kind_or : {A : Type 0} → (Meaning → Option A) → Option A → Option Meaning → Option A
 kind_or kind absent None = absent
 kind_or kind absent (Some value) = kind value
 
 -- ---- for contracts of private functions alone
 
--- the value that must stand at the key
+-- the value at a key that has to be there
 abbrev pub required : {A : Type 0} → (Meaning → Option A) → List ℕ → List Row → Option A
 required kind key rows = kind_or kind None (value_at key rows)
 
--- the value at the key, or the default where the key isn't there
+-- the value at the key, or the default if the key isn't there
 abbrev pub or_default : {A : Type 0} → (Meaning → Option A) → A → List ℕ → List Row → Option A
 or_default kind default key rows = kind_or kind (Some default) (value_at key rows)

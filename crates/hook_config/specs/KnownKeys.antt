@@ -1,5 +1,6 @@
--- The keys of a configuration's tables (pre-commit.com, "Adding pre-commit plugins to your project" and "Creating new hooks").
--- The row of each says its word, what its value has to be, what that is read to, and what it is where the key isn't there.
+-- The keys of a configuration's tables (pre-commit.com, "Adding pre-commit plugins to your project" and
+-- "Creating new hooks"). The row of each has its word, what its value has to be, what that is read as, and
+-- what it is if the key isn't there.
 use Rattle.std.specs.Prelude.{ℕ, List, [], ◌∷◌, codes, Bool, true, false, if◌then◌else◌, bytes_eq, map, Option, Some, None}
 use Rattle.std.specs.Borrow.{Bor}
 use Rattle.yaml_lines.specs.Meaning.{Meaning}
@@ -13,18 +14,18 @@ use Rattle.hook_config.specs.declared.known_keys.KeyKind.TheVariants.{RequiredTe
 use Rattle.hook_config.specs.declared.languages.LanguageName.{LanguageName}
 use Rattle.hook_config.specs.declared.stage.Stages.{Stages}
 
--- a key whose `absent` is none has to be there
+-- a key has to be there if its `absent` is none
 pub record Key (A : Type 0) : Type 0 where
   pub word : List ℕ
   pub wanted : KeyKind
   pub kind : Meaning → Option A
   pub absent : Option A
 
--- the value at the key, or what it is where the key isn't there
+-- the value at the key, or what it is if the key isn't there
 abbrev pub at_key : {A : Type 0} → Key A → List Row → Option A
 at_key key rows = kind_or key.kind key.absent (value_at key.word rows)
 
--- how a key stands in the lists of known ones
+-- a key in the lists of known ones
 abbrev pub listed : {A : Type 0} → Key A → List ℕ × KeyKind
 listed key = (key.word, key.wanted)
 
@@ -51,7 +52,7 @@ fail_fast = record { word = codes "fail_fast"; wanted = Truth; kind = truth_of; 
 abbrev pub repos : Key (List Meaning)
 repos = record { word = codes "repos"; wanted = RequiredList; kind = list_of; absent = None }
 
--- those that are read, in the order in which they are, and those that are read and ignored
+-- the keys that are read, in their order, and then those that are read and ignored
 abbrev pub top_keys : List (List ℕ × KeyKind)
 top_keys =
     listed default_stages
@@ -76,13 +77,13 @@ hooks = record { word = codes "hooks"; wanted = RequiredList; kind = list_of; ab
 abbrev pub repository_keys : List (List ℕ × KeyKind)
 repository_keys = listed repo ∷ listed hooks ∷ []
 
--- the one repository that isn't fetched from elsewhere
+-- the one repository that isn't fetched (pre-commit.com, "Repository local hooks")
 abbrev pub local_word : List ℕ
 local_word = codes "local"
 
 -- ---- a hook's table
 
--- the tag that a file must have where a hook's table has no `types`
+-- the tag that a file has to have if a hook's table has no `types`
 abbrev pub file_word : List ℕ
 file_word = codes "file"
 
@@ -119,7 +120,7 @@ types_or = record { word = codes "types_or"; wanted = Texts; kind = texts_of; ab
 abbrev pub exclude_types : Key (List (List ℕ))
 exclude_types = record { word = codes "exclude_types"; wanted = Texts; kind = texts_of; absent = Some [] }
 
--- where these are the default stages
+-- with these default stages
 abbrev pub stages : Stages → Key Stages
 stages default = record { word = codes "stages"; wanted = Texts; kind = stages_of default; absent = Some default }
 
@@ -139,7 +140,7 @@ x_reads = record { word = codes "x_reads"; wanted = Pattern; kind = pattern_of; 
 abbrev pub x_per_file : Key Bool
 x_per_file = record { word = codes "x_per_file"; wanted = Truth; kind = truth_of; absent = Some false }
 
--- those that are read, in the order in which they are, and those that are read and ignored
+-- the keys that are read, in their order, and then those that are read and ignored
 abbrev pub hook_keys : List (List ℕ × KeyKind)
 hook_keys =
     listed log_file

@@ -1,5 +1,5 @@
--- The languages, and how each runs a hook's entry (pre-commit.com, "Supported languages": "fail", "pygrep", "script",
--- "system").
+-- The languages, and how each runs a hook's entry (pre-commit.com, "Supported languages": "fail", "pygrep",
+-- "script", "system").
 use Rattle.std.specs.Prelude.{ℕ, List, codes, ◌&&◌, bytes_eq, if◌then◌else◌, is_some, Option, Some, None, option_map, option_and_then}
 use Rattle.builtin_hooks.specs.Search.{Search, are_known, pattern_of, search_of}
 use Rattle.yaml_lines.specs.Meaning.{Meaning}
@@ -34,8 +34,8 @@ name_of_word word =
 abbrev pub language_name_of : Meaning → Option LanguageName
 language_name_of value = option_and_then name_of_word (text_of value)
 
--- what an entry and its arguments ask to look for: each argument is a known one, and under what they say the grammar reads
--- a pattern in the entry
+-- what an entry and its arguments ask to look for: each argument is a known one, and under these flags the
+-- grammar reads a pattern in the entry
 unfoldable pub grep_of : List ℕ → List (List ℕ) → Option Search
 grep_of entry args =
     if are_known args && is_some (pattern_of (search_of entry args)) then Some (search_of entry args) else None

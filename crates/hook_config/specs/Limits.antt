@@ -7,7 +7,7 @@ use Rattle.yaml_lines.specs.Characters.{most_bytes}
 abbrev pub most_hooks : ℕ
 most_hooks = 500
 
--- the greatest number of bytes of a text: a configuration has no more
+-- the greatest number of bytes of a text, which is that of the whole configuration
 abbrev pub most_text_bytes : ℕ
 most_text_bytes = most_bytes
 

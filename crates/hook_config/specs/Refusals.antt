@@ -1,5 +1,5 @@
--- The numbers and the printed names of a configuration's refusals, and the refusals that
--- faults of other crates become.
+-- The numbers and the printed names of a configuration's refusals, and what the faults of other crates
+-- become.
 use Rattle.std.specs.Prelude.{◌≡◌, ◌≤◌, ◌+◌, ℕ, List, codes, length}
 use Rattle.yaml_lines.specs.Characters.{most_bytes}
 use Rattle.yaml_lines.specs.Faults.{too_large as too_large_text}
@@ -48,7 +48,7 @@ name_of OutOfMemory = codes "OutOfMemory"
 abbrev pub in_line : YamlFault → ConfigFault
 in_line fault = record { kind = Yaml fault; at = fault.line }
 
--- want of memory is at no line of the text
+-- a refusal of memory has no line
 abbrev pub refusal_of_yaml : YamlKind → YamlFault → ConfigFault
 refusal_of_yaml NotUtf8 fault = in_line fault
 refusal_of_yaml TabIndent fault = in_line fault
@@ -81,10 +81,10 @@ of_words words.OpenQuote = BadEntry
 of_words words.NothingEscaped = BadEntry
 of_words words.OutOfMemory = OutOfMemory
 
--- a text of more bytes than a text may have
+-- the refusal of a text that has too many bytes
 abbrev pub too_large : ConfigFault
 too_large = in_line too_large_text
 
--- more bytes than a text may have are refused as that
+-- more bytes than a text may have give this refusal
 abbrev pub TellsTooLarge : List ℕ → ConfigFault → Type 0
 TellsTooLarge bytes fault = most_bytes + 1 ≤ length bytes → fault ≡ too_large

@@ -1,5 +1,5 @@
--- No text that a configuration holds is longer than a text may be. The words of a command, which are cut out of its entry,
--- aren't spoken of.
+-- No text that a configuration holds is longer than a text may be. The words of a command, which are cut out
+-- of its entry, aren't covered.
 use Rattle.std.specs.Prelude.{⊤}
 use Rattle.std.specs.List.{All}
 use Rattle.hook_config.specs.Limits.{IsShort, AreTexts}

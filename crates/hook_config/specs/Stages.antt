@@ -1,5 +1,5 @@
--- The stages of hooks (githooks(5); pre-commit.com, "Confining hooks to run at certain stages"), their names, and sets of
--- them.
+-- The stages of hooks (githooks(5); pre-commit.com, "Confining hooks to run at certain stages"), their names,
+-- and sets of them.
 use Rattle.std.specs.Prelude.{ℕ, List, [], ◌∷◌, Bool, true, false, if◌then◌else◌, bytes_eq, codes, map, Option, Some, None}
 use Rattle.std.specs.Borrow.{Bor}
 use Rattle.hook_config.specs.declared.stage.Stage.{Stage}
@@ -70,7 +70,7 @@ has_stage stages PostRewrite = stages.post_rewrite
 has_stage stages PreRebase = stages.pre_rebase
 has_stage stages Manual = stages.manual
 
--- these stages and this one
+-- these stages, and this one too
 abbrev pub with_stage : Stage → Stages → Stages
 with_stage PreCommit stages = record stages { pre_commit = true }
 with_stage PreMergeCommit stages = record stages { pre_merge_commit = true }

@@ -1,5 +1,5 @@
--- The keys that the table they stand in doesn't know, in the order of the text: the keys of a repository or a hook stand
--- where its table stands.
+-- The keys that their table doesn't know, in the order of the text. The unknown keys of a repository or a
+-- hook come at the place of its table.
 use Rattle.std.specs.Prelude.{ℕ, List, [], ◌∷◌, if◌then◌else◌, bytes_eq, unwrap_or}
 use Rattle.std.specs.List.{flat_map}
 use Rattle.yaml_lines.specs.Meaning.{Meaning}
@@ -8,11 +8,11 @@ use Rattle.hook_config.specs.KnownKeys.{is_key, top_keys, repository_keys, hook_
 use Rattle.hook_config.specs.declared.known_keys.KeyKind.{KeyKind}
 use Rattle.hook_config.specs.KnownKeys as key
 
--- a table's rows, none where the value is no table
+-- a table's rows, or none if the value is no table
 abbrev pub rows_in : Meaning → List Row
 rows_in value = unwrap_or (table_of value) []
 
--- a list's items, none where the value is no list
+-- a list's items, or none if the value is no list
 abbrev pub items_in : Meaning → List Meaning
 items_in value = unwrap_or (list_of value) []
 

@@ -11,8 +11,8 @@ use hook_base::Text;
 use std::alloc::Global;
 use std::marker::Model;
 
-/// The words of a hook's command: those of its entry, then its arguments. There is one at least, and the first isn't
-/// empty. Contracts see the list of their texts.
+/// The words of a hook's command: those of its entry, then its arguments. There is at least one, and the
+/// first isn't empty. Contracts see the list of their texts.
 #[derive(Debug, Drop)]
 pub struct CommandWords {
     words: Vec<Text>,
@@ -30,8 +30,8 @@ impl Model for CommandWords {
 }
 
 impl CommandWords {
-    /// The words of an entry with these arguments. `BadEntry` where the entry can't be cut into words, has none, or its
-    /// first is empty.
+    /// The words of an entry with these arguments. `BadEntry` if the entry can't be cut into words, has none,
+    /// or its first word is empty.
     #[tactic(auto, unfolding(crate::specs::CommandWords::command_words_of))]
     pub(crate) fn read(
         alloc: Global,
@@ -47,7 +47,7 @@ impl CommandWords {
         Ok(CommandWords { words })
     }
 
-    /// All words: at least one, and the first isn't empty.
+    /// All words: there is at least one, and the first isn't empty.
     pub fn as_slice(&self) -> &[Text]
         ensures same { result.now ≡ self.now }
         ensures named { first_word self.now ≢ [] }
@@ -63,7 +63,7 @@ impl CommandWords {
         &self.words[0]
     }
 
-    /// The words behind the first.
+    /// The words after the first.
     pub fn rest(&self) -> &[Text]
         ensures { self.now ≡ first_word self.now ∷ result.now }
     {
@@ -71,7 +71,7 @@ impl CommandWords {
     }
 }
 
-// The words of an entry, of which the first isn't empty.
+// The words of an entry. The first isn't empty.
 #[tactic(auto, unfolding(crate::specs::CommandWords::entry_words_of))]
 fn entry_words_of(alloc: Global, entry: &str) -> Result<Vec<Text>, ConfigKind>
     ensures words { GivesValue (λ words. words.items) result (entry_words_of entry.now) }

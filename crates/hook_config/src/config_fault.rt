@@ -1,4 +1,4 @@
-//! Why bytes are no configuration, and where.
+//! Why bytes aren't a configuration, and where.
 
 ghost use Rattle.std.specs.Prelude.{◌≡◌};
 ghost use Rattle.hook_config.specs.Refusals.{number_of, name_of};
@@ -12,16 +12,17 @@ use std::alloc::{AllocError, AllocFailed};
 use thiserror::Error;
 use yaml_profile::{YamlFault, YamlKind};
 
-/// Why bytes are no configuration.
+/// Why bytes aren't a configuration.
 #[derive(Clone, Copy, Debug, PartialEq, Eq, Error)]
 pub enum ConfigKind {
-    /// The bytes aren't YAML of this project's profile.
+    /// The bytes aren't YAML of this project's profile (docs/REFERENCE.md, "The configuration's text: a
+    /// profile of YAML").
     #[error("the text is not YAML that can be read")]
     Yaml(YamlFault),
     /// A node is of another kind than its place wants, or a text is longer than a text may be.
     #[error("a value is of the wrong kind")]
     Shape,
-    /// A key that its table must have isn't there.
+    /// A key that its table has to have isn't there.
     #[error("a required key is missing")]
     MissingKey,
     /// A text in a list of stages names no stage.
@@ -30,19 +31,19 @@ pub enum ConfigKind {
     /// A language isn't one of the four that are served.
     #[error("a language is not known")]
     BadLanguage,
-    /// A repository is another than `local`.
+    /// A repository is not `local`.
     #[error("a repository is not `local`")]
     RemoteRepo,
     /// `regex` doesn't take a text as a pattern: it is none, nests too deep, or is too big once it is built.
     #[error("a pattern cannot be read")]
     BadPattern,
-    /// An entry can't be cut into words, has no word, or its first word is empty.
+    /// An entry can't be cut into words, has none, or its first word is empty.
     #[error("an entry cannot be read")]
     BadEntry,
     /// An argument isn't one that the language takes.
     #[error("an argument is not known")]
     BadArgs,
-    /// A key is served only where its value is empty.
+    /// A key that is served only if its value is empty has another one.
     #[error("a key is not supported")]
     Unsupported,
     /// There are more than `MOST_HOOKS` hooks.
@@ -166,8 +167,8 @@ impl ConfigKind {
 pub struct ConfigFault {
     /// What is wrong.
     pub kind: ConfigKind,
-    /// For `Yaml` the line of the text, counted from 1. Else the hook's number, counted from 1 over all repositories,
-    /// or 0 outside hooks.
+    /// For `Yaml` the line of the text, counted from 1. Otherwise the hook's number, counted from 1 over all
+    /// repositories, or 0 outside hooks.
     pub at: u64,
 }
 
@@ -198,7 +199,7 @@ impl From<ConfigKind> for ConfigFault {
     }
 }
 
-// A fault of the text, at its line. Want of memory is at no line.
+// A fault of the text, at its line. A refusal of memory has no line.
 impl From<YamlFault> for ConfigFault {
     ghost use Rattle.std.specs.Prelude.{◌≡◌};
     ghost use Rattle.hook_config.specs.Refusals.{of_yaml};

@@ -8,7 +8,8 @@ use hook_base::Text;
 use std::alloc::{AllocError, Global};
 use std::marker::Model;
 
-/// A text of a configuration, of at most `MOST_TEXT_BYTES` bytes. Contracts see it as the list of its bytes in UTF-8.
+/// A text of a configuration, of at most `MOST_TEXT_BYTES` bytes. Contracts see it as the list of its bytes
+/// in UTF-8.
 #[derive(Debug, Drop)]
 pub struct ConfigText {
     text: String,
@@ -26,7 +27,7 @@ impl Model for ConfigText {
 }
 
 impl ConfigText {
-    /// The text, or nothing where it is longer than `MOST_TEXT_BYTES`.
+    /// The text, or nothing if it is longer than `MOST_TEXT_BYTES`.
     pub fn new(text: String) -> Option<Self>
         ensures long { IsNone result ↔ (most_text_bytes < length (string_bytes text)) }
         ensures same { IfSome result (λ owned. owned ≡ string_bytes text) }
@@ -38,7 +39,7 @@ impl ConfigText {
         }
     }
 
-    /// A copy of a text that is no longer than a text may be. `AllocError` where memory is refused.
+    /// A copy of a text that is no longer than a text may be. `AllocError` if memory is refused.
     pub(crate) fn copy_of(alloc: Global, text: &str) -> Result<Self, AllocError>
         requires { length text.now ≤ most_text_bytes }
         ensures { IfOk result (λ owned. owned ≡ text.now) }
@@ -64,7 +65,7 @@ impl ConfigText {
         self.text.as_str()
     }
 
-    /// The same text, without its limit. It takes no memory.
+    /// The same text, without its limit. It allocates nothing.
     pub(crate) fn into_text(self) -> Text
         ensures same { result ≡ self }
         ensures within { length self ≤ most_text_bytes }

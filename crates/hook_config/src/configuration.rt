@@ -1,4 +1,4 @@
-//! What a configuration is read to.
+//! What a text is read as: a configuration and its hooks.
 
 use crate::command_words::CommandWords;
 use crate::config_text::ConfigText;
@@ -19,11 +19,11 @@ pub struct Config {
     pub files: SharedPattern,
     /// Not found in the path of any file that a hook gets.
     pub exclude: SharedPattern,
-    /// The keys that no table knows, in the order of the text, each as often as it stands there.
+    /// The keys that no table knows, in the order of the text, each as often as it occurs there.
     pub unknown: Items<Text>,
 }
 
-/// One hook of a configuration.
+/// One hook of a configuration (pre-commit.com, "Creating new hooks").
 #[derive(Debug, Drop)]
 pub struct Hook {
     /// The name by which the hook is asked for.
@@ -34,8 +34,8 @@ pub struct Hook {
     pub alias: ConfigText,
     /// How the hook's entry is run.
     pub language: Language,
-    /// What the hook says where its language is `fail`, the text of its pattern where that is `pygrep`, and else the text of
-    /// the first words of its command.
+    /// With `fail` what the hook says, with `pygrep` the text of its pattern, and otherwise the text of the
+    /// first words of its command.
     pub entry: ConfigText,
     /// The words that follow those of the entry. With `pygrep` they say how its pattern is looked for.
     pub args: Items<ConfigText>,
@@ -45,38 +45,39 @@ pub struct Hook {
     pub exclude: SharedPattern,
     /// Each file that the hook gets has all of these tags.
     pub types: TagNames,
-    /// Each file that the hook gets has one of these tags at least, where there are any.
+    /// Each file that the hook gets has at least one of these tags, if there are any.
     pub types_or: TagNames,
     /// No file that the hook gets has one of these tags.
     pub exclude_types: TagNames,
-    /// The stages in which the hook is run: those that its table names, else the configuration's default stages.
+    /// The stages in which the hook runs: those that its table names, otherwise the configuration's default
+    /// stages.
     pub stages: Stages,
-    /// Whether the hook runs also where no file is selected for it.
+    /// Whether the hook also runs if no file is selected for it.
     pub always_run: bool,
-    /// Whether the hook's details are reported also where it passed.
+    /// Whether the hook's details are reported even if it passed.
     pub verbose: bool,
-    /// Whether the hook is handed the names of the files that are selected for it.
+    /// Whether the hook is given the names of the files that are selected for it.
     pub pass_filenames: bool,
-    /// Whether a run stops where this hook failed.
+    /// Whether a run stops if this hook failed.
     pub fail_fast: bool,
     /// Found in the path of each further file that the hook's children see.
     pub x_reads: SharedPattern,
-    /// Whether a child of the hook is handed one name at most.
+    /// Whether a child of the hook is given at most one name.
     pub x_per_file: bool,
-    /// The file that a hook's output would be written to. It is empty, since none is served.
+    /// The file that a hook's output would be written to. It is empty, since no such file is served.
     pub log_file: ConfigText,
     /// What would be installed for the hook. There are none, since none are served.
     pub additional_dependencies: Items<ConfigText>,
 }
 
-/// How a hook's entry is run.
+/// How a hook's entry is run (pre-commit.com, "Supported languages").
 #[derive(Debug, Drop)]
 pub enum Language {
-    /// The hook always fails, and its entry is what it says.
+    /// The hook always fails, and says its entry.
     Fail,
-    /// The hook looks for its entry in files, as its arguments say, and fails where it prints anything.
+    /// The hook looks for its entry in files, as its arguments say, and fails if it prints anything.
     Pygrep(Grep),
-    /// The hook starts the program that the first of these words names, as it is.
+    /// The hook starts the program that the first of these words names, as it is written.
     System(CommandWords),
     /// The hook starts the file of the repository that the first of these words names.
     Script(CommandWords),

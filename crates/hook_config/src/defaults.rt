@@ -1,4 +1,4 @@
-//! What a hook has where its table doesn't say it.
+//! What a hook has if its table doesn't say it.
 
 ghost use Rattle.std.specs.Prelude.{◌≡◌, IfOk, IfErr};
 ghost use Rattle.hook_config.specs.Patterns.{every_path, no_path};
@@ -10,8 +10,8 @@ use crate::stage::Stages;
 use std::alloc::Global;
 use std::marker::Model;
 
-/// What hooks have where their tables don't say it: the default stages of their configuration, which is what contracts
-/// see, and the default patterns, which are built once for all of them.
+/// What hooks have if their tables don't say it: the default stages of their configuration, and the default
+/// patterns. The patterns are built once for all hooks. Contracts see the stages.
 #[derive(Drop)]
 pub(crate) struct Defaults {
     stages: Stages,

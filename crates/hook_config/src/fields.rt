@@ -35,14 +35,14 @@ fn value_at<'a>(rows: &'a [(String, Node)], key: &str) -> Option<&'a Node>
     None
 }
 
-/// The value that must stand at the key, else `MissingKey`.
+/// The value at a key that has to be there, otherwise `MissingKey`.
 pub(crate) fn required<'a>(rows: &'a [(String, Node)], key: &str) -> Result<&'a Node, ConfigKind>
     ensures { GivesSurely (λ value. view value.now) result (value_at key.now (rows_of rows.now)) }
 {
     value_at(rows, key).ok_or(ConfigKind::MissingKey)
 }
 
-/// The text that must stand at the key.
+/// The text at a key that has to be there.
 pub(crate) fn required_text(
     alloc: Global,
     rows: &[(String, Node)],
@@ -53,7 +53,7 @@ pub(crate) fn required_text(
     text_of(alloc, required(rows, key)?)
 }
 
-/// The language whose name must stand at the key. A word that names none is `BadLanguage`.
+/// The language whose name is at a key that has to be there. A word that names no language is `BadLanguage`.
 pub(crate) fn required_language(
     rows: &[(String, Node)],
     key: &str,
@@ -64,7 +64,7 @@ pub(crate) fn required_language(
     LanguageName::of_word(word).ok_or(ConfigKind::BadLanguage)
 }
 
-/// The list that must stand at the key.
+/// The list at a key that has to be there.
 pub(crate) fn required_list<'a>(
     rows: &'a [(String, Node)],
     key: &str,
@@ -74,7 +74,7 @@ pub(crate) fn required_list<'a>(
     list_of(required(rows, key)?)
 }
 
-/// The text at the key, empty where the key isn't there.
+/// The text at the key, empty if the key isn't there.
 pub(crate) fn text_or_empty(
     alloc: Global,
     rows: &[(String, Node)],
@@ -88,7 +88,7 @@ pub(crate) fn text_or_empty(
     }
 }
 
-/// The truth at the key, or the default where the key isn't there.
+/// The truth at the key, or the default if the key isn't there.
 pub(crate) fn truth_or(
     rows: &[(String, Node)],
     key: &str,
@@ -102,7 +102,7 @@ pub(crate) fn truth_or(
     }
 }
 
-/// The texts at the key, none where the key isn't there.
+/// The texts at the key, none if the key isn't there.
 pub(crate) fn texts_or_none(
     alloc: Global,
     rows: &[(String, Node)],
@@ -116,7 +116,7 @@ pub(crate) fn texts_or_none(
     }
 }
 
-/// The pattern at the key, or the default where the key isn't there.
+/// The pattern at the key, or the default if the key isn't there.
 pub(crate) fn pattern_or(
     alloc: Global,
     rows: &[(String, Node)],
@@ -131,7 +131,7 @@ pub(crate) fn pattern_or(
     }
 }
 
-/// The tags at the key, none where the key isn't there.
+/// The tags at the key, none if the key isn't there.
 pub(crate) fn tags_or_none(
     alloc: Global,
     rows: &[(String, Node)],
@@ -145,7 +145,7 @@ pub(crate) fn tags_or_none(
     }
 }
 
-/// The tags at the key, the one of every file where the key isn't there.
+/// The tags at the key. If the key isn't there, the one tag that every file has.
 pub(crate) fn tags_or_file(
     alloc: Global,
     rows: &[(String, Node)],
@@ -159,7 +159,7 @@ pub(crate) fn tags_or_file(
     }
 }
 
-/// The stages at the key, or the default where the key isn't there or its list is empty.
+/// The stages at the key, or the default if the key isn't there or its list is empty.
 pub(crate) fn stages_or(
     rows: &[(String, Node)],
     key: &str,
@@ -173,7 +173,7 @@ pub(crate) fn stages_or(
     }
 }
 
-/// The empty text at the key, also where the key isn't there. Another text is `Unsupported`.
+/// The empty text at the key, or if the key isn't there. Another text is `Unsupported`.
 pub(crate) fn empty_text_at(
     alloc: Global,
     rows: &[(String, Node)],
@@ -187,7 +187,7 @@ pub(crate) fn empty_text_at(
     }
 }
 
-/// The empty list at the key, also where the key isn't there. Another list of texts is `Unsupported`.
+/// The empty list at the key, or if the key isn't there. Another list of texts is `Unsupported`.
 pub(crate) fn empty_texts_at(
     alloc: Global,
     rows: &[(String, Node)],

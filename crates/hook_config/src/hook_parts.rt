@@ -1,4 +1,5 @@
-//! The fields of a hook, in the groups in which they are read: of several faults the first in this order is told.
+//! The fields of a hook, in the groups in which they are read. Of several faults the first in this order is
+//! reported.
 
 ghost use Rattle.hook_config.specs.Gives.{GivesValue, GivesSurely};
 ghost use Rattle.hook_config.specs.HookTable.{command_of, conditions_of, names_of, reads_of, selection_of, switches_of, unserved_of};
@@ -20,7 +21,7 @@ use hook_base::Items;
 use std::alloc::Global;
 use yaml_profile::Node;
 
-/// What isn't served, and so is empty.
+/// What isn't served, and so has to be empty.
 #[derive(Drop)]
 pub(crate) struct Unserved {
     pub(crate) log_file: ConfigText,
@@ -37,7 +38,7 @@ pub(crate) fn unserved_of(alloc: Global, rows: &[(String, Node)]) -> Result<Unse
     })
 }
 
-/// What a hook is called by.
+/// The names of a hook.
 #[derive(Drop)]
 pub(crate) struct Names {
     pub(crate) id: ConfigText,
@@ -132,7 +133,8 @@ pub(crate) fn switches_of(
     })
 }
 
-/// What a hook's children see beside the files that are selected for it, and how many of these one is handed.
+/// Which files a hook's children see besides those that are selected for it, and how many names a child is
+/// given.
 #[derive(Drop)]
 pub(crate) struct Reads {
     pub(crate) x_reads: SharedPattern,
@@ -153,7 +155,7 @@ pub(crate) fn reads_of(
     })
 }
 
-/// Where, when and how a hook runs: the groups behind its command.
+/// Which files a hook gets, when and how it runs, and what it reads: the groups after its command.
 #[derive(Drop)]
 pub(crate) struct Conditions {
     pub(crate) selection: Selection,

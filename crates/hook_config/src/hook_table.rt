@@ -16,14 +16,14 @@ use crate::kinds::table_of;
 use std::alloc::Global;
 use yaml_profile::Node;
 
-/// The hook that a table describes. Where it doesn't say it, the hook has the defaults.
+/// The hook that a table describes. It has the defaults for what the table doesn't say.
 pub(crate) fn hook_of(alloc: Global, node: &Node, defaults: &Defaults) -> Result<Hook, ConfigKind>
     ensures { GivesValue (λ hook. hook) result (hook_of defaults.now (view node.now)) }
 {
     hook_of_fields(alloc, table_of(node)?, defaults)
 }
 
-// The hook of a table's rows. Of several faults the first in the order of these lines is told.
+// The hook of a table's rows. Of several faults the first in the order of these lines is reported.
 #[tactic(auto, unfolding(crate::specs::HookTable::hook_of_fields))]
 fn hook_of_fields(
     alloc: Global,
@@ -38,7 +38,7 @@ fn hook_of_fields(
     hook_with(alloc, rows, defaults, unserved, names, command)
 }
 
-// The hook of a table's rows, of which these are the first groups.
+// The hook of a table's rows, whose first groups are these.
 #[tactic(auto, unfolding(crate::specs::HookTable::hook_with))]
 fn hook_with(
     alloc: Global,

@@ -31,7 +31,7 @@ pub(crate) fn list_of<'a>(node: &'a Node) -> Result<&'a [Node], ConfigKind>
     }
 }
 
-/// A text, quoted or not, of at most `MOST_TEXT_BYTES` bytes. A text that is longer is `Shape`.
+/// A text, quoted or not, of at most `MOST_TEXT_BYTES` bytes. A longer text is `Shape`.
 pub(crate) fn text_in<'a>(node: &'a Node) -> Result<&'a str, ConfigKind>
     ensures text { GivesSurely (λ text. text.now) result (text_of (view node.now)) }
     ensures within { IfOk result (λ text. IsShort text.now) }
@@ -62,7 +62,8 @@ pub(crate) fn is_among(words: &[&str], word: &str) -> bool
     false
 }
 
-// YAML 1.1, "Boolean Language-Independent Type".
+// YAML 1.1, "Boolean Language-Independent Type", without `y` and `n`, which PyYAML doesn't read as truths
+// either.
 const TRUE_WORDS: [&str; 9] = [
     "true", "True", "TRUE", "yes", "Yes", "YES", "on", "On", "ON",
 ];
@@ -71,7 +72,7 @@ const FALSE_WORDS: [&str; 9] = [
     "false", "False", "FALSE", "no", "No", "NO", "off", "Off", "OFF",
 ];
 
-/// An unquoted word for true or false.
+/// The truth that an unquoted word names. A quoted one is a text, and so `Shape`.
 pub(crate) fn truth_of(node: &Node) -> Result<bool, ConfigKind>
     ensures { GivesSurely (λ truth. truth) result (truth_of (view node.now)) }
 {

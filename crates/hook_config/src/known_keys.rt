@@ -1,8 +1,9 @@
-//! The keys of a configuration's three tables (pre-commit.com, "Adding pre-commit plugins to your project" and "Creating new
-//! hooks"). What each must be is written in `specs/KnownKeys.antt`: what reads the value at a key, and what compares a key
-//! with one of these, is proved only where the words are the same.
+//! The keys of a configuration's three tables (pre-commit.com, "Adding pre-commit plugins to your project"
+//! and "Creating new hooks"). `specs/KnownKeys.antt` says what each has to be. The functions that read the
+//! value at a key, or compare a key with these, are proved only if the words here and there are the same.
 //!
-//! What a key of a hook touches that is to be served is listed in `docs/ARCHITECTURE.md`, "A hook key".
+//! What else a further key of a hook touches is listed in `docs/ARCHITECTURE.md`, "Where a change goes",
+//! under "A hook key".
 
 ghost use Rattle.std.specs.Prelude.{◌≡◌};
 ghost use Rattle.hook_config.specs.KnownKeys.{hook_keys, is_key, key_rows, repository_keys, top_keys};
@@ -26,8 +27,8 @@ pub enum KeyKind {
     Ignored,
 }
 
-/// The keys of the table at the top, in the order in which they are read; those that are ignored stand last. Any other key is
-/// ignored too, and listed in [`Config::unknown`](crate::Config::unknown).
+/// The keys of the table at the top, in the order in which they are read, and then those that are ignored.
+/// Any other key is ignored too, and listed in [`Config::unknown`](crate::Config::unknown).
 pub fn top_keys() -> &'static [(&'static str, KeyKind)]
     ensures { key_rows result.now ≡ top_keys }
 {
@@ -44,7 +45,7 @@ pub fn top_keys() -> &'static [(&'static str, KeyKind)]
     ]
 }
 
-/// The keys of a repository's table, as [`top_keys`] gives those of the top.
+/// The keys of a repository's table, in the same order as those of [`top_keys`].
 pub fn repository_keys() -> &'static [(&'static str, KeyKind)]
     ensures { key_rows result.now ≡ repository_keys }
 {
@@ -54,7 +55,7 @@ pub fn repository_keys() -> &'static [(&'static str, KeyKind)]
     ]
 }
 
-/// The keys of a hook's table, as [`top_keys`] gives those of the top.
+/// The keys of a hook's table, in the same order as those of [`top_keys`].
 pub fn hook_keys() -> &'static [(&'static str, KeyKind)]
     ensures { key_rows result.now ≡ hook_keys }
 {

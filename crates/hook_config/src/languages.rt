@@ -1,6 +1,6 @@
-//! The languages. A further one has a variant of `Language` and of `LanguageName`, its word in `of_word` here and in
-//! `specs/Languages.antt`, and a case in `language_of` of both. What its hooks answer stands in `hook_run`: `IsLanguageRun` of
-//! its `specs/HookRun.antt`, and `begin_language` of its `begin.rt`.
+//! The languages. A further one needs a variant of `Language` and of `LanguageName`, its word in `of_word`
+//! here and in `specs/Languages.antt`, and a case in both `language_of`. What its hooks answer is in
+//! `hook_run`: `IsLanguageRun` of its `specs/HookRun.antt`, and `begin_language` of its `begin.rt`.
 
 ghost use Rattle.std.specs.Prelude.{◌≡◌, IfOk, IfErr, map};
 ghost use Rattle.hook_config.specs.Gives.{GivesValue};
@@ -24,7 +24,7 @@ pub(crate) enum LanguageName {
 }
 
 impl LanguageName {
-    /// The language that the word names, or nothing where it names none.
+    /// The language that the word names, or nothing if it names none.
     pub(crate) fn of_word(word: &str) -> Option<Self>
         ensures { result ≡ name_of_word word.now }
     {
@@ -59,8 +59,8 @@ pub(crate) fn language_of(
     }
 }
 
-// What an entry and its arguments ask to look for. `BadArgs` where an argument isn't known, whatever the entry is;
-// `BadPattern` where `regex` doesn't take the entry.
+// What an entry and its arguments ask to look for. `BadArgs` if an argument isn't known, whatever the entry
+// is; `BadPattern` if `regex` doesn't take the entry.
 #[tactic(auto, unfolding(crate::specs::Languages::grep_of))]
 fn grep_of(alloc: Global, entry: &ConfigText, args: &[ConfigText]) -> Result<Grep, ConfigKind>
     ensures { GivesValue (λ grep. grep) result (grep_of entry.now args.now) }

@@ -1,14 +1,20 @@
-//! Reads the bytes of a `.pre-commit-config.yaml` to a `Config`, or says by a `ConfigFault` why they are none.
+//! Reads the bytes of a `.pre-commit-config.yaml` as a `Config`, or says by a `ConfigFault` why they aren't
+//! one.
 //!
-//! `Config` holds `Hook`s, whose texts are `ConfigText`s, whose patterns are `SharedPattern`s, whose tags are `TagNames`,
-//! whose stages are `Stages` and whose language is a `Language`, with the pattern of `pygrep` and the `CommandWords` of
-//! `system` and `script` in it. All patterns are built, and all entries are cut into words. `ConfigWithNode` has the text's
-//! `Node` beside it. A `ConfigFault` is a `ConfigKind` and its place. `top_keys`, `repository_keys` and `hook_keys` give the keys
-//! that are known, each with its `KeyKind`.
+//! `Config` holds `Hook`s. Their texts are `ConfigText`s, their patterns `SharedPattern`s, their tags
+//! `TagNames` and their stages `Stages`. Their language is a `Language`, which holds the pattern of `pygrep`,
+//! or the `CommandWords` of `system` and `script`. All patterns are built, and all entries are cut into
+//! words. `ConfigWithNode` also holds the text's `Node`. A `ConfigFault` is a `ConfigKind` and its place.
+//! `top_keys`, `repository_keys` and `hook_keys` give the keys that are known, each with its `KeyKind`.
 //!
-//! The contracts cite `configuration_of` of `specs/Configuration.antt`, which says which `Config` a text's bytes describe,
-//! if any; `Gives`; `HasShortTexts` of `specs/ShortTexts.antt`; `first_word` of `specs/CommandWords.antt`; the words of `specs/KnownKeys.antt` and `specs/Stages.antt`; the limits of `specs/Limits.antt`; and
-//! `number_of` and `name_of` of `specs/Refusals.antt`.
+//! The contracts cite these definitions:
+//!
+//! - `configuration_of` of `specs/Configuration.antt`, which says which `Config` a text's bytes describe, if
+//!   any, and `Gives`;
+//! - `HasShortTexts` of `specs/ShortTexts.antt`, and the limits of `specs/Limits.antt`;
+//! - `first_word` of `specs/CommandWords.antt`, and the words of `specs/KnownKeys.antt` and
+//!   `specs/Stages.antt`;
+//! - `number_of` and `name_of` of `specs/Refusals.antt`.
 #![tactic(auto)]
 
 mod command_words;

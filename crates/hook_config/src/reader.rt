@@ -1,4 +1,4 @@
-//! The configuration of a text, from its bytes on.
+//! Reads the configuration from the bytes of a text.
 
 ghost use Rattle.std.specs.Prelude.{◌≡◌, Some, IfErr, IfOk};
 ghost use Rattle.yaml_lines.specs.View.{view};
@@ -22,22 +22,30 @@ use hook_base::Items;
 use std::alloc::Global;
 use yaml_profile::{Node, read};
 
-/// The configuration that the bytes of a `.pre-commit-config.yaml` describe.
+/// The configuration that the bytes of a `.pre-commit-config.yaml` describe (pre-commit.com, "Adding
+/// pre-commit plugins to your project").
 ///
-/// A refusal is one of `ConfigKind`: `Yaml` where the bytes are no YAML of this profile; `Shape` where the text, or a
-/// repository or a hook, is no table, or a known key's value is of another kind; `MissingKey` where a required key isn't
-/// there; `BadStage`, `BadLanguage` and `RemoteRepo` for a stage, a language or a repository that isn't known;
-/// `BadPattern` for a pattern, or an entry of `pygrep`, that `regex` doesn't take; `BadArgs` for an argument that `pygrep`
-/// doesn't know; `BadEntry` for an entry of `system` or `script` that can't be cut into words, has none, or whose first word
-/// is empty; `Unsupported` for a key that is served only where its value is empty; `TooMany` for more than `MOST_HOOKS`
-/// hooks; `OutOfMemory` where memory was refused. More bytes than a text may have are `Yaml` of `TooLarge` at 1. Which
-/// patterns are too big once they are built is for `regex` to say, so `BadPattern` may come for a text that describes a
-/// configuration.
+/// A refusal is one of `ConfigKind`:
 ///
-/// Of several faults the first in this order is told. At the top: the keys in the order of [`top_keys`](crate::top_keys), and
-/// then the repositories in the order of the text. In a repository: `repo`, `hooks`, and then the hooks in the order of the
-/// text. Of a hook: that there are too many; the keys in the order of [`hook_keys`](crate::hook_keys), and behind `args` with
-/// `pygrep` the arguments and then the entry's pattern, with `system` and `script` the entry's words.
+/// - `Yaml`: the bytes are no YAML of this profile. More bytes than a text may have are `Yaml` of `TooLarge`
+///   at 1;
+/// - `Shape`: the text, or a repository or a hook, is no table, or a known key's value is of another kind;
+/// - `MissingKey`: a required key isn't there;
+/// - `BadStage`, `BadLanguage`, `RemoteRepo`: a stage, a language or a repository isn't known;
+/// - `BadPattern`: `regex` doesn't take a pattern, or an entry of `pygrep`. `regex` decides which patterns
+///   are too big once they are built, so `BadPattern` may come for a text that describes a configuration;
+/// - `BadArgs`: an argument isn't one that `pygrep` knows;
+/// - `BadEntry`: an entry of `system` or `script` can't be cut into words, has none, or its first word is
+///   empty;
+/// - `Unsupported`: a key that is served only if its value is empty has another one;
+/// - `TooMany`: there are more than `MOST_HOOKS` hooks;
+/// - `OutOfMemory`: memory was refused.
+///
+/// Of several faults the first in this order is reported. At the top: the keys in the order of
+/// [`top_keys`](crate::top_keys), and then the repositories in the order of the text. In a repository:
+/// `repo`, `hooks`, and then the hooks in the order of the text. In a hook: that there are too many, and then
+/// the keys in the order of [`hook_keys`](crate::hook_keys). After `args` come the arguments and then the
+/// entry's pattern with `pygrep`, and the entry's words with `system` and `script`.
 #[tactic(auto, unfolding(crate::specs::Configuration::configuration_of))]
 pub fn read_config(alloc: Global, bytes: &[u8]) -> Result<Config, ConfigFault>
     ensures meant { Gives (λ config. config) result (configuration_of bytes.now) }
@@ -55,12 +63,13 @@ pub fn read_config(alloc: Global, bytes: &[u8]) -> Result<Config, ConfigFault>
 pub struct ConfigWithNode {
     /// The configuration.
     pub config: Config,
-    /// What the whole text is, with what the configuration passes over.
+    /// What the whole text is, including what the configuration passes over.
     pub node: Node,
 }
 
 /// The configuration that [`read_config`] gives, with the node that describes it. A refusal is the one that
-/// [`read_config`] gives. The node of a large text takes long to drop, so a program that ends next may keep it until then.
+/// [`read_config`] gives. The node of a large text takes long to drop, so a program that is about to end may
+/// keep it until then.
 #[tactic(auto, unfolding(crate::specs::Configuration::configuration_of))]
 pub fn read_config_with_node(alloc: Global, bytes: &[u8]) -> Result<ConfigWithNode, ConfigFault>
     ensures config { Gives (λ read. read.config) result (configuration_of bytes.now) }
@@ -104,7 +113,7 @@ fn config_by(
     config_with(alloc, rows, defaults, files, exclude, fail_fast)
 }
 
-// The configuration of a table's rows with what stands at the top.
+// The configuration of a table's rows, with these values of the keys at the top.
 fn config_with(
     alloc: Global,
     rows: &[(String, Node)],

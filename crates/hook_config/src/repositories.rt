@@ -17,7 +17,7 @@ use crate::limits::MOST_HOOKS;
 use std::alloc::Global;
 use yaml_profile::Node;
 
-/// The hooks of all repositories. Where its table doesn't say it, a hook has the defaults.
+/// The hooks of all repositories. A hook has the defaults for what its table doesn't say.
 #[tactic(auto, using(crate::proofs::HookLists::finding))]
 pub(crate) fn hooks_of_repositories(
     alloc: Global,
@@ -33,7 +33,7 @@ pub(crate) fn hooks_of_repositories(
     Ok(hooks)
 }
 
-// Adds the hooks of one repository. Another repository than `local` is `RemoteRepo`, whatever its hooks are.
+// Adds the hooks of one repository. A repository other than `local` is `RemoteRepo`, whatever its hooks are.
 fn add_repository(
     alloc: Global,
     repository: &Node,
@@ -70,7 +70,7 @@ fn add_hooks(
     Ok(())
 }
 
-// Adds the hook of one table, or answers `TooMany` where there are as many as there may be.
+// Adds the hook of one table, or answers `TooMany` if there are as many as there may be.
 fn add_hook(
     alloc: Global,
     table: &Node,

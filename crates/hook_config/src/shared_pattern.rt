@@ -11,7 +11,8 @@ use std::alloc::{AllocError, Global};
 use std::marker::Model;
 use std::rc::Rc;
 
-/// A pattern that is built once, however many hooks have it. Contracts see its text, of at most `MOST_TEXT_BYTES` bytes.
+/// A pattern that is built once, however many hooks have it. Contracts see its text, of at most
+/// `MOST_TEXT_BYTES` bytes.
 #[derive(Debug, Drop)]
 pub struct SharedPattern {
     pattern: Rc<Pattern>,
@@ -29,8 +30,8 @@ impl Model for SharedPattern {
 }
 
 impl SharedPattern {
-    /// Builds the pattern of the text. `BadPattern` where `regex` doesn't take the text, `OutOfMemory` where memory is
-    /// refused.
+    /// Builds the pattern of the text. `BadPattern` if `regex` doesn't take the text, `OutOfMemory` if memory
+    /// is refused.
     #[tactic(auto, unfolding(crate::specs::Patterns::pattern_of_text))]
     pub fn build(alloc: Global, text: &str) -> Result<Self, ConfigKind>
         requires { IsShort text.now }
@@ -53,7 +54,7 @@ impl SharedPattern {
     }
 }
 
-// The same pattern, which isn't built again. `AllocError` where it has too many owners to be counted.
+// The same pattern, which isn't built again. `AllocError` if it has too many owners to be counted.
 impl Clone for SharedPattern {
     ghost use Rattle.std.specs.Prelude.{◌≡◌};
 

@@ -1,10 +1,10 @@
-//! The stages of hooks, and sets of them. A new stage: its variant and its field here; its names in `STAGE_NAMES` and in
-//! `specs/Stages.antt`, where its case of `has_stage` and of `with_stage` stands too.
+//! The stages of hooks, and sets of them. A further stage needs its variant and its field here, its names in
+//! `STAGE_NAMES` and in `specs/Stages.antt`, and there its cases of `has_stage` and `with_stage`.
 
 ghost use Rattle.std.specs.Prelude.{◌≡◌};
 ghost use Rattle.hook_config.specs.Stages.{no_stages, all_stages, each_stage, with_stage, has_stage, stage_rows, stage_in, stage_of_word};
 
-/// When a hook is run: at the hook of Git of this name (githooks(5)), or by hand alone.
+/// When a hook is run: at the hook of Git with this name (githooks(5)), or only by hand.
 #[derive(Clone, Copy, Debug, PartialEq, Eq)]
 pub enum Stage {
     PreCommit,
@@ -17,11 +17,12 @@ pub enum Stage {
     PostMerge,
     PostRewrite,
     PreRebase,
-    /// Only where a run asks for it.
+    /// Only if a run asks for it.
     Manual,
 }
 
-// The names of the stages. `commit`, `push` and `merge-commit` are those that older configurations use.
+// The names of the stages. `commit`, `push` and `merge-commit` are those that older configurations use
+// (pre-commit.com, "Confining hooks to run at certain stages").
 const STAGE_NAMES: [(&str, Stage); 14] = [
     ("pre-commit", Stage::PreCommit),
     ("commit", Stage::PreCommit),
@@ -40,7 +41,7 @@ const STAGE_NAMES: [(&str, Stage); 14] = [
 ];
 
 impl Stage {
-    /// The stage that the word names, or nothing where it names none.
+    /// The stage that the word names, or nothing if it names none.
     #[tactic(auto, unfolding(crate::specs::Stages::stage_of_word))]
     pub fn of_word(word: &str) -> Option<Self>
         ensures { result ≡ stage_of_word word.now }
@@ -61,7 +62,7 @@ fn stage_in(rows: &[(&str, Stage)], word: &str) -> Option<Stage>
     None
 }
 
-/// A set of stages: each field says whether its stage is among them.
+/// A set of stages: each field says whether its stage is in the set.
 #[derive(Clone, Copy, Debug, PartialEq, Eq)]
 pub struct Stages {
     pub pre_commit: bool,
@@ -110,7 +111,7 @@ impl Stages {
         }
     }
 
-    /// These stages and this one.
+    /// These stages, and this one too.
     #[must_use]
     pub fn with(self, stage: Stage) -> Self
         ensures { result ≡ with_stage stage self }

@@ -12,8 +12,8 @@ use crate::kinds::{list_of, text_in};
 use crate::stage::{Stage, Stages};
 use yaml_profile::Node;
 
-/// The stages of a list, or the default where it is empty. An item that is no text is `Shape`, a text that names no
-/// stage `BadStage`.
+/// The stages of a list, or the default if it is empty. An item that is no text is `Shape`, a text that names
+/// no stage is `BadStage`.
 pub(crate) fn stages_of(node: &Node, default: Stages) -> Result<Stages, ConfigKind>
     ensures { GivesSurely (λ stages. stages) result (stages_of default (view node.now)) }
 {

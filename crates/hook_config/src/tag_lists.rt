@@ -32,7 +32,7 @@ fn tags_of_items(alloc: Global, items: &[Node]) -> Result<TagNames, ConfigKind>
     Ok(tags)
 }
 
-/// The tag that every file has, alone.
+/// The list of the one tag that every file has.
 pub(crate) fn only_file(alloc: Global) -> Result<TagNames, ConfigKind>
     ensures made { IfOk result (λ tags. tags ≡ file_word ∷ []) }
     ensures refused { IfErr result IsLeftOpen }

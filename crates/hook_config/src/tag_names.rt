@@ -8,8 +8,8 @@ use hook_base::Text;
 use std::alloc::{AllocError, Global};
 use std::marker::Model;
 
-/// The names of tags, in the order of the text, each of at most `MOST_TEXT_BYTES` bytes. Contracts see the list of their
-/// texts.
+/// The names of tags, in the order of the text, each of at most `MOST_TEXT_BYTES` bytes. Contracts see the
+/// list of their texts.
 #[derive(Debug, Drop)]
 pub struct TagNames {
     names: Vec<Text>,
@@ -36,7 +36,7 @@ impl TagNames {
         }
     }
 
-    /// Adds a tag behind the others. `AllocError` where memory is refused.
+    /// Adds a tag after the others. `AllocError` if memory is refused.
     pub(crate) fn push(&mut self, tag: ConfigText) -> Result<(), AllocError>
         ensures { IfOk result (λ _. self.new ≡ self.old ++ tag ∷ []) }
     {

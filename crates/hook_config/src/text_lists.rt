@@ -1,4 +1,4 @@
-//! Lists of texts, and values that are served where they are empty alone.
+//! Lists of texts, and values that are served only if they are empty.
 
 ghost use Rattle.std.specs.Prelude.{◌≡◌};
 ghost use Rattle.yaml_lines.specs.View.{view};
@@ -31,7 +31,7 @@ fn texts_of_items(alloc: Global, items: &[Node]) -> Result<Vec<ConfigText>, Conf
     Ok(texts)
 }
 
-/// Takes the empty text. Another text is `Unsupported`.
+/// The empty text. Another text is `Unsupported`.
 pub(crate) fn empty_text_of(alloc: Global, node: &Node) -> Result<ConfigText, ConfigKind>
     ensures { GivesSurely (λ owned. owned) result (empty_text_of (view node.now)) }
 {
@@ -42,7 +42,7 @@ pub(crate) fn empty_text_of(alloc: Global, node: &Node) -> Result<ConfigText, Co
     }
 }
 
-/// Takes the empty list. A list of texts is `Unsupported`.
+/// The empty list. Another list of texts is `Unsupported`.
 #[tactic(auto, using(crate::proofs::TextLists::refused_texts))]
 pub(crate) fn empty_texts_of(alloc: Global, node: &Node) -> Result<Items<ConfigText>, ConfigKind>
     ensures { GivesSurely (λ texts. texts) result (empty_texts_of (view node.now)) }
@@ -55,7 +55,7 @@ pub(crate) fn empty_texts_of(alloc: Global, node: &Node) -> Result<Items<ConfigT
     }
 }
 
-// Why the items of a list aren't taken.
+// Why these items, of which there is at least one, aren't taken.
 fn kind_of_items(items: &[Node]) -> ConfigKind {
     if items.iter().all(|item| text_in(item).is_ok()) {
         ConfigKind::Unsupported

@@ -98,14 +98,14 @@ fn add_unless_known(
     Ok(())
 }
 
-// A table's rows, none where the node is no table.
+// A table's rows, or none if the node is no table.
 fn rows_in<'a>(node: &'a Node) -> &'a [(String, Node)]
     ensures { rows_of result.now ≡ rows_in (view node.now) }
 {
     table_of(node).unwrap_or(&[])
 }
 
-// A list's items, none where the node is no list.
+// A list's items, or none if the node is no list.
 fn items_in<'a>(node: &'a Node) -> &'a [Node]
     ensures { meanings_of_nodes result.now ≡ items_in (view node.now) }
 {

@@ -12,7 +12,8 @@ use Rattle.hook_run.specs.RunOuts.{IsRunOut}
 use Rattle.hook_run.specs.SameRuns.{outcomes_of, without_marks}
 use Rattle.hook_run.specs.OneRunLemmas.{next-of}
 
--- one part after another, as far as they have the same words and seen files, they have the same outcome
+-- The parts of two lists, taken in order, have the same outcome as long as they have the same words and seen
+-- files.
 abbrev pub Agree : List Part → List Part → Type 0
 Agree [] more = Unit {0}
 Agree (part ∷ rest) [] = Unit {0}

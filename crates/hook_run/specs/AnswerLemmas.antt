@@ -1,4 +1,5 @@
--- Lemmas on how parts come to their outcomes: parts behind one another, what is told, what is remembered, and the counts.
+-- Lemmas on how parts get their outcomes: parts one after another, what is reported, what is cached, and the
+-- counts.
 use Rattle.std.specs.Prelude.{◌≡◌, ◌+◌, ◌⊎◌, ℕ, Bool, true, false, MatchBool, List, [], ◌∷◌, ◌++◌, Option, None, Some, refl}
 use Rattle.std.proofs.Common.{ap, sym, ◌∙◌, inl, inr, subst, arith, append_assoc, length-append}
 use Rattle.std.proofs.lemmas.List.{append-nil}
@@ -23,7 +24,7 @@ use Rattle.hook_run.specs.Starts.{AfterOutcome, IsReplayed, IsStarted, Starts, S
 
 -- ---- one part
 
--- it is started, or has the answer that was found
+-- the part is started, or has the answer that was found
 pub started-or-found : (reuse : Reuse) (found : Option Answer) (before after : Contents) (part : Part) (started : List Part) → StartsFor reuse found before after part started
     → (IsStarted found before after part × (started ≡ part ∷ [])) ⊎ ((answer : Answer) × (found ≡ Some answer) × IsReplayed answer before after part × (started ≡ []))
 started-or-found reuse None before after part started starts = inl starts
@@ -34,7 +35,7 @@ started-or-found reuse (Some answer) before after part started starts =
       | false ↦ λ one. inl one
     ]) starts
 
--- ---- parts behind one another
+-- ---- parts one after another
 
 pub faults-append : (parts more : List Part) → faults_of (parts ++ more) ≡ faults_of parts + faults_of more
 faults-append [] more = omega arith
@@ -91,7 +92,7 @@ module _ (tells : List (List ℕ) → List File → Outcome → Type 0) (reuse :
     counted = counted-then first second third one.started two.started one.counted two.counted;
   }
 
-  -- parts that are answered are so as far as a run came
+  -- parts that are answered are also answered so far, as in a run that is stopped after them
   pub so-far : (from to : Moment) (parts : List Part) → AreAnswered tells reuse from to parts → AreAnsweredSoFar tells reuse from to parts
   so-far from to parts answered = record {
     done = parts;
@@ -112,12 +113,12 @@ module _ (tells : List (List ℕ) → List File → Outcome → Type 0) (reuse :
     stopped = two.stopped;
   }
 
-  -- the last part is that of what more came
+  -- a stopped run that goes on after whole parts has the last part of its rest
   pub so-far-last : (first second third : Moment) (parts more : List Part) (one : AreAnswered tells reuse first second parts) (two : AreAnsweredSoFar tells reuse second third more) → (so-far-append first second third parts more one two).last ≡ two.last
   unfolding so-far-append
   so-far-last first second third parts more one two = refl
 
--- ---- under relations that tell the same
+-- ---- under relations that report the same
 
 module _ (tells others : List (List ℕ) → List File → Outcome → Type 0) (same : SameTells tells others) where
   pub told-back_to : (parts : List Part) → AllTold others parts → AllTold tells parts
@@ -166,7 +167,7 @@ module _ (tells others : List (List ℕ) → List File → Outcome → Type 0) (
     | inr told ↦ inr (record { told = same.added words seen (Done answer) told.told; keeps = told.keeps })
   ]
 
--- ---- what is remembered and told
+-- ---- what is cached and reported
 
 module _ (tells : List (List ℕ) → List File → Outcome → Type 0) where
   pub adds-same : (before after : Contents) → after ≡ before → AddsTold tells before after

@@ -1,4 +1,4 @@
--- How the parts of a run come to their outcomes: from children, which tell and count them, or from what is remembered.
+-- How the parts of a run get their outcomes: from children, which count what they report, or from the cache.
 use Rattle.std.specs.Prelude.{◌≡◌, ◌⊎◌, ◌+◌, ◌-◌, ◌^◌, ℕ, min, List, [], ◌∷◌, ◌++◌, length, Option}
 use Rattle.hook_base.specs.declared.file.File.{File}
 use Rattle.child_port.specs.declared.answer.Answer.{Answer}
@@ -11,27 +11,28 @@ use Rattle.hook_run.specs.Parts.{AllTold, Part, faults_of}
 use Rattle.hook_run.specs.Reuses.{NeedsStart}
 use Rattle.hook_run.specs.Starts.{Starts}
 
--- the children told these parts between two moments
+-- the children reported the outcomes of these parts between two moments
 pub record IsCounted (from to : Moment) (started : List Part) : Type 0 where
   pub called : to.calls ≡ from.calls + length started
   pub faulted : to.faults ≡ from.faults + faults_of started
 
--- Each of the parts has its outcome. Those that were started are all that the children told and counted, and what is
--- remembered is what `Starts` says.
+-- Each of the parts has its outcome. The children reported and counted the parts in `started`, and nothing
+-- else. What is cached changes as `Starts` says.
 pub record AreAnswered (tells : List (List ℕ) → List File → Outcome → Type 0) (reuse : Reuse) (from to : Moment) (parts : List Part) : Type 0 where
   pub started : List Part
   pub starts : Starts reuse from.remembered to.remembered parts started
   pub told : AllTold tells started
   pub counted : IsCounted from to started
 
--- So many of the parts were answered from what is remembered, and the others were started. They are counted up to 2^64 - 1.
+-- This many parts used a cached result, and the others were started. The number is capped at 2^64 - 1.
 pub record AreReused (parts started : List Part) (reused : ℕ) : Type 0 where
   pub unstarted : ℕ
   pub others : unstarted + length started ≡ length parts
   pub counted : reused ≡ min unstarted (2 ^ 64 - 1)
 
--- A run is stopped at a part that needs a child: it was looked up, and what is remembered for it, if anything, doesn't serve. No
--- child told it, or one did and its answer isn't put; `last` has the part then.
+-- A run is stopped at a part that needs a child. It was looked up, and the run may not use the cached result,
+-- if there is one. Either no child reported it, and `last` is empty; or one did, its answer isn't put, and
+-- `last` has the part.
 pub record IsCutOff (tells : List (List ℕ) → List File → Outcome → Type 0) (reuse : Reuse) (from to : Moment) (part : Part) (last : List Part) : Type 0 where
   pub found : Option Answer
   pub finds : Finds part.words part.seen from.remembered found
@@ -41,7 +42,7 @@ pub record IsCutOff (tells : List (List ℕ) → List File → Outcome → Type 
   pub told : AllTold tells last
   pub counted : IsCounted from to last
 
--- The same of parts behind which a run may be stopped: behind a whole part, or at one that needs a child.
+-- The same of parts with which a run may be stopped: after a whole part, or at one that needs a child.
 pub record AreAnsweredSoFar (tells : List (List ℕ) → List File → Outcome → Type 0) (reuse : Reuse) (from to : Moment) (parts : List Part) : Type 0 where
   pub done : List Part
   pub last : List Part

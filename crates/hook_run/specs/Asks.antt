@@ -8,11 +8,11 @@ use Rattle.hook_config.specs.Stages.{has_stage}
 use Rattle.report_text.specs.Report.{is_empty}
 use Rattle.hook_run.specs.declared.run_ask.RunAsk.{RunAsk}
 
--- the name is the hook's id, or its alias where it has one
+-- the name is the hook's id, or its alias if it has one
 abbrev pub is_named : List ℕ → Hook → Bool
 is_named name hook = bytes_eq name hook.id || (not (is_empty hook.alias) && bytes_eq name hook.alias)
 
--- the run is asked for all hooks, or for this one by its name
+-- the run is asked for all hooks, or for this one by its name (`pre_commit.commands.run.run`)
 abbrev pub is_asked_for : Option (List ℕ) → Hook → Bool
 is_asked_for None hook = true
 is_asked_for (Some name) hook = is_named name hook
@@ -29,7 +29,7 @@ hooks_of_run config ask = filter (is_in_run ask) config.hooks
 abbrev pub names_no_hook : Config → RunAsk → Bool
 names_no_hook config ask = is_some ask.only && not (list_any (is_in_run ask) config.hooks)
 
--- one of the names that are to be skipped is the hook's
+-- one of the names that are to be skipped is the hook's (`pre_commit.commands.run._get_skips`)
 abbrev pub is_skipped : List (List ℕ) → Hook → Bool
 is_skipped skip hook = list_any (λ name. is_named name hook) skip
 

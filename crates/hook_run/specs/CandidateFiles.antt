@@ -1,4 +1,4 @@
--- The files of a tree that hooks may get. Serves private functions alone.
+-- The files of a tree that hooks may get. Used only by private functions.
 use Rattle.std.specs.Prelude.{ℕ, List, filter}
 use Rattle.hook_base.specs.declared.file.File.{File}
 use Rattle.path_select.specs.Candidates.{is_candidate}

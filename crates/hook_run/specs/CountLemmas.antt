@@ -1,4 +1,4 @@
--- Lemmas on the counts of the children over the parts that they told.
+-- Lemmas on the counts of the children over the parts that they reported.
 use Rattle.std.specs.Prelude.{◌+◌, ◌≤◌, List, [], ◌∷◌, length}
 use Rattle.std.proofs.Common.{arith}
 use Rattle.child_port.specs.Outcomes.{faults_in}

@@ -1,4 +1,4 @@
--- What one hook of a run ends with, on the tree that the hooks before it left, and its parts: each is a child of it.
+-- How one hook of a run ends on the tree that the hooks before it left, and its parts: each is a child of it.
 use Rattle.std.specs.Prelude.{◌≡◌, ℕ, Bool, ◌&&◌, true, false, not, MatchBool, MatchOption, if◌then◌else◌, List, [], ◌∷◌, ◌++◌, map}
 use Rattle.std.specs.Str.{bytes_eq}
 use Rattle.arg_partition.specs.declared.cut.Cut.{Cut}
@@ -25,7 +25,7 @@ use Rattle.hook_run.specs.Limits.{most_command_bytes, most_names}
 use Rattle.hook_run.specs.Parts.{ArePartsOf, Part}
 use Rattle.hook_run.specs.PartsEnding.{ending_of_parts}
 
--- what decides which files the hook gets
+-- what decides which files the hook gets (`pre_commit.commands.run.Classifier.filenames_for_hook`)
 abbrev pub rules_of : Config → Hook → RuleTexts
 rules_of config hook = record {
   top_files = config.files;
@@ -37,11 +37,11 @@ rules_of config hook = record {
   exclude_types = hook.exclude_types;
 }
 
--- the names that a hook is handed
+-- the names that a hook gets
 abbrev pub names_for : Hook → List (List ℕ) → List (List ℕ)
 names_for hook files = if hook.pass_filenames then files else []
 
--- the ending that an answer without faults or modified files is
+-- the ending of an answer without faults or modified files
 abbrev pub ending_of_answer : Answer → Ending
 ending_of_answer answer = Ran answer.status [] false answer.output
 
@@ -49,12 +49,13 @@ ending_of_answer answer = Ran answer.status [] false answer.output
 abbrev pub AnswersItself : Answer → List Part → Ending → Type 0
 AnswersItself answer parts ending = (parts ≡ []) × (ending ≡ ending_of_answer answer)
 
--- a child sees all files of the tree where its hook isn't handed their names
+-- a child sees all files of the tree if its hook doesn't get their names
 abbrev pub sees_whole : Hook → Bool
 sees_whole hook = not hook.pass_filenames
 
--- further files that the hook's children see, whatever their words name: those of the tree in whose path the pattern is found,
--- by default none. Neither the patterns of the whole configuration nor tags nor candidates keep a file off.
+-- Further files that the hook's children see, whatever their words name: the files of the tree in whose path
+-- the pattern `x_reads` is found, by default none. No candidates, tags or patterns of the whole configuration
+-- exclude a file.
 abbrev pub further_of : Hook → List File → List (List ℕ)
 further_of hook tree = if bytes_eq hook.x_reads no_path then [] else found_in hook.x_reads tree
 
@@ -72,11 +73,12 @@ pub record AreItsParts (hook : Hook) (words names : List (List ℕ)) (tree : Lis
   pub cut : AreParts (fits words most_command_bytes) (most_names_of hook) names cuts
   pub run : ArePartsOf (sees_whole hook) (further_of hook) (commands_of words names cuts) tree parts
 
--- the hook starts no child, since a name doesn't fit with the words alone, or without names the words don't
+-- the hook starts no child, since a name doesn't fit even with the words alone, or there are no names and the
+-- words don't fit
 abbrev pub ending_of_misfit : Ending
 ending_of_misfit = Ran 0 (Misfit ∷ []) false []
 
--- a hook that runs these words, with these names behind them, on the tree, ends so
+-- a hook that runs these words, followed by these names, on the tree, ends so
 abbrev pub IsCommandRun : Hook → List (List ℕ) → List (List ℕ) → List File → List Part → Ending → Type 0
 IsCommandRun hook words names tree parts ending =
     MatchOption (too_long_at (fits words most_command_bytes) names)
@@ -90,14 +92,15 @@ IsLanguageRun (Pygrep search) hook names tree parts ending = AnswersItself (grep
 IsLanguageRun (System words) hook names tree parts ending = IsCommandRun hook (command_of false words tree) names tree parts ending
 IsLanguageRun (Script words) hook names tree parts ending = IsCommandRun hook (command_of true words tree) names tree parts ending
 
--- a hook with these files ends so: without any it is skipped, unless it always runs
+-- a hook with these files ends so: without any it is skipped, unless it has `always_run`
+-- (`pre_commit.commands.run._run_single_hook`)
 abbrev pub IsHookRun : Hook → List (List ℕ) → List File → List Part → Ending → Type 0
 IsHookRun hook files tree parts ending =
     MatchBool (is_empty files && not hook.always_run)
     ((parts ≡ []) × (ending ≡ SkippedNoFiles))
     (IsLanguageRun hook.language hook (names_for hook files) tree parts ending)
 
--- a hook that is to be skipped is, whatever is selected for it
+-- a hook that is to be skipped is skipped, whatever would be selected for it
 abbrev pub IsEnding : Config → RunAsk → List File → Hook → List Part → Ending → Type 0
 IsEnding config ask tree hook parts ending =
     MatchBool (is_skipped ask.skip hook)

@@ -1,4 +1,4 @@
--- The limits of a command. Belongs to the module `limits`; its constants are proved to be these by `laws`.
+-- The limits of a command. They belong to the module `limits`; `laws` proves that its constants are these.
 use Rattle.std.specs.Prelude.{ℕ}
 
 -- the most bytes of a command: those of its words and names, and one between neighbours

@@ -1,8 +1,8 @@
--- What a run changes beside the files of its tree, at one moment.
+-- What a run changes apart from the files of its tree, at one moment.
 use Rattle.std.specs.Prelude.{ℕ}
 use Rattle.result_book.specs.Contents.{Contents}
 
--- how many outcomes the children have told, how many of these were faults, and what is remembered of their answers
+-- how many outcomes the children have reported, how many of them were faults, and what is cached
 pub record Moment : Type 0 where
   pub calls : ℕ
   pub faults : ℕ

@@ -1,4 +1,5 @@
--- Lemmas on children that give one answer: a run over them without faults is the only one, and none of its hooks is unsteady.
+-- Lemmas on children that give one answer: a run over them without faults is the only one, and has no
+-- unsteady hook.
 use Rattle.std.specs.Prelude.{◌≡◌, ◌≢◌, ◌↔◌, ◌+◌, ℕ, Bool, true, false, IsTrue, All, if◌then◌else◌, List, [], ◌∷◌, ◌++◌, length, Option, None, Some, refl}
 use Rattle.std.proofs.Common.{ap, ap₂, sym, ◌∙◌, inl, inr, subst, arith}
 use Rattle.std.proofs.lemmas.List.{append-nil}
@@ -47,7 +48,7 @@ no-ids (hook ∷ hooks) (parts ∷ trace) all =
     (ap (λ (unsteady : Bool). if unsteady then hook.id ∷ [] else []) (list_any_none (λ (part : Part). part.unsteady) parts split.0))
     (no-ids hooks trace split.1)
 
--- a run of which no part is marked has no unsteady hook
+-- a run without a marked part has no unsteady hook
 pub unmarked-steady : (config : Config) (ask : RunAsk) (tree : List File) (trace : List (List Part)) (out : RunOut) → IsRunOut config ask tree trace out → All (λ part. part.unsteady ≡ false) (all_parts trace) → out.unsteady ≡ []
 unmarked-steady config ask tree trace out run all = ap (λ (o : RunOut). o.unsteady) run.is ∙ no-ids (hooks_of_run config ask) trace all
 
@@ -61,7 +62,7 @@ module _ (tells : List (List ℕ) → List File → Outcome → Type 0) (alone :
   same-outcome words seen (Done answer) (Failed fault) told too none also = absurd (omega arith)
   same-outcome words seen (Failed fault) other told too none also = absurd (omega arith)
 
-  -- the other part may have this outcome too, where it has the same words and seen files
+  -- the first part may have the outcome of the other one if both have the same words and seen files
   told-here : (part other : Part) → part.words ≡ other.words → part.seen ≡ other.seen → tells other.words other.seen other.outcome → tells part.words part.seen other.outcome
   told-here part other words seen told =
       subst (λ (w : List (List ℕ)). tells w part.seen other.outcome) (sym words) (subst (λ (s : List File). tells other.words s other.outcome) (sym seen) told)
@@ -74,7 +75,7 @@ module _ (tells : List (List ℕ) → List File → Outcome → Type 0) (alone :
     told-agree parts others told.1 too.1 (omega arith) (omega arith),
   )
 
-  -- two runs of one configuration that are asked the same on one tree, in neither of which is a fault, are the same
+  -- two runs of one configuration, asked the same on one tree, are the same if neither has a fault
   pub one-run : (config : Config) (ask : RunAsk) (tree : List File) (trace others : List (List Part)) (first second : RunOut) → IsFaultless tells config ask tree trace first → IsFaultless tells config ask tree others second → AreSameRuns trace others first second
   one-run config ask tree trace others first second one two =
       same-where-agree config ask tree trace others first second one.run two.run
@@ -100,7 +101,7 @@ module _ (tells : List (List ℕ) → List File → Outcome → Type 0) (alone :
     | inr replayed ↦ replayed.2.steady
   ]
 
-  -- what is remembered behind one part was told too
+  -- what is cached after one part was reported too
   told-behind : (reuse : Reuse) (before after : Contents) (part : Part) (started : List Part) → IsTold tells before → StartsOne reuse before after part started → AllTold tells started → IsTold tells after
   told-behind reuse before after part started book one told =
       let starts : Starts reuse before after (part ∷ []) started = record {
@@ -125,7 +126,7 @@ module _ (tells : List (List ℕ) → List File → Outcome → Type 0) (alone :
       (starts-unmarked reuse starts.between after parts starts.others (told-behind reuse before starts.between part starts.first book starts.one front) starts.more
       (told-back tells starts.first starts.others all))
 
-  -- where each remembered answer was told, no part has another answer than the remembered one
+  -- if each cached result was reported, no part has another answer than the cached one
   pub answered-unmarked : (reuse : Reuse) (from to : Moment) (parts : List Part) → IsTold tells from.remembered → AreAnswered tells reuse from to parts → All (λ part. part.unsteady ≡ false) parts
   answered-unmarked reuse from to parts book answered = starts-unmarked reuse from.remembered to.remembered parts answered.started book answered.starts answered.told
 

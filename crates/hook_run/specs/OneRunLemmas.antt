@@ -1,4 +1,4 @@
--- The outcomes decide all else of a run.
+-- The outcomes decide everything else of a run.
 use Rattle.std.proofs.Common.{◌≡◌, ◌∙◌, ap, ap₂, sym, subst, refl, ℕ, Bool, true, false, List, [], ◌∷◌, ◌++◌, map, max, Option, None, Some}
 use Rattle.std.proofs.lemmas.List.{map-append}
 use Rattle.std.specs.Prelude.{MatchBool, MatchOption, not, ◌&&◌}
@@ -85,8 +85,8 @@ ending-unmarked tree parts = same-ends tree _ _ _ _ _ _ _ _ (status-unmarked par
 same-ending : (tree : List File) (parts others : List Part) → Alike parts others → ending_of_parts tree parts ≡ ending_of_parts tree others
 same-ending tree parts others alike = ending-unmarked tree parts ∙ ap (ending_of_parts tree) alike ∙ sym (ending-unmarked tree others)
 
--- the parts have the same words, seen files and outcomes up to the first with another outcome, which has the same words and
--- seen files; P holds where there is none
+-- The parts have the same words, seen files and outcomes up to the first with another outcome. Its words and
+-- seen files are the same too. P holds if there is no such part.
 abbrev Apart : Type 0 → List Part → List Part → Type 0
 Apart P [] [] = P
 Apart P [] (other ∷ others) = ⊥
@@ -245,7 +245,7 @@ same-trace (parts ∷ trace) (other ∷ others) alike same =
     let front = same-front parts other (all_parts trace) (all_parts others) (same-head _ _ _ _ alike) same in
     ap₂ (λ (p : List Part) (t : List (List Part)). p ∷ t) front.0 (same-trace trace others (same-tail _ _ _ _ alike) front.1)
 
--- two runs that are alike give the same, and all the same where their marks are too
+-- two runs that are alike give the same, and the ids of unsteady hooks too if their marks are the same
 abbrev Given : RunOut → RunOut → List (List Part) → List (List Part) → Type 0
 Given first second trace others = GiveSame first second × (all_parts trace ≡ all_parts others → first ≡ second)
 
@@ -297,9 +297,9 @@ next-of config ask tree trace others first second front begun rest more one two 
     (subst (λ (q : List Part). Apart P (front ++ rest) q) behind (subst (λ (p : List Part). Apart P p (all_parts others)) before apart)) same in
     (next.0, next-from first second trace others rest more next.1)
 
--- ---- the whole of what is given
+-- ---- all that is given
 
--- where the parts are the same to the end, P holds
+-- if the parts are the same to the end, P holds
 to-the-end : (P : Type 0) (parts others : List Part) → Apart P parts others → parts ≡ others → P
 to-the-end P [] [] apart same = apart
 to-the-end P [] (other ∷ others) apart same = absurd apart

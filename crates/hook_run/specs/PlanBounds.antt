@@ -1,15 +1,15 @@
--- How many parts may be left of a plan at most. Each outcome that is told to it makes them fewer, so that each plan ends.
+-- The most parts that may be left of a plan. Each outcome makes them fewer, so each plan ends.
 use Rattle.std.specs.Prelude.{ℕ, ◌+◌, List, [], ◌∷◌, length, Option, None, Some}
 use Rattle.hook_base.specs.declared.file.File.{File}
 use Rattle.hook_config.specs.declared.configuration.Hook.{Hook}
 use Rattle.hook_run.specs.Plans.{AtPart, Plan}
 
--- the parts that are left of a hook of which one waits
+-- how many parts are left of the hook that waits, if there is one
 abbrev pub parts_at : Option AtPart → ℕ
 parts_at None = 0
 parts_at (Some at) = 1 + length at.behind
 
--- a hook has one part for each file of the tree at most, or one without names
+-- a hook has at most one part for each file of the tree, or one without names
 abbrev pub most_of_hooks : List Hook → List File → ℕ
 most_of_hooks [] tree = 0
 most_of_hooks (hook ∷ hooks) tree = 1 + length tree + most_of_hooks hooks tree

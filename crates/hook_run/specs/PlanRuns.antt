@@ -1,4 +1,4 @@
--- A plan that children and remembered answers complete. Serves private functions alone.
+-- A plan that children and cached results complete. Used only by private functions.
 use Rattle.std.specs.Prelude.{◌≡◌, ◌≢◌, ◌⊎◌, ◌-◌, ◌^◌, ℕ, Bool, if◌then◌else◌, List, [], ◌∷◌, ◌++◌, Option}
 use Rattle.hook_base.specs.declared.file.File.{File}
 use Rattle.child_port.specs.declared.answer.Answer.{Answer}
@@ -15,19 +15,19 @@ use Rattle.hook_run.specs.Plans.{CanComplete, Completes, Plan, part_with, seen_o
 use Rattle.hook_run.specs.Reuses.{LacksServing}
 use Rattle.hook_run.specs.Starts.{IsStarted}
 
--- the part that the plan needs, with what came of it
+-- the part that the plan needs, with its outcome
 abbrev pub part_of : Plan → PartOutcome → Part
 part_of plan came = part_with plan came.outcome came.unsteady
 
 -- ---- a part for which a child is started
 
--- a child told the part, which is counted, and its answer is put
+-- a child reported the outcome of the part, which is counted, and its answer is put
 pub record IsPartStarted (tells : List (List ℕ) → List File → Outcome → Type 0) (found : Option Answer) (from to : Moment) (part : Part) : Type 0 where
   pub told : tells part.words part.seen part.outcome
   pub counted : IsCounted from to (part ∷ [])
   pub started : IsStarted found from.remembered to.remembered part
 
--- no child told the part, or one did and its answer isn't put
+-- no child reported the part, or one did and its answer isn't put
 pub record IsPartUnput (tells : List (List ℕ) → List File → Outcome → Type 0) (from to : Moment) (plan : Plan) (refusal : RunRefusal) : Type 0 where
   pub last : List Part
   pub outcome : Outcome
@@ -42,7 +42,7 @@ pub record IsPartUnput (tells : List (List ℕ) → List File → Outcome → Ty
 
 -- ---- any part
 
--- how many parts it is that were answered from what is remembered: one, or none
+-- how many parts used a cached result: one or none
 abbrev pub one_if : Bool → ℕ
 one_if reused = if reused then 1 else 0
 
@@ -64,13 +64,13 @@ pub record IsPlanRun (tells : List (List ℕ) → List File → Outcome → Type
   pub reused : AreReused parts answered.started ran.reused
   pub completes : Completes plan parts ran.out
 
--- a further part may complete the plan behind these, and it needs a child
+-- a further part may come after these in the plan, and it needs a child
 pub record NeedsFurther (reuse : Reuse) (at : Moment) (plan : Plan) (front : List Part) : Type 0 where
   pub part : Part
   pub begins : CanComplete plan (front ++ part ∷ [])
   pub lacks : LacksServing reuse part.words part.seen at.remembered
 
--- the plan was stopped behind parts: those that complete it begin with them
+-- the plan was stopped after these parts, with which those that complete it begin
 pub record IsPlanStopped (tells : List (List ℕ) → List File → Outcome → Type 0) (reuse : Reuse) (from to : Moment) (plan : Plan) (refusal : RunRefusal) : Type 0 where
   pub parts : List Part
   pub answered : AreAnsweredSoFar tells reuse from to parts

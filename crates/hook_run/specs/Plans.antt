@@ -1,5 +1,5 @@
--- A plan of a run: where it stands, what it needs, and what completes it. What is told of the hook that it stands at is
--- gathered, so that no outcome is kept.
+-- A plan of a run: how far it is, what it needs, and what completes it. The outcomes of the hook that waits
+-- are gathered, so none of them is kept.
 use Rattle.std.specs.Prelude.{◌≡◌, ℕ, Bool, false, ◌||◌, max, if◌then◌else◌, List, [], ◌∷◌, ◌++◌, Option, None, Some}
 use Rattle.hook_base.specs.declared.file.File.{File}
 use Rattle.child_port.specs.Seen.{seen_of}
@@ -23,7 +23,7 @@ use Rattle.hook_run.specs.StageRun.{IsRun, is_last}
 
 -- ---- between two hooks
 
--- a run of these hooks goes on so, with these parts, and gives this in the end
+-- a run goes on with these hooks and parts, and gives this in the end
 pub record GoesOn (config : Config) (ask : RunAsk) (done : Progress) (hooks : List Hook) (parts : List Part) (out : RunOut) : Type 0 where
   pub trace : List (List Part)
   pub results : List HookResult
@@ -35,7 +35,7 @@ pub record GoesOn (config : Config) (ask : RunAsk) (done : Progress) (hooks : Li
 abbrev pub result_of : Hook → Ending → HookResult
 result_of hook ending = record { name = hook.name; id = hook.id; verbose = hook.verbose; ending = ending }
 
--- the hooks that are run after this one, of those behind it
+-- the hooks that are run after this one, of those that follow it (`pre_commit.commands.run._run_hooks`)
 abbrev pub hooks_after : Config → Hook → Ending → List Hook → List Hook
 hooks_after config hook ending hooks = if is_last config hook ending then [] else hooks
 
@@ -63,7 +63,7 @@ ending_of_gathered all before after = Ran all.status all.faults (is_modified bef
 abbrev pub id_of_gathered : Hook → Gathered → List (List ℕ)
 id_of_gathered hook all = if all.unsteady then hook.id ∷ [] else []
 
--- the run behind a hook that ends so
+-- the progress of the run after a hook that ends so
 abbrev pub progress_with : Progress → Hook → Ending → List (List ℕ) → List File → Progress
 progress_with done hook ending unsteady tree = record {
   results = done.results ++ result_of hook ending ∷ [];
@@ -71,15 +71,15 @@ progress_with done hook ending unsteady tree = record {
   tree = tree;
 }
 
--- a hook that has begun: the tree on which it did, the commands of the parts that are left, and what the parts before them
--- came to
+-- a hook that has begun: the tree on which it began, the commands of the parts that are left, and what the
+-- parts before them gathered
 pub record AtHook : Type 0 where
   pub hook : Hook
   pub before : List File
   pub commands : List (List (List ℕ))
   pub gathered : Gathered
 
--- a hook of which a part waits for its outcome: the command of that part, and those of the parts behind it
+-- a hook with a part that waits for its outcome: the command of that part, and those of the parts after it
 pub record AtPart : Type 0 where
   pub hook : Hook
   pub before : List File
@@ -87,11 +87,11 @@ pub record AtPart : Type 0 where
   pub behind : List (List (List ℕ))
   pub gathered : Gathered
 
--- the hook, of which that part is left too
+-- the hook, with that part among those that are left
 abbrev pub left_at : AtPart → AtHook
 left_at at = record { hook = at.hook; before = at.before; commands = at.command ∷ at.behind; gathered = at.gathered }
 
--- what a run goes on from once the hook has these parts more
+-- the progress of the run once the hook has these further parts
 abbrev pub progress_behind : Progress → AtHook → List Part → Progress
 progress_behind done at parts =
     progress_with done at.hook (ending_of_gathered (gathered_parts at.gathered parts) at.before (after_parts done.tree parts))
@@ -101,7 +101,7 @@ abbrev pub hooks_behind_parts : Config → Progress → AtHook → List Part →
 hooks_behind_parts config done at parts hooks =
     hooks_after config at.hook (ending_of_gathered (gathered_parts at.gathered parts) at.before (after_parts done.tree parts)) hooks
 
--- the hook goes on with parts of the commands that are left, and the run behind it
+-- the hook goes on with parts of the commands that are left, and then the run goes on
 pub record GoesOnAt (config : Config) (ask : RunAsk) (done : Progress) (at : AtHook) (hooks : List Hook) (parts : List Part) (out : RunOut) : Type 0 where
   pub here : List Part
   pub rest : List Part
@@ -111,7 +111,7 @@ pub record GoesOnAt (config : Config) (ask : RunAsk) (done : Progress) (at : AtH
 
 -- ---- a plan
 
--- a plan stands at a hook of which a part waits, with the hooks behind it; or at its end
+-- a plan has a hook with a part that waits, and the hooks after it; or it is over
 pub record Plan : Type 0 where
   pub config : Config
   pub ask : RunAsk
@@ -147,7 +147,7 @@ seen_of_plan plan = seen_at plan.waiting plan.done.tree
 abbrev pub tree_of_plan : Plan → List File
 tree_of_plan plan = plan.done.tree
 
--- what a plan at its end gives
+-- what a plan gives that is over
 abbrev pub out_of_plan : Plan → RunOut
 out_of_plan plan = out_of plan.config plan.ask plan.done.results plan.done.tree plan.done.unsteady
 
@@ -155,8 +155,8 @@ abbrev pub CompletesAt : Plan → Option AtPart → List Part → RunOut → Typ
 CompletesAt plan None parts out = (parts ≡ []) × (out ≡ out_of_plan plan)
 CompletesAt plan (Some at) parts out = GoesOnAt plan.config plan.ask plan.done (left_at at) plan.hooks parts out
 
--- these parts complete the plan, which then gives this: none where it is over; else those of the hook that waits, the first
--- the part that it needs, and those of the hooks behind it
+-- These parts complete the plan, which then gives this. There are none if it is over. Otherwise they are the
+-- parts of the hook that waits, beginning with the one that the plan needs, and those of the hooks after it.
 abbrev pub Completes : Plan → List Part → RunOut → Type 0
 Completes plan parts out = CompletesAt plan plan.waiting parts out
 
@@ -176,7 +176,7 @@ abbrev pub IsPlanOf : Config → RunAsk → List File → Plan → Type 0
 IsPlanOf config ask tree plan = (parts : List Part) (out : RunOut) → Completes plan parts out →
     (trace : List (List Part)) × (all_parts trace ≡ parts) × IsRunOut config ask tree trace out
 
--- whatever completes the plan after the outcome, completes the one before it behind the part with the outcome
+-- whatever completes the plan `after` completes `plan` too, if the part with the outcome comes first
 abbrev pub IsPlanAfter : Plan → Outcome → Bool → Plan → Type 0
 IsPlanAfter plan outcome unsteady after = (parts : List Part) (out : RunOut) → Completes after parts out →
     Completes plan (part_with plan outcome unsteady ∷ parts) out

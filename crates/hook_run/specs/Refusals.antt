@@ -1,4 +1,5 @@
--- The refusals of a run, with their numbers and names, and which one a fault of the remembered answers is.
+-- The refusals of a run, with their numbers and names (docs/REFERENCE.md, "A run that is asked for"), and the
+-- refusal for each fault of the book.
 use Rattle.std.specs.Prelude.{◌≡◌, ℕ, Bool, true, false, List, codes}
 use Rattle.result_book.specs.declared.book_fault.BookFault.{BookFault}
 use Rattle.result_book.specs.declared.book_fault.BookFault.TheVariants as book
@@ -17,17 +18,17 @@ name_of (Book fault) = codes "Book"
 name_of NoSuchHook = codes "NoSuchHook"
 name_of Spent = codes "Spent"
 
--- want of memory is told from every other fault of the remembered answers
+-- lack of memory is a refusal of its own, and every other fault of the book is `Book`
 abbrev pub of_book : BookFault → RunRefusal
 of_book book.OutOfMemory = OutOfMemory
 of_book fault = Book fault
 
--- where the remembered answers refuse a run, it is by one of these faults, of which want of memory is none
+-- if the book refuses a run, it is by one of these faults; lack of memory isn't one of them
 abbrev pub IsOfBook : (BookFault → Type 0) → RunRefusal → Type 0
 IsOfBook refuses (Book fault) = refuses fault × (of_book fault ≡ Book fault)
 IsOfBook refuses refusal = Unit {0}
 
--- the remembered answers refuse, for another reason than want of memory
+-- the book refuses, for another reason than lack of memory
 abbrev pub is_of_book : RunRefusal → Bool
 is_of_book (Book fault) = true
 is_of_book refusal = false

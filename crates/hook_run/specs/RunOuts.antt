@@ -1,4 +1,4 @@
--- What a run gives, and a run over children and remembered answers.
+-- What a run gives, and a run over children and cached results.
 use Rattle.std.specs.Prelude.{◌≡◌, ◌≢◌, ◌-◌, ◌^◌, ℕ, if◌then◌else◌, List, [], ◌∷◌, ◌++◌}
 use Rattle.hook_base.specs.declared.file.File.{File}
 use Rattle.child_port.specs.declared.answer.Outcome.{Outcome}
@@ -21,17 +21,17 @@ use Rattle.hook_run.specs.PartsEnding.{is_unsteady}
 use Rattle.hook_run.specs.Reuses.{LacksServing}
 use Rattle.hook_run.specs.StageRun.{IsStageRun, has_passed}
 
--- the id of a hook with these parts, where it is unsteady
+-- the id of a hook with these parts, if it is unsteady
 abbrev pub unsteady_id : Hook → List Part → List (List ℕ)
 unsteady_id hook parts = if is_unsteady parts then hook.id ∷ [] else []
 
--- the ids of the hooks that are unsteady, in the order of the hooks, which a trace may end before
+-- the ids of the unsteady hooks, in the order of the hooks; the trace may end before these
 abbrev pub unsteady_ids : List Hook → List (List Part) → List (List ℕ)
 unsteady_ids [] trace = []
 unsteady_ids (hook ∷ hooks) [] = []
 unsteady_ids (hook ∷ hooks) (parts ∷ trace) = unsteady_id hook parts ++ unsteady_ids hooks trace
 
--- what is given of these results, of the tree that is left, and of the ids of the unsteady hooks
+-- what a run gives with these results, the tree that is left, and the ids of the unsteady hooks
 abbrev pub out_of : Config → RunAsk → List HookResult → List File → List (List ℕ) → RunOut
 out_of config ask results tree unsteady = record {
   passed = has_passed results;
@@ -55,28 +55,29 @@ pub record IsBegun (config : Config) (ask : RunAsk) (tree : List File) (front : 
   pub joined : all_parts trace ≡ front ++ rest
   pub run : IsRunOut config ask tree trace out
 
--- it has a further part behind these, for which a child is needed: what is remembered for it, if anything, doesn't serve
+-- the run has a further part after these that needs a child: the run may not use the cached result, if there
+-- is one
 pub record NeedsChild (remembered : Contents) (config : Config) (ask : RunAsk) (tree : List File) (front : List Part) : Type 0 where
   pub part : Part
   pub begun : IsBegun config ask tree (front ++ part ∷ [])
   pub lacks : LacksServing ask.reuse part.words part.seen remembered
 
--- A run of the hooks that are asked for, between two moments. Where each answer that was remembered before is one that the
--- children may tell, so is each outcome.
+-- A run of the hooks that are asked for, between two moments. If the children may report each result that was
+-- cached before, they may report each outcome.
 pub record IsRunOver (tells : List (List ℕ) → List File → Outcome → Type 0) (from to : Moment) (config : Config) (ask : RunAsk) (tree : List File) (out : RunOut) : Type 0 where
   pub trace : List (List Part)
   pub run : IsRunOut config ask tree trace out
   pub answered : AreAnswered tells ask.reuse from to (all_parts trace)
   pub told : IsTold tells from.remembered → AllTold tells (all_parts trace)
 
--- the same, with how many of its parts were answered from what is remembered
+-- the same, with how many of its parts used a cached result
 pub record IsCountedRun (tells : List (List ℕ) → List File → Outcome → Type 0) (from to : Moment) (config : Config) (ask : RunAsk) (tree : List File) (ran : HooksRun) : Type 0 where
   pub over : IsRunOver tells from to config ask tree ran.out
   pub reused : AreReused (all_parts over.trace) over.answered.started ran.reused
 
--- A run that is refused between two moments, with the parts up to there: none where no hook has the name, else those that a
--- run begins with. Where it is spent, it has a further part that needs a child, and the children have told as many outcomes as
--- can be counted.
+-- A run that is refused between two moments, with the parts up to there. There are none if no hook has the
+-- name; otherwise a run begins with them. If the refusal is `Spent`, there is a further part that needs a
+-- child, and the children have reported as many outcomes as can be counted, 2^64 - 1.
 pub record IsStoppedRun (tells : List (List ℕ) → List File → Outcome → Type 0) (from to : Moment) (config : Config) (ask : RunAsk) (tree : List File) (refusal : RunRefusal) : Type 0 where
   pub parts : List Part
   pub answered : AreAnsweredSoFar tells ask.reuse from to parts

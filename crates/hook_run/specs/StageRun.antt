@@ -12,7 +12,8 @@ use Rattle.hook_run.specs.Asks.{hooks_of_run}
 use Rattle.hook_run.specs.HookRun.{IsResult}
 use Rattle.hook_run.specs.Parts.{Part, after_parts}
 
--- no hook is run after this one: it failed, and the configuration or the hook wants to stop then
+-- no hook is run after this one: it failed, and the configuration or the hook has `fail_fast`
+-- (`pre_commit.commands.run._run_hooks`)
 abbrev pub is_last : Config → Hook → Ending → Bool
 is_last config hook ending = (config.fail_fast || hook.fail_fast) && is_failed ending
 

@@ -1,4 +1,4 @@
--- Where a plan stands, as the code has it. Serves private functions alone.
+-- How far a plan is, as the code holds it. Used only by private functions.
 use Rattle.std.specs.Prelude.{◌≡◌, ◌+◌, ◌≤◌, All, ℕ, Bool, false, not, ◌&&◌, if◌then◌else◌, List, [], ◌∷◌, drop, map, Option, None, Some}
 use Rattle.std.specs.List.{AllByRecursion as Each}
 use Rattle.std.specs.Str.{bytes_eq}
@@ -35,8 +35,8 @@ use Rattle.hook_run.specs.Plans.{AtHook, AtPart, Completes, GoesOn, GoesOnAt, Pl
 abbrev pub names_in : Course → List (List ℕ)
 names_in course = map (λ hook. hook.now.name) course.hooks.items
 
--- the hooks are those that the run goes through, the candidates those that pass the patterns of the configuration, and the columns
--- those that the hooks' names need
+-- the hooks are those of the run, the candidates those that pass the patterns of the configuration, and the
+-- columns as many as the hooks' names need
 pub record IsCourse (course : Course) : Type 0 where
   pub asked : map (λ hook. hook.now) course.hooks.items ≡ hooks_of_run course.config.now course.ask.now
   pub passing : ArePassing course.config.now.files course.config.now.exclude course.ask.now.candidates course.among
@@ -55,7 +55,7 @@ at_work work = record {
   gathered = work.gathered;
 }
 
--- a hook of which a part waits
+-- a hook with a part that waits
 abbrev pub at_part : Waiting → AtPart
 at_part waiting = record {
   hook = waiting.work.hook.now;
@@ -65,7 +65,7 @@ at_part waiting = record {
   gathered = waiting.work.gathered;
 }
 
--- the hook, of which that part is left too
+-- the hook, with that part among those that are left
 abbrev pub at_hook : Waiting → AtHook
 at_hook waiting = left_at (at_part waiting)
 
@@ -81,12 +81,13 @@ with_gathered at all = record { hook = at.hook; before = at.before; commands = a
 abbrev pub finds : Hook → List ℕ → Bool
 finds hook path = not (bytes_eq hook.x_reads no_path) && is_found hook.x_reads path
 
--- of the tree's files those at these paths are its further ones. At some paths it may hold nothing: they are those of the tree on
--- which the hook began, and parts may have removed files.
+-- The files of the tree at these paths are its further files. At some paths it may hold nothing: they are
+-- those of the tree on which the hook began, and parts may have removed files.
 abbrev pub AreFurther : Hook → List (List ℕ) → List File → Type 0
 AreFurther hook paths tree = Each (λ row. is_candidate paths row.path ≡ finds hook row.path) tree
 
--- what the child of the next part sees is made of this tree, whose further files are at the paths that are kept
+-- what the child of the next part sees is taken from this tree, whose further files are at the paths that are
+-- kept
 abbrev pub IsSeenOn : List File → Waiting → Type 0
 IsSeenOn tree waiting =
     (waiting.seen ≡ seen_of waiting.command (further_of waiting.work.hook.now tree) (sees_whole waiting.work.hook.now) tree)
@@ -101,14 +102,14 @@ part_at waiting tree outcome unsteady = record {
   unsteady = unsteady;
 }
 
--- what is stored for the outside is what is defined
+-- what is stored for callers is what is defined
 abbrev pub IsStored : Config → RunAsk → Progress → Standing → Type 0
 IsStored config ask done (Waits waiting) = IsSeenOn done.tree waiting
 IsStored config ask done (Over report) = report ≡ report_text (names_of_run config ask) done.results
 
 -- ---- the columns of the report
 
--- the name is one of those that the columns are made for
+-- the report is wide enough for the name
 abbrev pub FitsName : Course → List ℕ → Type 0
 FitsName course name = width_of name + 30 ≤ columns_of (names_in course)
 
@@ -121,7 +122,7 @@ FitsAt course (Over report) = Unit {0}
 
 -- ---- a plan
 
--- what a plan's fields are to each other
+-- how the fields of a plan belong together
 pub record IsPlanned (course : Course) (done : Progress) (files : List File) (standing : Standing) : Type 0 where
   pub fits : FitsResults course done.results
   pub fits_at : FitsAt course standing
@@ -131,13 +132,13 @@ pub record IsPlanned (course : Course) (done : Progress) (files : List File) (st
 
 -- ---- how a hook goes on
 
--- it has ended where no command is left; else the next waits
+-- the hook has ended if no command is left; otherwise the next part waits
 abbrev pub HasGoneOn : AtHook → List File → Begun → Type 0
 HasGoneOn at tree (begun.Ended ending unsteady) =
     (at.commands ≡ []) × (ending ≡ ending_of_gathered at.gathered at.before tree) × (unsteady ≡ at.gathered.unsteady)
 HasGoneOn at tree (begun.Waits waiting) = (at_hook waiting ≡ at) × IsSeenOn tree waiting
 
--- the parts of the commands that are left, from the tree on, are those of a hook that ends with what they come to
+-- parts of the commands that are left, from this tree on, end the hook with what they give
 pub record IsFirstOf (EndsWith : List Part → Ending → Type 0) (hook : Hook) (tree : List File) (at : AtHook) : Type 0 where
   pub of_hook : at.hook ≡ hook
   pub before : at.before ≡ tree
@@ -149,7 +150,7 @@ abbrev pub HasBegun : (List Part → Ending → Type 0) → Hook → List File �
 HasBegun EndsWith hook tree (begun.Ended ending unsteady) = EndsWith [] ending × (unsteady ≡ false)
 HasBegun EndsWith hook tree (begun.Waits waiting) = IsFirstOf EndsWith hook tree (at_hook waiting) × IsSeenOn tree waiting
 
--- ---- what hooks that are done left
+-- ---- what finished hooks left
 
 abbrev pub id_if : Bool → Hook → List (List ℕ)
 id_if unsteady hook = if unsteady then hook.id ∷ [] else []
@@ -158,25 +159,25 @@ id_if unsteady hook = if unsteady then hook.id ∷ [] else []
 abbrev pub on_tree : Progress → List File → Progress
 on_tree done tree = record { results = done.results; unsteady = done.unsteady; tree = tree }
 
--- what completes the plan goes on so
+-- whatever completes the plan goes on so
 abbrev pub GoesOnSo : (List Part → RunOut → Type 0) → Plan → Type 0
 GoesOnSo Goes plan = (parts : List Part) (out : RunOut) → Completes plan parts out → Goes parts out
 
--- whatever completes the plan, goes on from what is done with the hooks from a place on
+-- whatever completes the plan goes on from what is done, with the hooks from a place on
 abbrev pub IsPlanFrom : Course → Progress → ℕ → Plan → Type 0
 IsPlanFrom course done place plan = GoesOnSo (GoesOn course.config.now course.ask.now done (hooks_from course place)) plan
 
--- the same at a hook that goes on so, with the hooks from a place on behind it
+-- the same at a hook that goes on so, followed by the hooks from a place on
 abbrev pub IsPlanAt : Course → Progress → ℕ → AtHook → Plan → Type 0
 IsPlanAt course done place at plan = GoesOnSo (GoesOnAt course.config.now course.ask.now done at (hooks_from course place)) plan
 
--- the same behind a hook that ends so
+-- the same after a hook that ends so
 abbrev pub IsPlanBehindHook : Course → Progress → ℕ → Hook → Ending → Bool → Plan → Type 0
 IsPlanBehindHook course done place hook ending unsteady plan = GoesOnSo
     (GoesOn course.config.now course.ask.now (progress_with done hook ending (id_if unsteady hook) done.tree)
     (hooks_after course.config.now hook ending (hooks_from course place))) plan
 
--- whatever completes the plan, goes on at the hook that waits, behind the part with this outcome
+-- whatever completes the plan goes on at the hook that waits, after the part with this outcome
 abbrev pub IsToldFrom : Course → Progress → ℕ → Waiting → Outcome → Bool → Plan → Type 0
 IsToldFrom course done place waiting outcome unsteady plan =
     (parts : List Part) (out : RunOut) → Completes plan parts out

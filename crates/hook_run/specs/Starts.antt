@@ -1,5 +1,6 @@
--- Which parts of a run are started, and what is remembered of their answers. For each part, whatever serves the run, its words and
--- seen files are looked up in what is remembered at that moment: a found row comes to the front, and a put may drop the last row.
+-- Which parts of a run are started, and what is cached of their answers. The words and seen files of each
+-- part are looked up in what is cached at that moment, even if the run may use nothing. A found row moves to
+-- the front, and a put may drop the last row.
 use Rattle.std.specs.Prelude.{◌≡◌, ◌≢◌, ◌↔◌, ℕ, Bool, false, IsTrue, MatchBool, List, [], ◌∷◌, ◌++◌, Option, None, Some}
 use Rattle.hook_base.specs.declared.file.File.{File}
 use Rattle.child_port.specs.declared.answer.Answer.{Answer}
@@ -12,13 +13,13 @@ use Rattle.hook_run.specs.declared.reuse.Reuse.{Reuse}
 use Rattle.hook_run.specs.Parts.{Part}
 use Rattle.hook_run.specs.Reuses.{serves}
 
--- what is remembered behind a child with this outcome: a completed answer that changes the seen files alone is put, in front, and
--- the one that was is gone; no other outcome is
+-- What is cached after a child with this outcome. A completed answer that changes only seen files is put in
+-- front, and an earlier one for the same words and seen files is gone. No other outcome is put.
 abbrev pub AfterOutcome : List (List ℕ) → List File → Outcome → Contents → Contents → Type 0
 AfterOutcome words seen (Done answer) before after = MatchBool (is_stray answer seen) (after ≡ before) (AfterPut words seen answer before after)
 AfterOutcome words seen (Failed fault) before after = after ≡ before
 
--- the mark says whether a completed answer is another than the one that was found
+-- the mark says whether a completed answer differs from the one that was found
 abbrev pub IsMarked : Option Answer → Outcome → Bool → Type 0
 IsMarked (Some found) (Done answer) mark = IsTrue mark ↔ (answer ≢ found)
 IsMarked found outcome mark = mark ≡ false
@@ -34,7 +35,8 @@ pub record IsReplayed (found : Answer) (before after : Contents) (part : Part) :
   pub steady : part.unsteady ≡ false
   pub kept : after ≡ before
 
--- a child is started where nothing was found, or that doesn't serve. `started` has the part then
+-- A child is started if nothing was found, or if the run may not use what was found. Then `started` has the
+-- part.
 abbrev pub StartsFor : Reuse → Option Answer → Contents → Contents → Part → List Part → Type 0
 StartsFor reuse None before after part started = IsStarted None before after part × (started ≡ part ∷ [])
 StartsFor reuse (Some found) before after part started =
@@ -50,7 +52,7 @@ pub record StartsOne (reuse : Reuse) (before after : Contents) (part : Part) (st
   pub look_up : AfterFind part.words part.seen before looked_up
   pub starts : StartsFor reuse found looked_up after part started
 
--- a part, and then more of which `rest` says what is remembered before them and which of them are started
+-- One part, and then more: `rest` says what is cached before these and which of them are started.
 pub record StartsThen (reuse : Reuse) (before : Contents) (part : Part) (started : List Part) (rest : Contents → List Part → Type 0) : Type 0 where
   pub between : Contents
   pub first : List Part
@@ -59,7 +61,7 @@ pub record StartsThen (reuse : Reuse) (before : Contents) (part : Part) (started
   pub more : rest between others
   pub joined : started ≡ first ++ others
 
--- the parts in order, each with what is remembered at its moment; those in `started` had a child started for them
+-- The parts in order, each with what is cached at its moment. A child was started for those in `started`.
 abbrev pub Starts : Reuse → Contents → Contents → List Part → List Part → Type 0
 Starts reuse before after [] started = (after ≡ before) × (started ≡ [])
 Starts reuse before after (part ∷ parts) started =

@@ -1,4 +1,4 @@
-//! The hooks of a run one after another, up to one that waits.
+//! Goes through the hooks of a run, up to one that waits for a child.
 
 ghost use Rattle.std.specs.Prelude.{◌≡◌, ◌<◌, ◌≤◌, ◌+◌, ◌-◌, ◌∷◌, IfOk, length};
 ghost use Rattle.hook_run.specs.CandidateFiles.{files_at};
@@ -19,7 +19,7 @@ use hook_config::{Config, Hook};
 use report_text::{Ending, hook_texts};
 use std::alloc::Global;
 
-/// The plan of the hooks from this place on, behind those that are done.
+/// The plan of the hooks from this place on, after those that are done.
 pub(crate) fn advance<'a>(
     alloc: Global,
     course: Course<'a>,
@@ -57,7 +57,6 @@ pub(crate) fn advance<'a>(
     over(alloc, course, done, files, place)
 }
 
-// The hook at a place.
 fn hook_at<'a>(course: &Course<'a>, place: usize) -> &'a Hook
     requires { place < length course.now.hooks.items }
     ensures left { hooks_from course.now place ≡ result.now ∷ hooks_from course.now (place + 1) }
@@ -66,7 +65,8 @@ fn hook_at<'a>(course: &Course<'a>, place: usize) -> &'a Hook
     course.hooks[place]
 }
 
-/// The place that the run goes on at behind a hook that ends so: this one, or behind all where the hook is the last.
+/// The place at which the run goes on after a hook that ends so: this one, or the end if the hook is the
+/// last.
 pub(crate) fn place_behind(course: &Course, hook: &Hook, ending: &Ending, place: usize) -> usize
     ensures later { length course.now.hooks.items - result ≤ length course.now.hooks.items - place }
     ensures left { hooks_from course.now result ≡ hooks_after course.now.config.now hook.now ending.now (hooks_from course.now place) }
@@ -78,7 +78,8 @@ pub(crate) fn place_behind(course: &Course, hook: &Hook, ending: &Ending, place:
     }
 }
 
-// No hook is run after this one: it failed, and the configuration or the hook wants to stop then.
+// No hook is run after this one: it failed, and the configuration or the hook has `fail_fast`
+// (`pre_commit.commands.run._run_hooks`).
 fn is_last(config: &Config, hook: &Hook, ending: &Ending) -> bool
     ensures { result ≡ is_last config.now hook.now ending.now }
 {

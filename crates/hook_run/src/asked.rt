@@ -9,7 +9,7 @@ use hook_base::{OutOfMemory, Text};
 use hook_config::{Config, Hook};
 use std::alloc::Global;
 
-/// Whether a hook is asked for by a name that no hook of the stage has.
+/// Whether the run asks for a name that no hook of the stage has.
 pub fn names_no_hook(config: &Config, ask: &RunAsk) -> bool
     ensures { result ≡ names_no_hook config.now ask.now }
 {
@@ -45,7 +45,7 @@ pub fn hooks_of_run<'a>(
     Ok(chosen)
 }
 
-/// Whether one of the names that are to be skipped is the hook's.
+/// Whether one of the names that are to be skipped is the hook's (`pre_commit.commands.run._get_skips`).
 pub fn is_skipped(ask: &RunAsk, hook: &Hook) -> bool
     ensures { result ≡ is_skipped ask.now.skip hook.now }
 {
@@ -67,7 +67,7 @@ fn is_asked_for(ask: &RunAsk, hook: &Hook) -> bool
     }
 }
 
-// Whether the name is the hook's id or alias. An empty alias is none.
+// Whether the name is the hook's id or alias. An empty alias, as by default, is none.
 fn is_named(name: &Text, hook: &Hook) -> bool
     ensures { result ≡ is_named name.now hook.now }
 {

@@ -26,8 +26,9 @@ use path_select::Rules;
 use report_text::{Ending, LineFault};
 use std::alloc::Global;
 
-/// How the hook begins on the tree: it has ended where it needs no child, else the first of its parts waits. Nothing is
-/// selected for a hook that is to be skipped.
+/// How the hook begins on the tree: it has ended if it needs no child, otherwise the first of its parts
+/// waits. The cases are in the order of `pre_commit.commands.run._run_single_hook`. A hook that is to be
+/// skipped comes first, and nothing is selected for it.
 pub(crate) fn begin_hook<'a>(
     alloc: Global,
     course: &Course<'a>,
@@ -47,6 +48,7 @@ pub(crate) fn begin_hook<'a>(
     begin_with(alloc, hook, chosen, tree)
 }
 
+// What decides which files the hook gets (`pre_commit.commands.run.Classifier.filenames_for_hook`).
 fn rules_of<'a>(config: &'a Config, hook: &'a Hook) -> Rules<'a>
     ensures { texts_of_rules result ≡ rules_of config.now hook.now }
 {
@@ -61,7 +63,7 @@ fn rules_of<'a>(config: &'a Config, hook: &'a Hook) -> Rules<'a>
     }
 }
 
-// How the hook begins where these files are selected for it.
+// How the hook begins if these files are selected for it.
 fn begin_with<'a>(
     alloc: Global,
     hook: &'a Hook,
@@ -77,7 +79,7 @@ fn begin_with<'a>(
     begin_language(alloc, hook, names, tree)
 }
 
-// The names that the hook is handed where these files are selected for it.
+// The names that the hook gets if these files are selected for it.
 fn names_for(alloc: Global, hook: &Hook, files: Items<RepoPath>) -> Items<RepoPath>
     ensures { result ≡ names_for hook.now files }
 {
@@ -128,7 +130,7 @@ fn ending_of_answer(alloc: Global, answer: Answer) -> Ending
     }
 }
 
-// How the hook begins whose command has these words, with these names behind them.
+// How a hook begins whose command has these words, followed by these names.
 fn begin_command<'a>(
     alloc: Global,
     hook: &'a Hook,
@@ -157,7 +159,8 @@ fn begin_command<'a>(
     go_on(alloc, work, tree)
 }
 
-// The parts of the command, or `None` where a name doesn't fit with the words alone, or without names the words don't.
+// The parts of the command. `None` if a name doesn't fit even with the words alone, or if there are no names
+// and the words don't fit.
 fn cuts_of(
     alloc: Global,
     hook: &Hook,

@@ -6,7 +6,7 @@ use report_text::Ending;
 /// How a hook goes on.
 #[derive(Drop)]
 pub(crate) enum Begun<'a> {
-    /// It has ended so; and whether a part gave another answer than the remembered one.
+    /// The hook has ended so. The flag says whether a part gave another answer than the cached one.
     Ended(Ending, bool),
     /// Its next part waits for an outcome.
     Waits(Waiting<'a>),

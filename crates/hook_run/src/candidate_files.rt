@@ -12,7 +12,8 @@ use path_select::{Candidates, Rules, select_kept_among};
 use std::alloc::Global;
 use std::marker::Model;
 
-/// The files of a tree at the candidates' paths, with the tags of each, kept until it changes. Contracts see the files.
+/// The files of a tree at the candidates' paths. The tags of each are kept until it changes. Contracts see
+/// only the files.
 #[derive(Debug, Drop)]
 pub(crate) struct CandidateFiles {
     tree: Tree,
@@ -32,8 +33,8 @@ impl Model for CandidateFiles {
 }
 
 impl CandidateFiles {
-    /// The files of the tree at the candidates' paths, which share their contents with it. `OutOfMemory` where memory is
-    /// refused.
+    /// The files of the tree at the candidates' paths; they share their contents with it. `OutOfMemory` if
+    /// memory is refused.
     pub(crate) fn of(
         alloc: Global,
         candidates: &[RepoPath],
@@ -47,8 +48,8 @@ impl CandidateFiles {
         Ok(CandidateFiles { tree, tags })
     }
 
-    /// Applies changes to the files. The tags of those that they name are made, and the others kept. `OutOfMemory` where
-    /// memory is refused, which leaves files and tags as they were.
+    /// Applies changes to the files. The tags of the files that the changes name are computed again, and the
+    /// others kept. `OutOfMemory` if memory is refused; then files and tags stay as they were.
     pub(crate) fn follow(&mut self, changes: &[Change]) -> Result<(), OutOfMemory>
         ensures followed { OnOk result (self.new ≡ apply_changes changes.now self.old) }
         ensures kept { OnErr result (self.new ≡ self.old) }
@@ -63,8 +64,8 @@ impl CandidateFiles {
         Ok(())
     }
 
-    /// What the rules select of the files, among candidates that have passed the patterns of the whole configuration.
-    /// `OutOfMemory` where memory is refused.
+    /// The files that the rules select, among candidates that have passed the patterns of the whole
+    /// configuration. `OutOfMemory` if memory is refused.
     pub(crate) fn select(
         &self,
         alloc: Global,
@@ -77,7 +78,8 @@ impl CandidateFiles {
     }
 }
 
-// The paths in their order, so that each file is put behind those before it. Paths that are so already aren't moved.
+// The paths in their order, so that each file is put after those before it. Paths that are already in order
+// aren't moved.
 fn in_order<'a>(alloc: Global, paths: &'a [RepoPath]) -> Result<Vec<&'a RepoPath>, OutOfMemory>
     ensures { IfOk result (λ ordered. (path : List ℕ) → is_candidate (paths_of ordered.items) path ≡ is_candidate paths.now path) }
 {

@@ -15,8 +15,9 @@ use file_tags::shebang;
 use hook_base::{File, FileEntry, Items, OutOfMemory, Text, Tree};
 use std::alloc::Global;
 
-/// The command of a hook on the tree, without names, from the words of its entry and arguments. `is_script` says that its
-/// language is `script`.
+/// The command of a hook on the tree, without names, from the words of its entry and arguments
+/// (`pre_commit.lang_base.hook_cmd`). `is_script` says that its language is `script`. The cases are those of
+/// docs/REFERENCE.md, "The command of a hook".
 pub fn command_of(
     alloc: Global,
     is_script: bool,
@@ -38,7 +39,7 @@ pub fn command_of(
     }
 }
 
-// What the tree holds at a path. A text that is no path stands nowhere.
+// What the tree holds at a path. It holds nothing at a text that is no path.
 fn entry_at<'a>(tree: &'a Tree, path: &str) -> Option<&'a FileEntry>
     ensures { option_copied result ≡ entry_of path.now tree.now }
 {
@@ -77,7 +78,7 @@ fn script_held(
     with_texts(command, rest)
 }
 
-// What starts a script: the words of its first line, or `sh` where it has none.
+// What starts a script: the words of its first line after `#!`, or `sh` if it has none.
 fn starter_of(alloc: Global, entry: &FileEntry) -> Result<Items<Text>, OutOfMemory>
     ensures { IfOk result (λ starter. starter ≡ starter_of (shebang_of entry.now.bytes)) }
 {
@@ -90,7 +91,7 @@ fn starter_of(alloc: Global, entry: &FileEntry) -> Result<Items<Text>, OutOfMemo
     Ok(Items::from(words))
 }
 
-// The command of a script that the tree lacks: its path from the folder of the tree on, and the other words.
+// The command of a script that the tree lacks: its path from the top of the tree, and the other words.
 fn script_lacked(alloc: Global, program: &str, rest: &[Text]) -> Result<Items<Text>, OutOfMemory>
     ensures { IfOk result (λ command. command ≡ (46 ∷ 47 ∷ program.now) ∷ rest.now) }
 {
@@ -110,7 +111,7 @@ fn as_it_is(alloc: Global, first: &str, rest: &[Text]) -> Result<Items<Text>, Ou
     with_texts(command, rest)
 }
 
-// The texts behind those that are there.
+// The texts that are there, followed by more.
 fn with_texts(mut texts: Vec<Text>, more: &[Text]) -> Result<Items<Text>, OutOfMemory>
     ensures { IfOk result (λ all. all ≡ texts.items ++ more.now) }
 {

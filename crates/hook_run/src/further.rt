@@ -18,7 +18,7 @@ pub(crate) fn further_of(
 {
     let pattern = hook.x_reads.as_pattern();
 
-    // Found in no path: most hooks have this pattern, for which the tree needn't be gone through.
+    // This pattern is found in no path. It is the default, so for most hooks the tree isn't searched.
     if pattern.as_str() == "^$" {
         return Ok(Items::new(alloc));
     }

@@ -1,4 +1,4 @@
-//! What the parts of a hook come to.
+//! What the finished parts of a hook give together.
 
 ghost use Rattle.std.specs.Prelude.{◌≡◌, IfOk, max};
 ghost use Rattle.hook_run.specs.Plans.{gathered_with, nothing_gathered};
@@ -8,20 +8,21 @@ use hook_base::{Bytes, Items, OutOfMemory};
 use report_text::LineFault;
 use std::alloc::Global;
 
-/// What the parts of a hook that are told came to.
+/// What the finished parts of a hook give together: the greatest status and the joined outputs, as in
+/// `pre_commit.xargs.xargs`, and their faults.
 #[derive(Drop)]
 pub(crate) struct Gathered {
-    /// The greatest status of those that completed, 0 where none did.
+    /// The greatest status of the parts that completed, or 0 if none did.
     pub(crate) status: u8,
-    /// What failed of the others, in the order of the parts.
+    /// The faults of the other parts, in the order of the parts.
     pub(crate) faults: Items<LineFault>,
-    /// The outputs of those that completed, joined.
+    /// The outputs of the parts that completed, joined.
     pub(crate) output: Bytes,
-    /// Whether one gave another answer than the remembered one.
+    /// Whether a part gave another answer than the cached one.
     pub(crate) unsteady: bool,
 }
 
-/// Where no part is told.
+/// What is gathered before any part has an outcome.
 pub(crate) fn nothing_gathered(alloc: Global) -> Gathered
     ensures { result ≡ nothing_gathered }
 {
@@ -33,8 +34,8 @@ pub(crate) fn nothing_gathered(alloc: Global) -> Gathered
     }
 }
 
-/// What the parts came to, with one more of this outcome. `unsteady` says whether that is another answer than the remembered
-/// one.
+/// What is gathered with the outcome of one more part. `unsteady` says whether that outcome is another answer
+/// than the cached one.
 pub(crate) fn gathered_with(
     so_far: Gathered,
     outcome: &Outcome,

@@ -1,4 +1,5 @@
-//! Laws of what the contracts cite. Each is a function that gives nothing: what it ensures is a theorem.
+//! Laws of the definitions that the contracts cite. Each is a function that returns nothing: what it ensures
+//! is a theorem.
 
 ghost use Rattle.std.specs.Prelude.{◌≡◌, ◌++◌, ℕ, List, []};
 ghost use Rattle.child_port.specs.declared.answer.Outcome.{Outcome};
@@ -21,66 +22,71 @@ ghost use Rattle.hook_run.specs.UnseenEdits.{EndAlike, HasRunAlike, HoldsAll, Is
 use crate::{MOST_COMMAND_BYTES, MOST_NAMES};
 use child_port::Children;
 
-/// The limits of the code are those that the definitions name.
+/// The limits of the code are those of the definitions.
 pub fn the_limits_are_those_defined()
     ensures bytes { MOST_COMMAND_BYTES ≡ most_command_bytes }
     ensures names { MOST_NAMES ≡ most_names }
 {}
 
-/// Whatever is asked of a configuration on a tree, and whatever its children answer to their words and what they see, there
-/// is a run with these outcomes.
+/// Whatever is asked of a configuration on a tree, and whatever outcomes its children give for their words
+/// and what they see, there is a run with these outcomes.
 pub fn there_is_a_run()
     ensures { (config : Config) (ask : RunAsk) (tree : List File) (answers : List (List ℕ) → List File → Outcome) → (trace : List (List Part)) × (out : RunOut) × IsRunOut config ask tree trace out × AllTold (λ words seen outcome. outcome ≡ answers words seen) (all_parts trace) }
 {}
 
-/// The results of a run report as many children's faults as its parts are: a name that doesn't fit is none, and neither a
-/// hook that was skipped nor one that starts no child has any.
+/// The results of a run report as many faults of children as its parts have. A name that doesn't fit is no
+/// such fault. A hook that was skipped, or that starts no child, has none.
 pub fn each_fault_is_reported()
     ensures { (config : Config) (ask : RunAsk) (tree : List File) (trace : List (List Part)) (out : RunOut) → IsRunOut config ask tree trace out → child_faults out.results ≡ faults_of (all_parts trace) }
 {}
 
-/// Of one configuration, asked the same, on one tree, the outcomes so far decide what each child so far was: its words and
-/// what it saw. And they decide what comes next: the next part's words and what its child sees, or the end with what the run
-/// gives, the ids of unsteady hooks apart.
+/// Take two runs of one configuration, asked the same, on one tree. The outcomes so far decide the words of
+/// each child so far and what it saw. They also decide what comes next: the words of the next part and what
+/// its child sees, or the end with what the run gives. Only the ids of unsteady hooks aren't decided.
 pub fn outcomes_decide_a_run()
     ensures { (config : Config) (ask : RunAsk) (tree : List File) (trace others : List (List Part)) (first second : RunOut) (front begun rest more : List Part) → IsRunOut config ask tree trace first → IsRunOut config ask tree others second → all_parts trace ≡ front ++ rest → all_parts others ≡ begun ++ more → outcomes_of front ≡ outcomes_of begun → (without_marks front ≡ without_marks begun) × IsNextOf first second rest more }
 {}
 
-/// The parts of a run, with their marks, decide all that it gives.
+/// The parts of a run, with their `unsteady` marks, decide all that it gives.
 pub fn parts_decide_what_is_given()
     ensures { (config : Config) (ask : RunAsk) (tree : List File) (trace others : List (List Part)) (first second : RunOut) → IsRunOut config ask tree trace first → IsRunOut config ask tree others second → all_parts trace ≡ all_parts others → first ≡ second }
 {}
 
-/// Each part of a run has an answer that serves the run, or a child was started for it. So where only what passed serves, each
-/// failure and each fault of the run is one that a child told, and where nothing serves, so is each outcome.
+/// Each part of a run has an answer that the run may take from the cache, or a child was started for it. If
+/// only results that passed may be used, a child of this run reported each outcome that is a failure or a
+/// fault. If none may be used, a child of this run reported each outcome.
 pub fn each_part_is_served_or_started<C: Children>(children: &C)
     ensures { (from to : Moment) (config : Config) (ask : RunAsk) (tree : List File) (out : RunOut) → (over : IsRunOver (C.tells children.now) from to config ask tree out) → AreServedOrStarted ask.reuse (all_parts over.trace) over.answered.started }
 {}
 
-/// Children that give one answer to the same words on the same seen files leave no choice: two runs of one configuration, asked
-/// the same, on one tree, over children that tell the same, each outcome of which they may tell, and none of which is a fault,
-/// have the same parts and give the same. The marks of the parts, and so the ids of unsteady hooks, are left out: they speak of
-/// what was remembered.
+/// Children that give one answer to the same words on the same seen files leave no choice. Take two runs of
+/// one configuration, asked the same, on one tree, over children that may report the same outcomes. If each
+/// outcome of both may be reported and none is a fault, they have the same parts and give the same. The marks
+/// of the parts, and so the ids of unsteady hooks, are left out: they depend on what was cached.
 pub fn one_answer_makes_one_run<C: Children, D: Children>(children: &C, others: &D)
     ensures { SameTells (C.tells children.now) (D.tells others.now) → OneAnswer (C.tells children.now) → (config : Config) (ask : RunAsk) (tree : List File) (trace theirs : List (List Part)) (first second : RunOut) → IsFaultless (C.tells children.now) config ask tree trace first → IsFaultless (D.tells others.now) config ask tree theirs second → AreSameRuns trace theirs first second }
 {}
 
-/// Over such children no hook of a run is unsteady, where each answer that was remembered before is one that they may tell.
+/// Over such children no hook of a run is unsteady, if the children may report each result that was cached
+/// before.
 pub fn one_answer_leaves_no_hook_unsteady<C: Children>(children: &C)
     ensures { OneAnswer (C.tells children.now) → (from to : Moment) (config : Config) (ask : RunAsk) (tree : List File) (out : RunOut) → IsTold (C.tells children.now) from.remembered → IsRunOver (C.tells children.now) from to config ask tree out → out.unsteady ≡ [] }
 {}
 
-/// An edit of files at which a run doesn't look changes none of its results. Let two trees hold the same paths, and differ only
-/// in files of some paths, none of which is a candidate, is that of a hook's script, or is seen by a child of a run on the first.
-/// Where no answer of that run strays, there is a run on the second with the same parts, so each outcome is told for it too, and
-/// with the same results. The trees that the two leave differ only in those files, which each holds as the tree does that its run
-/// began on.
+/// An edit of files that a run doesn't look at changes none of its results. Let two trees hold the same paths
+/// and differ only in the files at some paths. None of these paths is a candidate or that of a hook's script,
+/// and no child of a run on the first tree sees one.
+///
+/// If no answer of that run strays, there is a run on the second tree with the same parts and the same
+/// results. So its outcomes may be reported if those of the first run may. The trees that the two runs leave
+/// differ only in those files, and each leaves them as they were when it began.
 pub fn an_unseen_edit_changes_no_result()
     ensures { (config : Config) (ask : RunAsk) (paths : List (List ℕ)) (tree other : List File) (trace : List (List Part)) (out : RunOut) → IsUnseenEdit config ask paths tree other trace out → HasRunAlike config ask paths tree other trace out }
 {}
 
-/// And it starts no child. Where the answer of each part of the run on the first tree is remembered, a run on the second that each
-/// remembered answer serves ends so, whatever children it is over, and calls none of them.
+/// It starts no child either. Let the answer of each part of the run on the first tree be cached, and let a
+/// run on the second tree use every cached result. That run ends in the same way, whatever children it is
+/// over, and calls none of them.
 pub fn an_unseen_edit_starts_no_child<C: Children>(children: &C)
     ensures alike { (config : Config) (ask : RunAsk) (paths : List (List ℕ)) (tree other : List File) (trace : List (List Part)) (out there : RunOut) (from to : Moment) → IsUnseenEdit config ask paths tree other trace out → HoldsAll (all_parts trace) from.remembered → IsRunOver (C.tells children.now) from to config (reusing_all ask) other there → EndAlike paths tree other out there }
     ensures unstarted { (config : Config) (ask : RunAsk) (paths : List (List ℕ)) (tree other : List File) (trace : List (List Part)) (out there : RunOut) (from to : Moment) → IsUnseenEdit config ask paths tree other trace out → HoldsAll (all_parts trace) from.remembered → (over : IsRunOver (C.tells children.now) from to config (reusing_all ask) other there) → (over.answered.started ≡ []) × (to.calls ≡ from.calls) }

@@ -1,27 +1,35 @@
-//! The plan of a run: which hooks of a configuration are run on the files of a tree, what each ends with, and the report.
+//! The plan of a run: which hooks of a configuration are run on the files of a tree, how each ends, and the
+//! report.
 //!
-//! A [`RunAsk`] says what is asked of a run. [`RunPlan::begin`] makes the plan of it, or says by a [`RunRefusal`] why there
-//! is none; [`RunPlan::next`] says whether the plan needs a child, [`RunPlan::words`], [`RunPlan::seen`] and
-//! [`RunPlan::tree`] which one, [`RunPlan::tell`] takes its outcome, and [`RunPlan::finish`] gives the [`RunOut`].
-//! [`run_hooks`] does all that with children and a book that remembers their answers, of which [`Reuse`] says which serve, and gives
-//! a [`HooksRun`].
+//! A [`RunAsk`] says what is asked of a run. [`RunPlan::begin`] makes its plan, or a [`RunRefusal`] says why
+//! there is none. [`RunPlan::next`] says whether the plan needs a child; [`RunPlan::words`],
+//! [`RunPlan::seen`] and [`RunPlan::tree`] say which one. [`RunPlan::tell`] takes the child's outcome, and
+//! [`RunPlan::finish`] gives the [`RunOut`].
 //!
-//! The contracts cite `Completes` and what stands on it in `specs/Plans.antt`, `most_left` of `specs/PlanBounds.antt`, and
-//! `IsRunOver`, `IsCountedRun` and `IsStoppedRun` of `specs/RunOuts.antt`, with `Moment` of `specs/Moments.antt`,
-//! `AreAnswered` and `AreReused` of `specs/Answers.antt`, `Starts` of `specs/Starts.antt` and `serves` of
-//! `specs/Reuses.antt`. They stand on `specs/StageRun.antt` (the hooks of a run one after another), `specs/HookRun.antt` (one
-//! of them), `specs/Commands.antt` (its command), `specs/Parts.antt` and `specs/PartsEnding.antt` (its children, and what
-//! they come to), `specs/Asks.antt` (which hooks a run goes through, and `names_no_hook`) and `specs/Limits.antt`;
-//! `specs/Refusals.antt` has the numbers. `specs/Standing.antt`, `specs/CandidateFiles.antt` and `specs/PlanRuns.antt` serve
-//! private functions alone.
+//! [`run_hooks`] does all of this with children and with a book that caches their answers, and gives a
+//! [`HooksRun`]. [`Reuse`] says which cached results it may use.
 //!
-//! [`laws`] says that the outcomes decide all else of a run (`specs/SameRuns.antt`), so that there is one run alone over
-//! children that give one answer (`specs/OneAnswer.antt`), that an edit of files at which no hook looks changes no result
-//! and starts no child (`specs/UnseenEdits.antt`), and that each part is served or started (`specs/ReusedRuns.antt`).
-//! [`plan_laws`] says that each plan can be completed and hands out what comes next in a run, in the words of
-//! `specs/PlanLaws.antt`. Of the lemmas that other crates cite, `specs/CountLemmas.antt` and `specs/AnswerLemmas.antt` say
-//! what follows for the counts, for parts behind one another and for what is remembered, and `specs/OneAnswerLemmas.antt`,
-//! over `specs/OneRunLemmas.antt` and `specs/AgreeLemmas.antt`, what follows for two runs.
+//! The contracts cite `Completes` of `specs/Plans.antt`, `most_left` of `specs/PlanBounds.antt`, and
+//! `IsRunOver`, `IsCountedRun` and `IsStoppedRun` of `specs/RunOuts.antt`. They also cite `Moment` of
+//! `specs/Moments.antt`, `AreAnswered` and `AreReused` of `specs/Answers.antt`, `Starts` of
+//! `specs/Starts.antt`, and `serves` of `specs/Reuses.antt`.
+//!
+//! These build on `specs/StageRun.antt` (the hooks of a run one after another), `specs/HookRun.antt` (one of
+//! them) and `specs/Commands.antt` (its command). The children of a hook are in `specs/Parts.antt`, and how
+//! they end the hook in `specs/PartsEnding.antt`. `specs/Asks.antt` says which hooks a run goes through, and
+//! has `names_no_hook`; `specs/Limits.antt` has the limits, `specs/Refusals.antt` the numbers.
+//! `specs/Standing.antt`, `specs/CandidateFiles.antt` and `specs/PlanRuns.antt` are used only by private
+//! functions.
+//!
+//! [`laws`] says that the outcomes decide everything else of a run (`specs/SameRuns.antt`). So there is only
+//! one run over children that give one answer (`specs/OneAnswer.antt`). An edit of files that no hook looks
+//! at changes no result and starts no child (`specs/UnseenEdits.antt`). Each part has an answer that the run
+//! may take from the cache, or a child was started for it (`specs/ReusedRuns.antt`). [`plan_laws`] says that
+//! each plan can be completed and hands out what comes next in a run, in the words of `specs/PlanLaws.antt`.
+//!
+//! Other crates cite lemmas too. Those of `specs/CountLemmas.antt` and `specs/AnswerLemmas.antt` are about
+//! the counts, about parts one after another and about what is cached. Those of `specs/OneAnswerLemmas.antt`,
+//! which use `specs/OneRunLemmas.antt` and `specs/AgreeLemmas.antt`, are about two runs.
 #![tactic(auto)]
 
 mod advance;

@@ -1,4 +1,4 @@
-//! Whether a hook modified files.
+//! Whether a hook modified files, as `pre_commit.commands.run._get_diff` finds it out for tracked files.
 
 ghost use Rattle.std.specs.Prelude.{◌≡◌};
 ghost use Rattle.std.specs.Option.{option_copied};
@@ -8,6 +8,7 @@ ghost use Rattle.hook_run.specs.PartsEnding.{has_changed, is_modified, is_modifi
 use hook_base::{File, FileEntry, RepoPath, Tree};
 
 /// Whether a tracked file of the tree `before` is gone from the tree `after`, or has other bytes there.
+/// Unlike in `git diff`, a mode doesn't count.
 pub fn is_modified(before: &Tree, after: &Tree) -> bool
     ensures { result ≡ is_modified before.now after.now }
 {
@@ -26,7 +27,8 @@ fn is_modified_row(after: &Tree, near: usize, row: &File) -> bool
     is_tracked(row) && has_changed(row, entry_near(after, near, &row.path))
 }
 
-// What stands at a path. A hook seldom takes files out, so each is mostly at the same index as before, which is looked at first.
+// What the tree holds at a path. A hook seldom removes files, so each is mostly at the same index as before,
+// which is looked at first.
 fn entry_near<'a>(tree: &'a Tree, near: usize, path: &RepoPath) -> Option<&'a FileEntry>
     ensures { option_copied result ≡ entry_of path.now tree.now }
 {
@@ -39,7 +41,7 @@ fn entry_near<'a>(tree: &'a Tree, near: usize, path: &RepoPath) -> Option<&'a Fi
     tree.get(path)
 }
 
-// The message of a commit isn't tracked.
+// The message of a commit isn't tracked: Git keeps it in `.git/COMMIT_EDITMSG` (git-commit(1), "FILES").
 fn is_tracked(row: &File) -> bool
     ensures { result ≡ is_tracked row.now }
 {

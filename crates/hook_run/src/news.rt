@@ -1,4 +1,4 @@
-//! What is said of a run while it goes on.
+//! What is reported of a run while it goes on.
 
 ghost use Rattle.std.specs.Prelude.{◌≡◌};
 ghost use Rattle.child_port.specs.Telling.{SameTells};
@@ -10,9 +10,10 @@ use child_port::{Children, News};
 use hook_base::OutOfMemory;
 use report_text::hook_texts;
 
-/// Says to whoever starts the children, where it hears that, how the run stands: what the report says of the hooks that have ended since
-/// so many had, and which hook the next child is of. The answer is how many have ended. Where memory is refused nothing is said of
-/// them.
+/// Reports to the starter of the children, if it listens, how the run goes on. It reports the texts of the
+/// hooks that have ended, but for the first `ended` of them, and the hook of the next child. The answer is
+/// how many hooks have ended, or `ended` if the starter doesn't listen. If memory is refused, their texts
+/// aren't reported.
 pub(crate) fn tell_news<C: Children>(children: &mut C, plan: &RunPlan, ended: usize) -> usize
     ensures calls { C.call_count children.new ≡ C.call_count children.old }
     ensures faults { C.fault_count children.new ≡ C.fault_count children.old }
@@ -30,7 +31,7 @@ pub(crate) fn tell_news<C: Children>(children: &mut C, plan: &RunPlan, ended: us
     plan.done.results.len()
 }
 
-// What the report says of the hooks that have ended, but for so many of them.
+// The report's texts of the hooks that have ended, but for the first `ended` of them.
 fn report_from(plan: &RunPlan, ended: usize) -> Result<Vec<u8>, OutOfMemory> {
     let results = plan.done.results.as_slice();
     let alloc = *plan.course.hooks.allocator();
@@ -41,7 +42,7 @@ fn report_from(plan: &RunPlan, ended: usize) -> Result<Vec<u8>, OutOfMemory> {
     )
 }
 
-// That the next child is of the hook that waits.
+// Says that the next child belongs to the hook that waits.
 fn hook_news<'n>(plan: &RunPlan, waiting: &'n Waiting) -> News<'n> {
     News::Hook {
         place: plan.place,

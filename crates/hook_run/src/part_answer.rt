@@ -1,4 +1,4 @@
-//! How a part of a run comes to its outcome: from a child, or from what is remembered.
+//! How a part of a run gets its outcome: from a child, or from the cache.
 
 ghost use Rattle.std.specs.Prelude.{◌≡◌, ◌≢◌, ◌⊎◌, ◌+◌, ◌-◌, ◌^◌, ◌<◌, ◌∷◌, [], IfOk, IfErr, OnOk, OnErr, false};
 ghost use Rattle.child_port.specs.Outcomes.{faults_in};
@@ -18,8 +18,8 @@ use child_port::{Answer, Children, Outcome, is_stray};
 use hook_base::{Text, Tree};
 use result_book::{Book, BookFault};
 
-/// What comes of the part that the plan needs. It is looked up first. What is remembered for it is its outcome where that serves
-/// the run; else a child is started for it.
+/// The outcome of the part that the plan needs. The part is looked up first. A cached result is its outcome
+/// if the run may use it; otherwise a child is started.
 pub(crate) fn answer_part<C: Children, B: Book>(
     children: &mut C,
     book: &mut B,
@@ -49,7 +49,7 @@ pub(crate) fn answer_part<C: Children, B: Book>(
     })
 }
 
-// Starts a child for the part that the plan needs, for which this was found, and puts what it answers.
+// Starts a child for the part that the plan needs, and caches its answer. `found` is what the look-up gave.
 fn start_part<C: Children, B: Book>(
     children: &mut C,
     book: &mut B,
@@ -94,7 +94,7 @@ fn outcome_of<C: Children>(children: &mut C, plan: &RunPlan) -> Result<Outcome, 
     Ok(outcome)
 }
 
-// Puts a completed answer that changes the seen files alone. Nothing else is remembered.
+// Caches a completed answer that changes only seen files. Nothing else is cached.
 fn put_outcome<B: Book>(
     book: &mut B,
     words: &[Text],
@@ -118,7 +118,7 @@ fn put_outcome<B: Book>(
     }
 }
 
-// Whether a completed answer is another than the one that was found.
+// Whether a completed answer differs from the one that was found.
 fn is_other(found: &Option<Answer>, outcome: &Outcome) -> bool
     ensures { IsMarked found.now outcome.now result }
 {

@@ -1,14 +1,14 @@
-//! What came of a part.
+//! The outcome of a part.
 
 use child_port::Outcome;
 
-/// What came of a part of a run.
+/// The outcome of a part of a run.
 #[derive(Drop)]
 pub(crate) struct PartOutcome {
-    /// What its child told, or what was remembered of an earlier one.
+    /// What its child reported, or the cached result.
     pub(crate) outcome: Outcome,
-    /// Whether that is another answer than the one that was remembered.
+    /// Whether that is another answer than the cached one.
     pub(crate) unsteady: bool,
-    /// Whether it is what was remembered, so that no child was started.
+    /// Whether it is the cached result, so that no child was started.
     pub(crate) reused: bool,
 }

@@ -27,9 +27,9 @@ use report_text::Ending;
 use std::alloc::Global;
 use std::marker::Model;
 
-/// The plan of a run: which child it needs next, and in the end what the run gives. It holds all that it hands out, so that
-/// only [`begin`](RunPlan::begin) and [`tell`](RunPlan::tell) take memory. Contracts see what is done, and what is left of
-/// the hook that it stands at and behind it.
+/// The plan of a run: which child it needs next, and in the end what the run gives. It holds all that it
+/// hands out, so only [`begin`](RunPlan::begin) and [`tell`](RunPlan::tell) take memory. Contracts see what
+/// is done, what is left of the hook that waits, and the hooks after it.
 #[derive(Drop)]
 pub struct RunPlan<'a> {
     pub(crate) course: Course<'a>,
@@ -52,13 +52,14 @@ impl<'a> Model for RunPlan<'a> {
 }
 
 impl<'a> RunPlan<'a> {
-    /// The plan of a run of the configuration's hooks on the files of the tree. It goes through the hooks of the stage, those
-    /// of one name where `only` has one, in the order of the configuration. A hook with a name in `skip` is skipped, and so
-    /// is one without selected files, unless it always runs. After a hook that failed no other is run where the configuration
-    /// or that hook has `fail_fast`.
+    /// The plan of a run of the configuration's hooks on the files of the tree. It goes through the hooks of
+    /// the stage in the order of the configuration; if `only` has a name, only through those of that name. A
+    /// hook with a name in `skip` is skipped, and so is one without selected files, unless it has
+    /// `always_run`. After a failed hook no other is run if the configuration or that hook has `fail_fast`.
+    /// These are the rules of `run` and `_run_hooks` in `pre_commit.commands.run`.
     ///
-    /// `NoSuchHook` exactly where `only` has a name that no hook of the stage has (a hook in `skip` counts too); else `OutOfMemory`
-    /// where memory is refused. `Book` and `Spent` are never answered here.
+    /// `NoSuchHook` exactly if `only` has a name that no hook of the stage has (a hook in `skip` counts too).
+    /// Otherwise `OutOfMemory` if memory is refused. `Book` and `Spent` never come here.
     pub fn begin(
         alloc: Global,
         config: &'a Config,
@@ -77,7 +78,7 @@ impl<'a> RunPlan<'a> {
         Ok(plan)
     }
 
-    /// What the plan needs now. It takes no memory.
+    /// What the plan needs. It takes no memory.
     pub fn next(&self) -> Need
         ensures { result ≡ need_of self.now }
     {
@@ -98,7 +99,7 @@ impl<'a> RunPlan<'a> {
         }
     }
 
-    /// The files that the child sees which the plan needs. It takes no memory.
+    /// The files that the needed child sees. It takes no memory.
     pub fn seen(&self) -> &Tree
         requires { need_of self.now ≡ Need.Child }
         ensures { result.now ≡ seen_of_plan self.now }
@@ -109,7 +110,7 @@ impl<'a> RunPlan<'a> {
         }
     }
 
-    /// The tree that the child runs on which the plan needs. It takes no memory.
+    /// The tree on which the needed child runs. It takes no memory.
     pub fn tree(&self) -> &Tree
         requires { need_of self.now ≡ Need.Child }
         ensures { result.now ≡ tree_of_plan self.now }
@@ -117,8 +118,8 @@ impl<'a> RunPlan<'a> {
         &self.done.tree
     }
 
-    /// The plan behind the child that it needs, of which this is the outcome. `OutOfMemory` where memory is refused, and the
-    /// plan is gone then. Each outcome that is told leaves fewer parts, so that the plan is over at some time.
+    /// The plan after the child that it needs, with this outcome of the child. `OutOfMemory` if memory is
+    /// refused; the plan is gone then. Each outcome leaves fewer parts, so the plan is over at some time.
     pub fn tell(self, outcome: Outcome) -> Result<RunPlan<'a>, OutOfMemory>
         requires { need_of self ≡ Need.Child }
         ensures after { IfOk result (IsPlanAfter self.entry outcome false) }
@@ -127,8 +128,8 @@ impl<'a> RunPlan<'a> {
         self.tell_marked(outcome, false)
     }
 
-    /// The plan behind the part that it needs, of which this is the outcome. `unsteady` says whether that is another answer
-    /// than the remembered one. `OutOfMemory` where memory is refused, and the plan is gone then.
+    /// The plan after the part that it needs, with this outcome of the part. `unsteady` says whether that is
+    /// another answer than the cached one. `OutOfMemory` if memory is refused; the plan is gone then.
     pub(crate) fn tell_marked(
         self,
         outcome: Outcome,
@@ -209,7 +210,7 @@ fn plan_of<'a>(
     advance(alloc, course, done, files, 0)
 }
 
-// The plan behind an outcome for the hook that waits.
+// The plan after an outcome of the part that waits.
 fn told<'a>(
     course: Course<'a>,
     done: Progress,
@@ -235,7 +236,7 @@ fn told<'a>(
     plan_at(alloc, course, done, files, place, work)
 }
 
-// The plan of a hook that goes on from here.
+// The plan in which this hook goes on.
 fn plan_at<'a>(
     alloc: Global,
     course: Course<'a>,
@@ -267,7 +268,7 @@ fn plan_at<'a>(
     }
 }
 
-// The plan behind a hook that ends so.
+// The plan after a hook that ends so.
 fn plan_behind_hook<'a>(
     alloc: Global,
     course: Course<'a>,

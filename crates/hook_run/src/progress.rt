@@ -1,4 +1,4 @@
-//! What the hooks of a run that are done left.
+//! What the finished hooks of a run left.
 
 ghost use Rattle.std.specs.Prelude.{◌≡◌, IfOk};
 ghost use Rattle.child_port.specs.Outcomes.{after_outcome};
@@ -12,8 +12,8 @@ use hook_config::Hook;
 use report_text::{Ending, HookResult};
 use std::alloc::Global;
 
-/// What the hooks that are done left: their results, the ids of the unsteady ones, and the tree. While a hook has children,
-/// the tree is what its parts that are told left of it.
+/// What the finished hooks left: their results, the ids of the unsteady ones, and the tree. While a hook has
+/// children, the tree is what its finished parts left.
 #[derive(Drop)]
 pub(crate) struct Progress {
     pub(crate) results: Items<HookResult>,
@@ -21,8 +21,8 @@ pub(crate) struct Progress {
     pub(crate) tree: Tree,
 }
 
-/// What is left behind a hook that ends so. `unsteady` says whether one of its parts gave another answer than the remembered
-/// one.
+/// What is left after a hook that ends so. `unsteady` says whether one of its parts gave another answer than
+/// the cached one.
 pub(crate) fn progress_with(
     alloc: Global,
     done: Progress,
@@ -61,7 +61,7 @@ fn result_of(alloc: Global, hook: &Hook, ending: Ending) -> Result<HookResult, O
     })
 }
 
-/// What is left behind a part with this outcome: its changes are applied, and the tree keeps their bytes.
+/// What is left after a part with this outcome: its changes are applied, and the tree keeps their bytes.
 pub(crate) fn progress_after(done: Progress, outcome: Outcome) -> Result<Progress, OutOfMemory>
     ensures { IfOk result (λ after. after ≡ on_tree done (after_outcome done.tree outcome)) }
 {
@@ -80,7 +80,7 @@ pub(crate) fn progress_after(done: Progress, outcome: Outcome) -> Result<Progres
     })
 }
 
-/// The candidates' files behind a part with this outcome, with their tags.
+/// The candidates' files after a part with this outcome, with their tags.
 pub(crate) fn files_after(
     files: CandidateFiles,
     outcome: &Outcome,

@@ -1,4 +1,4 @@
-//! The columns of a run's report, and whether it passed.
+//! The width of a run's report, and whether the run passed.
 
 ghost use Rattle.std.specs.Prelude.{◌≡◌, ◌≤◌, All, IfOk, length, map};
 ghost use Rattle.hook_config.specs.Limits.{most_text_bytes};
@@ -17,7 +17,8 @@ pub fn has_passed(results: &[HookResult]) -> bool
     results.iter().all(|hook| !hook.ending.is_failed())
 }
 
-/// The columns of the report of a run that goes through these hooks.
+/// The width in columns of the report of a run through these hooks, skipped ones included
+/// (`pre_commit.commands.run._compute_cols`).
 pub(crate) fn columns_of(alloc: Global, hooks: &[&Hook]) -> Result<usize, OutOfMemory>
     ensures { IfOk result (λ columns. columns ≡ columns_of (map (λ hook. hook.now.name) hooks.now)) }
 {

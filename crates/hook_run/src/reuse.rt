@@ -1,24 +1,24 @@
-//! Which remembered answers serve a run.
+//! Which cached results a run may use.
 
 ghost use Rattle.std.specs.Prelude.{◌≡◌};
 ghost use Rattle.hook_run.specs.Reuses.{is_pass, serves};
 
 use child_port::Answer;
 
-/// Which remembered answers serve a run. Where one serves, it is the outcome of its part; where it doesn't, a child is started, and
-/// what that answers takes its place.
+/// Which cached results a run may use. A result that it may use is the outcome of its part. Otherwise a child
+/// is started, and its answer takes the result's place.
 #[derive(Clone, Copy, Debug, PartialEq, Eq)]
 pub enum Reuse {
     /// Each.
     All,
-    /// Those that passed: with status 0 and without changes. So no failure comes from what is remembered.
+    /// Those that passed, with status 0 and without changes. So no failure comes from the cache.
     Passed,
     /// None.
     Nothing,
 }
 
 impl Reuse {
-    /// Whether this answer serves, where it is remembered for a part.
+    /// Whether the run may use this answer if it is cached for a part.
     pub(crate) fn serves(self, answer: &Answer) -> bool
         ensures { result ≡ serves self answer.now }
     {

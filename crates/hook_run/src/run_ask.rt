@@ -9,12 +9,13 @@ use hook_config::Stage;
 pub struct RunAsk {
     /// The stage whose hooks are run.
     pub stage: Stage,
-    /// The paths that hooks may get, in any order, also more than once, and also where the tree has no such file.
+    /// The paths that hooks may get, in any order. A path may occur more than once, and the tree may have no
+    /// such file.
     pub candidates: Items<RepoPath>,
     /// The id or alias of the hooks that are run, or `None` for all of the stage. The empty text is no alias.
     pub only: Option<Text>,
     /// The ids and aliases of hooks that are skipped. The empty text is no alias.
     pub skip: Items<Text>,
-    /// Which remembered answers serve it.
+    /// Which cached results it may use.
     pub reuse: Reuse,
 }

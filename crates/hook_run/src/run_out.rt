@@ -8,13 +8,13 @@ use report_text::HookResult;
 pub struct RunOut {
     /// Whether no hook failed.
     pub passed: bool,
-    /// What is reported of the hooks.
+    /// The report on the hooks.
     pub report: Bytes,
-    /// The result of each hook, in the order of the configuration, up to the last that is run.
+    /// The result of each hook, in the order of the configuration, up to the last one that is run.
     pub results: Items<HookResult>,
     /// The files as the run left them.
     pub tree: Tree,
-    /// The ids of the hooks for which a command was started although an answer was remembered at that moment, and that answered
-    /// otherwise, in the order of the configuration.
+    /// The ids of the unsteady hooks, in the order of the configuration. For such a hook a command was
+    /// started although a result was cached at that moment, and it answered otherwise.
     pub unsteady: Items<Text>,
 }

@@ -1,4 +1,4 @@
-//! A run over children and what is remembered of their answers.
+//! A run over children and their cached results.
 
 ghost use Rattle.std.specs.Prelude.{◌≡◌, ◌↔◌, ◌⊎◌, ◌+◌, ◌-◌, ◌^◌, ◌∷◌, [], min, IfOk, IfErr, true};
 ghost use Rattle.child_port.specs.Telling.{SameTells};
@@ -23,16 +23,22 @@ use hook_config::Config;
 use result_book::Book;
 use std::alloc::Global;
 
-/// Runs the configuration's hooks on the files of the tree, as [`RunPlan::begin`] says. The words and the seen files of each
-/// part are looked up in the book, whatever serves the run. Where an answer is remembered that serves, the part has it, changes
-/// included, and no child is started; else one is. A completed answer that changes the seen files alone is put in the book, in
-/// place of an earlier one; a fault never is. Where a child was started although an answer was remembered at that moment, its hook
-/// is unsteady if it answered otherwise.
+/// Runs the configuration's hooks on the files of the tree, as [`RunPlan::begin`] says. The words and the
+/// seen files of each part are looked up in the book, even if the run may use no cached result. If the run
+/// may use the result that is found, the part has it, changes included, and no child is started. Otherwise a
+/// child is started.
 ///
-/// `NoSuchHook` exactly where `only` has a name that no hook of the stage has; then `OutOfMemory` where memory is refused, `Book`
-/// where the book refuses, and `Spent` where a child is needed and the children have told as many outcomes as can be counted. A
-/// refusal leaves the children with the outcomes that they have told, with which a run begins, and the book with the rows that
-/// were found and the answers that were put by then, each in front of those before it.
+/// A completed answer that changes only seen files is put in the book, in place of an earlier one. A fault
+/// never is. A hook is unsteady if a child was started for it although a result was cached at that moment,
+/// and the child answered otherwise.
+///
+/// `NoSuchHook` exactly if `only` has a name that no hook of the stage has. Then come `OutOfMemory` if memory
+/// is refused, and `Book` if the book refuses. `Spent` comes if a child is needed and the children have
+/// reported as many outcomes as can be counted, 2^64 - 1.
+///
+/// A refusal leaves the children with the outcomes that they have reported; a run begins with these. It
+/// leaves the book with the rows that were found and the answers that were put by then, each in front of
+/// those before it.
 pub fn run_hooks<C: Children, B: Book>(
     alloc: Global,
     children: &mut C,
@@ -48,7 +54,8 @@ pub fn run_hooks<C: Children, B: Book>(
     ensures no_hook { (result ≡ Err RunRefusal.NoSuchHook) ↔ (names_no_hook config.now ask.now ≡ true) }
     ensures refused { IfErr result (IsOfBook B.refuses) }
 
-    // What the book remembers afterwards was remembered before, or was told, after a refusal too; and so is what a crash leaves.
+    // What the book caches afterwards was cached before or was reported, even after a refusal. The same holds
+    // for what a crash leaves.
     ensures told { AddsTold (C.tells children.old) (B.contents book.old) (B.contents book.new) }
     ensures left { (left : Contents) → B.leaves book.new left → B.leaves book.old left ⊎ AddsTold (C.tells children.old) (B.contents book.old) left }
     ensures rest { B.rests book.old book.new }
@@ -58,7 +65,7 @@ pub fn run_hooks<C: Children, B: Book>(
     run_plan(children, book, ask.reuse, plan)
 }
 
-// Completes the plan with what comes of its parts.
+// Completes the plan with the outcomes of its parts.
 fn run_plan<C: Children, B: Book>(
     children: &mut C,
     book: &mut B,
@@ -87,8 +94,8 @@ fn run_plan<C: Children, B: Book>(
     })
 }
 
-// What comes of the part that the plan needs, as `answer_part` says. How the run stands is said first, and how many hooks have ended
-// is noted.
+// The outcome of the part that the plan needs, as `answer_part` says. The progress of the run is reported
+// first, and `ended` is set to how many hooks have ended.
 fn answer_told<C: Children, B: Book>(
     children: &mut C,
     book: &mut B,
@@ -112,7 +119,7 @@ fn answer_told<C: Children, B: Book>(
     }
 }
 
-// How many parts were answered from what is remembered, with one more that was or wasn't.
+// How many parts used a cached result, with one more part that did or didn't.
 fn reused_with(reused: u64, is_reused: bool) -> u64
     ensures { result ≡ min (reused + one_if is_reused) (2 ^ 64 - 1) }
 {

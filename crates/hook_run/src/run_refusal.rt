@@ -15,19 +15,19 @@ pub enum RunRefusal {
     /// Memory was refused.
     #[error("out of memory")]
     OutOfMemory,
-    /// The remembered answers refuse, for another reason than want of memory.
+    /// The book refuses, for another reason than lack of memory.
     #[error("the remembered answers: {0}")]
     Book(BookFault),
-    /// Hooks are asked for by a name that no hook of the stage has.
+    /// The run asks for a name that no hook of the stage has.
     #[error("no hook of the stage has that id or alias")]
     NoSuchHook,
-    /// A child is needed, and the children have told as many outcomes as can be counted.
+    /// A child is needed, and the children have reported as many outcomes as can be counted, 2^64 - 1.
     #[error("no more children can be counted")]
     Spent,
 }
 
 impl RunRefusal {
-    /// The refusal's number: 1, 2, 3 or 4.
+    /// The refusal's number, from 1 to 4 (docs/REFERENCE.md, "A run that is asked for").
     pub fn number(&self) -> u8
         ensures { result ≡ number_of self.now }
     {
@@ -65,7 +65,7 @@ impl From<BookFault> for RunRefusal {
 
     ghost from_gives = { λ fault refusal. refusal ≡ of_book fault };
 
-    /// Want of memory is `OutOfMemory`, and every other fault `Book`.
+    /// Lack of memory is `OutOfMemory`, and every other fault `Book`.
     fn from(fault: BookFault) -> Self {
         match fault {
             BookFault::OutOfMemory => RunRefusal::OutOfMemory,

@@ -1,9 +1,9 @@
-//! Where a plan stands.
+//! At what point a plan is.
 
 use crate::waiting::Waiting;
 use hook_base::Bytes;
 
-/// Where a plan stands.
+/// At what point a plan is.
 #[derive(Drop)]
 pub(crate) enum Standing<'a> {
     /// At a hook with children, before one of its parts.

@@ -6,7 +6,7 @@ use hook_base::{Items, Text, Tree};
 /// A hook whose next part waits for its outcome.
 #[derive(Drop)]
 pub(crate) struct Waiting<'a> {
-    /// The hook, of which that part has begun.
+    /// The hook. That part counts as begun.
     pub(crate) work: Work<'a>,
     /// The command of that part, with its names.
     pub(crate) command: Items<Text>,

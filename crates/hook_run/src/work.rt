@@ -24,8 +24,8 @@ pub(crate) struct Work<'a> {
     pub(crate) hook: &'a Hook,
     /// The tree on which the hook began.
     pub(crate) before: Tree,
-    /// The paths of the further files that its children see, of that tree. They aren't looked for anew for each part: parts add
-    /// no files.
+    /// The paths of the further files that its children see, of that tree. They aren't looked for again for
+    /// each part, since parts add no files.
     pub(crate) further: Items<RepoPath>,
     /// The words of its command, without names.
     pub(crate) words: Items<Text>,
@@ -35,11 +35,11 @@ pub(crate) struct Work<'a> {
     pub(crate) cuts: Items<Cut>,
     /// How many of the parts have begun.
     pub(crate) begun: usize,
-    /// What those that are told came to.
+    /// What is gathered of the parts with an outcome.
     pub(crate) gathered: Gathered,
 }
 
-/// How the hook goes on from this tree: its next part waits, or it has ended where no part is left.
+/// How the hook goes on from this tree: its next part waits, or it has ended if no part is left.
 pub(crate) fn go_on<'a>(
     alloc: Global,
     work: Work<'a>,
@@ -55,7 +55,7 @@ pub(crate) fn go_on<'a>(
     }
 }
 
-// The next part of the hook, which isn't begun yet, waits.
+// The next part of the hook waits. It hasn't begun.
 fn waits<'a>(alloc: Global, work: Work<'a>, tree: &Tree) -> Result<Begun<'a>, OutOfMemory>
     requires left { work.begun < length work.cuts }
     requires further { AreFurther work.hook.now work.further tree.now }
@@ -85,7 +85,7 @@ fn seen_by(alloc: Global, work: &Work, command: &[Text], tree: &Tree) -> Result<
     seen_of(alloc, command, further, whole, tree)
 }
 
-// The hook has ended, as what its parts came to says.
+// The hook has ended, with what its parts gathered.
 fn ended<'a>(work: Work<'a>, tree: &Tree) -> Begun<'a>
     requires { length work.cuts ≤ work.begun }
     ensures { HasGoneOn (at_work work.entry) tree.now result }
@@ -126,7 +126,7 @@ fn names_of(names: &[RepoPath], cut: Cut) -> &[RepoPath]
     }
 }
 
-// The words with names behind them.
+// The words, followed by the names.
 fn command_with(
     alloc: Global,
     words: &[Text],
@@ -141,7 +141,8 @@ fn command_with(
     Ok(Items::from(command))
 }
 
-/// The hook behind a part of it with this outcome. `unsteady` says whether that is another answer than the remembered one.
+/// The hook after one of its parts with this outcome. `unsteady` says whether that is another answer than the
+/// cached one.
 pub(crate) fn work_with<'a>(
     work: Work<'a>,
     outcome: &Outcome,

@@ -1,4 +1,4 @@
-//! The calls by their names.
+//! The calls by name.
 
 use crate::{checks, command_lines, fault_texts, host_commands, messages, plays, runs, try_faults};
 use std::alloc::Global;
@@ -13,7 +13,8 @@ impl Answers for Calls {
     }
 }
 
-// The calls stand in several functions, each of which knows the next, since one with many arms takes the checker long.
+// The calls are spread over several functions, each of which calls the next: one `match` with many arms takes
+// the checker long.
 fn of_runs(alloc: Global, call: &str, arguments: &[Vec<u8>]) -> Result<Answer, Stop> {
     match call {
         "try_over" => runs::over_files(alloc, arguments),

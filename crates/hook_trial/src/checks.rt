@@ -18,13 +18,13 @@ fn printed(alloc: Global, config: &Config) -> Result<Answer, Stop> {
     Ok(Answer::new(alloc).bytes(text.as_slice()))
 }
 
-// A refusal's number, name and place.
+// The number, name and place of a refusal.
 fn refusal(alloc: Global, fault: ConfigFault) -> Answer {
     let answer = Answer::new(alloc).shown(fault.number());
     answer.texts(&[" ", fault.name(), " at "]).shown(fault.at)
 }
 
-/// `most_configuration_bytes`: the greatest number of bytes of a configuration.
+/// `most_configuration_bytes`: the most bytes that a configuration may have.
 pub(crate) fn most_bytes(alloc: Global, arguments: &[Vec<u8>]) -> Result<Answer, Stop> {
     match arguments {
         [] => Ok(Answer::new(alloc).shown(MOST_CONFIGURATION_BYTES)),

@@ -1,15 +1,15 @@
-//! The table by which the children of a row answer, from the row's first words.
+//! The table from which the children of a row answer, read from the row's first words.
 //!
-//! `child ROW` is a row of the table (`child_rows.rt` of `trial_rows`). `failing FAULT ROW` is one whose child fails, of which
-//! the words and the seen files count. Rows with equal words and equal seen files take turns. A child that has no row isn't started.
-//! Where `spent` is the first word, no child can be counted.
+//! `child ROW` is a row of the table (`child_rows.rt` of `trial_rows`). `failing FAULT ROW` is one whose
+//! child fails; only its words and seen files matter. Rows with equal words and equal seen files take turns.
+//! A child without a row isn't started. If `spent` is the first word, no child can be counted.
 
 use crate::turn_children::{Turn, TurnChildren};
 use child_port::{Outcome, TableRow};
 use std::alloc::Global;
 use trial_rows::{Stop, Words, fault_of, row_of};
 
-/// The children by the rows that the first words give.
+/// The children that answer from the rows in the first words.
 pub(crate) fn children_of(alloc: Global, words: &mut Words<'_>) -> Result<TurnChildren, Stop> {
     let is_spent = words.take("spent")?;
     let mut turns = Vec::new(alloc);
@@ -26,7 +26,7 @@ pub(crate) fn children_of(alloc: Global, words: &mut Words<'_>) -> Result<TurnCh
     Ok(children)
 }
 
-// The next row of the table, if it goes on.
+// The next row of the table, if there is one.
 fn turn_of(alloc: Global, words: &mut Words<'_>) -> Result<Option<Turn>, Stop> {
     if words.take("child")? {
         return Ok(Some(answering(alloc, words.text()?)?));

@@ -1,4 +1,4 @@
-//! What a line of words asks for.
+//! What a command line asks for.
 
 use hook_base::{Mode, Text};
 use hook_cli::{
@@ -8,8 +8,9 @@ use hook_cli::{
 use std::alloc::Global;
 use trial_rows::{Answer, Stop, texts_of};
 
-/// `line_of WORD..`: the command with its words, a line each, of a run behind its stage, its files and how it is made; or the kind of `clap`'s error, and its text.
-/// A color that isn't `auto` stands at the end of the first line.
+/// `line_of WORD..`: the command with its words, a line each, or the kind of `clap`'s error and its text. For
+/// a run the stage and the files come first, and then how it is made. A color other than `auto` is at the end
+/// of the first line.
 pub(crate) fn asked(alloc: Global, arguments: &[Vec<u8>]) -> Result<Answer, Stop> {
     let words = texts_of(alloc, arguments)?;
     match line_of(alloc, words.as_slice()) {
@@ -121,7 +122,7 @@ fn word_of_commit(no_verify: bool) -> &'static str {
     }
 }
 
-// How a run is made, behind its stage and its files.
+// How a run is made, after its stage and its files.
 fn with_how(answer: Answer, fresh: bool, options: RunChoice) -> Answer {
     let fresh = if fresh { " fresh" } else { "" };
     let cautious = if options.cautious { " cautious" } else { "" };

@@ -1,4 +1,4 @@
-//! What refusals are shown as that no other row shows.
+//! The texts of the refusals that no other row shows.
 
 use arg_partition::WordsFault;
 use commit_flow::HostRefusal;

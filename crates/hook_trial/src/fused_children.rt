@@ -1,5 +1,6 @@
-//! Children of which one call fails, from a row's first words: behind `fused` stand the number of that call and its fault, and then,
-//! as without that word, the table by which the others answer (`child_tables.rt`).
+//! Children with one call that fails, read from a row's first words. After `fused` come the number of that
+//! call and its fault. Then, as without that word, comes the table from which the others answer
+//! (`child_tables.rt`).
 
 use crate::child_tables::children_of;
 use crate::turn_children::TurnChildren;
@@ -7,7 +8,7 @@ use child_port::{Fault, FuseChildren};
 use std::alloc::Global;
 use trial_rows::{Stop, Words, fault_of};
 
-/// The children by the first words.
+/// The children that the first words describe.
 pub(crate) fn fused_children_of(
     alloc: Global,
     words: &mut Words<'_>,
@@ -17,7 +18,7 @@ pub(crate) fn fused_children_of(
     Ok(FuseChildren::new(children, kth, fault))
 }
 
-// Which call fails, and with what. Without the word none does.
+// Which call fails, and its fault. Without the word none fails.
 fn fuse_of(words: &mut Words<'_>) -> Result<(u64, Fault), Stop> {
     if !words.take("fused")? {
         return Ok((0, Fault::NotStarted));

@@ -1,6 +1,10 @@
-//! The words by which a row asks for runs and commits: STAGE is `pre-commit` or `manual`; FILES is `changed`, `all` or the path of
-//! the one that is named; ONLY names the hooks to run, or is empty; HOW of a run is `remembering`, or one or two of the words
-//! `fresh`, `cautious` and `verbose`; HOW of a commit is `verified` or `unverified`.
+//! The words by which a row asks for runs and commits:
+//!
+//! - STAGE is `pre-commit` or `manual`;
+//! - FILES is `changed`, `all` or the path of the one file that is named;
+//! - ONLY is the hooks to run, or is empty;
+//! - HOW of a run is `remembering`, or one or two of the words `fresh`, `cautious` and `verbose`;
+//! - HOW of a commit is `verified` or `unverified`.
 
 ghost use Rattle.hook_cli.specs.CommandOver.{IsNamed};
 
@@ -89,7 +93,7 @@ pub(crate) fn files_of(alloc: Global, words: &mut Words<'_>) -> Result<Which, St
     }
 }
 
-/// The files of a line, as the host has them.
+/// The files of a command line, from those that the host is asked for.
 pub(crate) fn chosen_files(which: Which) -> FileChoice
     ensures { IsNamed result }
 {
@@ -100,7 +104,7 @@ pub(crate) fn chosen_files(which: Which) -> FileChoice
     }
 }
 
-/// The stage of a line, as the host has it.
+/// The stage of a command line, from the one that the host is asked for.
 pub(crate) fn chosen_stage(stage: AskStage) -> StageChoice {
     match stage {
         AskStage::PreCommit => StageChoice::PreCommit,

@@ -1,14 +1,25 @@
-//! Commands over a repository that is kept in memory, by a host that remembers answers as long as it lives.
+//! Commands over a repository in memory, by a host that caches results as long as it lives.
 //!
-//! A row's arguments are steps, each a word and what it needs. `stage MODE PATH CONTENTS`, `unstage PATH`,
-//! `commit MESSAGE` and `fixes FIX..` (one text, a fix a line: a path alone is a file that is gone, and behind a path and a tab
-//! stand its other bytes) set the store up, which is empty at first, for a new host. `line OUT ERR COMMAND ..` plays a command
-//! (`host_lines.rt`) over writers of two habits (`host_writers.rt`), and is answered by the exit status and how many bytes stand
-//! on each writer, and after a line end by these bytes; and so is `several ERR COUNT EDIT..` (`host_edits.rt`). `store` is answered by the staged files, those of HEAD, and how many
-//! fixes and commits there are; `forget` by how many answers are forgotten; and `counts` by how many children were started, how
-//! many of them failed and how many answers are remembered, and a line with the numbers of the rows by which children answered
-//! since the last such step, with `-` for one that has no row. From `spent` on no child can be counted any more. Before all of
-//! them may stand the table by which children answer (`child_tables.rt`).
+//! A row's arguments are steps, each a word and what it needs. The table from which children answer
+//! (`child_tables.rt`) may come before them. The store is empty at first, and these steps set it up for a new
+//! host:
+//!
+//! - `stage MODE PATH CONTENTS`, `unstage PATH` and `commit MESSAGE`;
+//! - `fixes FIX..`, one text with a fix on each line: a path alone is a file that is gone, and a path, a tab
+//!   and bytes are a file with these bytes.
+//!
+//! The other steps answer:
+//!
+//! - `line OUT ERR COMMAND ..` plays a command (`host_lines.rt`) over writers of two habits
+//!   (`host_writers.rt`). It answers the exit status and how many bytes are on each writer, and after a line
+//!   end these bytes;
+//! - `several ERR COUNT EDIT..` (`host_edits.rt`) answers in the same way;
+//! - `store` answers the staged files, those of HEAD, and how many fixes and commits there are;
+//! - `forget` answers how many cached results are removed;
+//! - `counts` answers how many children were started, how many of them failed, and how many results are
+//!   cached. A line follows with the numbers of the rows from which children answered since the last such
+//!   step; `-` is a child without a row;
+//! - after `spent` no child can be counted.
 
 ghost use Rattle.std.specs.Prelude.{◌≢◌, IfOk};
 ghost use Rattle.hook_base.specs.Paths.{message_path};
@@ -87,7 +98,7 @@ fn stepped(
     Ok(host)
 }
 
-// A new host of the store that a step sets up.
+// A new host of the store after a step that sets it up.
 fn set_up(alloc: Global, step: &str, words: &mut Words<'_>, store: Kept) -> Result<Played, Stop> {
     let mut store = store;
     match step {
@@ -168,7 +179,7 @@ fn tell_forgotten(host: &mut Played, told: &mut Answer) {
     *told = with_forgotten(taken(told), host);
 }
 
-// What is told so far, so that more is put behind it by value.
+// Takes the answer so far by value, so that more can be added to it.
 fn taken(told: &mut Answer) -> Answer {
     let fresh = Answer::new(told.alloc());
     mem::replace(told, fresh)

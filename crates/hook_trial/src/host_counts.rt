@@ -1,4 +1,4 @@
-//! What the rows tell of children and of what a host remembers of them.
+//! What the rows show of children and of the results that a host has cached.
 
 use crate::host_commands::Played;
 use crate::replies::with_refusal;
@@ -6,14 +6,14 @@ use crate::turn_children::TurnChildren;
 use child_port::Children;
 use trial_rows::Answer;
 
-/// Adds how many children were asked and how many of them failed, and how many answers are remembered.
+/// Adds how many children were asked for, how many of them failed, and how many results are cached.
 pub(crate) fn with_counts(answer: Answer, children: &impl Children, host: &Played) -> Answer {
     let answer = answer.shown(children.calls()).text(" calls, ");
     let answer = answer.shown(children.faults()).text(" faults, ");
     answer.shown(host.remembered()).text(" remembered\n")
 }
 
-/// Adds a line with the numbers of the rows by which children answered since this was asked last.
+/// Adds a line with the numbers of the rows from which children answered since the last such line.
 pub(crate) fn with_rows(answer: Answer, children: &mut TurnChildren) -> Answer {
     let mut answer = answer.text("rows");
     for row in children.take_rows().as_slice() {
@@ -29,7 +29,7 @@ fn with_row(answer: Answer, row: Option<usize>) -> Answer {
     }
 }
 
-/// Adds how many answers the host then forgets.
+/// Removes the host's cached results, and adds how many there were.
 pub(crate) fn with_forgotten(answer: Answer, host: &mut Played) -> Answer {
     match host.forget() {
         Ok(number) => answer.shown(number).text(" forgotten\n"),

@@ -1,5 +1,5 @@
-//! Several changes of the staged files at once: `several ERR COUNT EDIT..`, where ERR is the habit of the writer and an EDIT is
-//! `add MODE PATH CONTENTS` or `rm PATH`. They are answered as a line is.
+//! Several changes of the staged files at once: `several ERR COUNT EDIT..`. ERR is the habit of the writer,
+//! and an EDIT is `add MODE PATH CONTENTS` or `rm PATH`. They are answered as a line is.
 
 use crate::host_commands::Played;
 use crate::host_lines::tell_end;
@@ -10,7 +10,7 @@ use hook_cli::stage_over;
 use std::alloc::Global;
 use trial_rows::{Answer, Stop, Words, mode_of};
 
-/// Makes the changes, of which there is one at least.
+/// Makes the changes. There must be at least one.
 pub(crate) fn several_played(
     alloc: Global,
     words: &mut Words<'_>,

@@ -1,14 +1,15 @@
-//! What the rows tell of a file.
+//! What the rows show of a file.
 
 use hook_base::Mode;
 use trial_rows::Answer;
 
-// The most bytes of a file that are all told, and how many are told of each end of one that has more.
+// The most bytes of a file that are shown whole, and how many are shown of each end of a longer one.
 const MOST_TOLD_BYTES: usize = 4096;
 
 const END_BYTES: usize = 100;
 
-/// Adds a line with the mode, the path and the length of a file, and then its bytes, of a long one only the first and the last.
+/// Adds a line with the mode, the path and the length of a file, and then its bytes; of a long file only the
+/// first and the last ones.
 pub(crate) fn with_file(
     answer: Answer,
     list: &str,

@@ -1,8 +1,10 @@
-//! Commands over a repository, from the words of a row: `add MODE PATH CONTENTS`, `add_zeros MODE PATH COUNT`, `rm PATH`,
-//! `status`, `fixes`, `accept`, `cat PATH`, `cat_fixed PATH`, `cat_commit NUMBER PATH`, `log`, `show NUMBER`, `memory`, `limit NUMBER`,
-//! `forget`, `run STAGE FILES ONLY HOW SKIP` or `commit MESSAGE HOW SKIP`.
-//! MODE is `plain`, `executable` or `none`; SKIP is a list of the hooks that are skipped, with commas between them; the others are
-//! those of `host_asks.rt`.
+//! Commands over a repository, from the words of a row: `add MODE PATH CONTENTS`,
+//! `add_zeros MODE PATH COUNT`, `rm PATH`, `status`, `fixes`, `accept`, `cat PATH`, `cat_fixed PATH`,
+//! `cat_commit NUMBER PATH`, `log`, `show NUMBER`, `memory`, `limit NUMBER`, `forget`,
+//! `run STAGE FILES ONLY HOW SKIP` or `commit MESSAGE HOW SKIP`.
+//!
+//! MODE is `plain`, `executable` or `none`. SKIP is a list of the hooks to skip, separated by commas. The
+//! other words are those of `host_asks.rt`.
 
 ghost use Rattle.std.specs.Prelude.{IfOk};
 ghost use Rattle.hook_cli.specs.CommandOver.{IsOneCall, IsOverHost};
@@ -50,7 +52,7 @@ pub(crate) fn line_played(
     Ok(())
 }
 
-// The line of a command, but for the bytes of `add` and what runs skip.
+// The command line, without the bytes of `add` and the hooks that runs skip.
 fn line_of(alloc: Global, command: &str, words: &mut Words<'_>) -> Result<Line, Stop>
     ensures { IfOk result IsOverHost }
 {
@@ -166,7 +168,7 @@ fn zeros(alloc: Global, count: u32) -> Result<Vec<u8>, Stop> {
     Ok(bytes)
 }
 
-/// Tells how a command ended, and what stands on its writers.
+/// Adds how a command ended, and what is on its writers.
 pub(crate) fn tell_end(status: u8, out: HabitWriter, err: HabitWriter, told: &mut Answer) {
     let fresh = Answer::new(told.alloc());
     let answer = mem::replace(told, fresh);

@@ -1,4 +1,4 @@
-//! Writers of what commands over a repository print, each with a habit of its own.
+//! Writers for what commands over a repository print, each with a habit of its own.
 
 use std::alloc::Global;
 use std::io;
@@ -28,9 +28,14 @@ pub(crate) struct HabitWriter {
 }
 
 impl HabitWriter {
-    /// The writer of a habit: `all`; `one` byte a call; `interrupted`, at its first call and every second one after it;
-    /// `nothing`, whose calls take no byte; `unflushed`, which gives an error where it is flushed; `flushed`, which hands out
-    /// only what was flushed; or a number of bytes, after which it gives an error.
+    /// The writer of a habit:
+    ///
+    /// - `all`, or `one` byte for each call;
+    /// - `interrupted` at its first call and every second one after it;
+    /// - `nothing`, whose calls take no byte;
+    /// - `unflushed`, whose flush gives an error;
+    /// - `flushed`, which keeps only what was flushed;
+    /// - a number of bytes, after which it gives an error.
     pub(crate) fn of(alloc: Global, word: &[u8]) -> Result<HabitWriter, Stop> {
         Ok(HabitWriter {
             habit: habit_of(word)?,
@@ -41,7 +46,7 @@ impl HabitWriter {
         })
     }
 
-    /// How often it was flushed, where it hands out only what was flushed.
+    /// How often it was flushed, if it keeps only what was flushed.
     pub(crate) fn told_flushes(&self) -> Option<u32> {
         match self.habit {
             Habit::HandsOutFlushed => Some(self.flushes),
@@ -49,7 +54,7 @@ impl HabitWriter {
         }
     }
 
-    /// What it has taken, or of that what was flushed, where it hands out no more.
+    /// What it has taken, or only what was flushed if it keeps no more.
     pub(crate) fn into_bytes(self) -> Vec<u8> {
         let mut bytes = self.taken;
         if let Habit::HandsOutFlushed = self.habit {
@@ -58,7 +63,7 @@ impl HabitWriter {
         bytes
     }
 
-    // The most bytes that it takes at this call.
+    // The most bytes that it takes in this call.
     fn most_bytes(&self) -> io::Result<usize> {
         match self.habit {
             Habit::All | Habit::FailsAtFlush | Habit::HandsOutFlushed => Ok(usize::MAX),

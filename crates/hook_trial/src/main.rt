@@ -1,8 +1,9 @@
-//! The program `hook_trial`: plays calls on commands over a repository, on lines of words, on commits and on runs of `try`. Each is a
-//! line of standard input and is answered by a line, so that tables of cases can be compared with what the libraries answer.
+//! The program `hook_trial`: plays calls on commands over a repository, on command lines, on commits and on
+//! runs of `try`. Each call is a line of standard input and is answered by a line, so that tables of cases
+//! can be compared with what the libraries answer.
 //!
-//! How a line is written says the crate `trial_rows`. At a line that is no call the program ends with the exit status 2. Calls on
-//! configurations and on runs of hooks alone are played by `run_trial`.
+//! The crate `trial_rows` says how a line is written. At a line that isn't a call the program ends with the
+//! exit status 2. `run_trial` plays calls on configurations and on runs of hooks alone.
 #![tactic(auto)]
 
 mod calls;

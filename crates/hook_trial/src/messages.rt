@@ -10,7 +10,7 @@ pub(crate) fn begun(alloc: Global, arguments: &[Vec<u8>]) -> Result<Answer, Stop
     Ok(Answer::new(alloc).bytes(message.as_slice()))
 }
 
-/// `cleaned_message MESSAGE`: what is left of a message once its hooks are through.
+/// `cleaned_message MESSAGE`: the message that is left once its hooks are done.
 pub(crate) fn cleaned(alloc: Global, arguments: &[Vec<u8>]) -> Result<Answer, Stop> {
     let message = cleaned_message(alloc, only(arguments)?)?;
     Ok(Answer::new(alloc).bytes(message.as_slice()))

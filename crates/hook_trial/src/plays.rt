@@ -1,9 +1,9 @@
-//! Lists of commands that a host makes at one call, and what the host answers of itself then.
+//! Lists of commands that a host runs in one call, and what the host then answers about itself.
 //!
-//! A row's arguments may begin with its children (`fused_children.rt`). Then come the commands, `add MODE PATH CONTENTS`,
-//! `rm PATH`, `accept`, `run STAGE FILES ONLY HOW SKIP`, `commit MESSAGE HOW SKIP` (`host_lines.rt`) and `forget`, on a repository
-//! that is empty at first. They are answered by what `replies.rt` tells of each, by a line on the children and on what is
-//! remembered, and by the repository.
+//! A row's arguments may begin with its children (`fused_children.rt`). Then come the commands:
+//! `add MODE PATH CONTENTS`, `rm PATH`, `accept`, `run STAGE FILES ONLY HOW SKIP`, `commit MESSAGE HOW SKIP`
+//! (`host_lines.rt`) and `forget`. The repository is empty at first. The answer has what `replies.rt` shows
+//! of each command, a line on the children and the cached results, and the repository.
 
 use crate::fused_children::fused_children_of;
 use crate::host_asks::{asked_name, files_of, how_of, is_unverified, stage_of};
@@ -91,7 +91,7 @@ fn ask_of(alloc: Global, words: &mut Words<'_>) -> Result<HostAsk, Stop> {
     })
 }
 
-// The staged files, those of HEAD, the fixes, and each commit with its files.
+// Adds the staged files, those of HEAD, the fixes, and each commit with its files.
 fn with_repository(answer: Answer, host: &Played) -> Result<Answer, Stop> {
     let answer = with_tree(answer, "staged", &host.staged()?);
     let answer = with_tree(answer, "head", &host.head()?);
@@ -109,7 +109,7 @@ fn with_commits(answer: Answer, host: &Played) -> Result<Answer, Stop> {
     with_no_commits(answer, host)
 }
 
-// No commit has the number 0, and none the one behind the last.
+// Shows that there is no commit with the number 0, and none after the last one.
 fn with_no_commits(answer: Answer, host: &Played) -> Result<Answer, Stop> {
     let last = host.store().count_commits();
     let answer = with_committed(answer, &host.tree_of(0)?);

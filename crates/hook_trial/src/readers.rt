@@ -3,7 +3,7 @@
 use std::io;
 use std::io::{ErrorKind, Read};
 
-/// A reader that gives a few bytes a call, and an error at one call.
+/// A reader that gives a few bytes in each call, and an error in one of them.
 #[derive(Drop)]
 pub(crate) struct Pieces<'a> {
     pub(crate) left: &'a [u8],
@@ -38,7 +38,7 @@ impl Read for Pieces<'_> {
     }
 }
 
-/// A reader that gives one of its texts a call, an empty one too.
+/// A reader that gives one of its texts in each call, also an empty one.
 #[derive(Drop)]
 pub(crate) struct Texts<'a> {
     left: &'a [Vec<u8>],

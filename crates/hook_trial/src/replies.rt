@@ -1,4 +1,4 @@
-//! What the rows tell of the replies of a host: a line, and the reports behind it, each behind a line with its length.
+//! What the rows show of a host's replies: a line, and then the reports, each after a line with its length.
 
 use commit_flow::{HostRefusal, PostCommit, Reply};
 use hook_base::{Bytes, Change, Items, Text};
@@ -65,7 +65,7 @@ fn with_change(answer: Answer, change: &Change) -> Answer {
     }
 }
 
-/// Adds to a line the length of bytes, and then these.
+/// Adds the length of the bytes to a line, and then the bytes.
 pub(crate) fn with_length(answer: Answer, bytes: &[u8]) -> Answer {
     let answer = answer.text(" ").shown(bytes.len());
     answer.text("\n").bytes(bytes)

@@ -1,7 +1,7 @@
 //! Runs of a configuration over files without bytes, which need no child.
 //!
-//! A run's answer is a line with `passed`, `failed` or `refused`, and what was written. A refused run's line has the
-//! refusal, as `Debug` shows it, and how often the writer was called.
+//! A run's answer is a line with `passed`, `failed` or `refused`, and what was written. If the run is
+//! refused, the line also has the refusal, as `Debug` shows it, and how often the writer was called.
 
 use crate::readers::{Pieces, Texts};
 use crate::writers::{Flushed, Kept};
@@ -22,7 +22,7 @@ pub(crate) fn over_files(alloc: Global, arguments: &[Vec<u8>]) -> Result<Answer,
     kept(alloc, &mut reader, &mut writer, paths)
 }
 
-/// `try_failing_reader CALL CONFIGURATION PATH..`: the reader gives an error at the call of this number.
+/// `try_failing_reader CALL CONFIGURATION PATH..`: the reader gives an error in the call with this number.
 pub(crate) fn with_failing_reader(alloc: Global, arguments: &[Vec<u8>]) -> Result<Answer, Stop> {
     let [call, configuration, paths @ ..] = arguments else {
         return Err(Stop::BadLine);
@@ -32,7 +32,7 @@ pub(crate) fn with_failing_reader(alloc: Global, arguments: &[Vec<u8>]) -> Resul
     kept(alloc, &mut reader, &mut writer, paths)
 }
 
-/// `try_failing_writer CALL CONFIGURATION PATH..`: the writer gives an error at the call of this number.
+/// `try_failing_writer CALL CONFIGURATION PATH..`: the writer gives an error in the call with this number.
 pub(crate) fn with_failing_writer(alloc: Global, arguments: &[Vec<u8>]) -> Result<Answer, Stop> {
     let [call, configuration, paths @ ..] = arguments else {
         return Err(Stop::BadLine);
@@ -42,8 +42,8 @@ pub(crate) fn with_failing_writer(alloc: Global, arguments: &[Vec<u8>]) -> Resul
     kept(alloc, &mut reader, &mut writer, paths)
 }
 
-/// `try_texts TEXT..`: a run over no files, whose reader gives one of the texts a call. The first line ends with how often
-/// the reader was called.
+/// `try_texts TEXT..`: a run over no files, whose reader gives one of the texts in each call. The first line
+/// ends with how often the reader was called.
 pub(crate) fn of_texts(alloc: Global, arguments: &[Vec<u8>]) -> Result<Answer, Stop> {
     let mut reader = Texts::new(arguments);
     let mut writer = Kept::new(alloc);
@@ -66,7 +66,7 @@ pub(crate) fn with_bytes_left(alloc: Global, arguments: &[Vec<u8>]) -> Result<An
     Ok(told(answer, writer.bytes.as_slice()))
 }
 
-/// `try_flushed CONFIGURATION PATH..`: the writer hands out only what was flushed.
+/// `try_flushed CONFIGURATION PATH..`: the writer keeps only what was flushed.
 pub(crate) fn with_flushes(alloc: Global, arguments: &[Vec<u8>]) -> Result<Answer, Stop> {
     let [configuration, paths @ ..] = arguments else {
         return Err(Stop::BadLine);

@@ -5,7 +5,7 @@ use hook_config::{ConfigFault, ConfigKind};
 use std::alloc::Global;
 use trial_rows::{Answer, Stop, only, text_of};
 
-/// `try_fault NAME`: the refusal's number and name, and what it is shown as.
+/// `try_fault NAME`: the refusal's number and name, and how it is shown.
 pub(crate) fn told(alloc: Global, arguments: &[Vec<u8>]) -> Result<Answer, Stop> {
     let fault = fault_of(text_of(only(arguments)?)?).ok_or(Stop::BadLine)?;
     let answer = Answer::new(alloc).shown(fault.number());

@@ -1,17 +1,19 @@
-//! Children that answer by a table whose rows take turns, so that one may answer otherwise when it is started again.
+//! Children that answer from a table whose rows take turns, so that a child may answer otherwise when it is
+//! started again.
 
 ghost use Rattle.std.specs.Prelude.{◌+◌, ◌<◌, ◌^◌};
 
 use child_port::{Children, Fault, Outcome};
 use hook_base::{Items, OutOfMemory, Text, Tree};
 
-/// A row of the table: what becomes of a child of these words that has seen these files, when it is its turn.
+/// A row of the table: what becomes of a child of these words that has seen these files, when it is the row's
+/// turn.
 #[derive(Drop)]
 pub(crate) struct Turn {
     words: Items<Text>,
     seen: Tree,
     outcome: Outcome,
-    // How often it was its turn.
+    // How often it was the row's turn.
     count: u64,
 }
 
@@ -26,12 +28,12 @@ impl Turn {
     }
 }
 
-/// Children that answer by the rows with equal words and equal seen files in turn. Where there is no such row, the child isn't
-/// started.
+/// Children that answer from the rows with equal words and equal seen files in turn. If there is no such row,
+/// the child isn't started.
 #[derive(Drop)]
 pub(crate) struct TurnChildren {
     turns: Vec<Turn>,
-    // The row of each call, in their order, or none.
+    // The row of each call, in the order of the calls, or none.
     rows: Vec<Option<usize>>,
     completed: u64,
     failed: u64,
@@ -39,7 +41,7 @@ pub(crate) struct TurnChildren {
 }
 
 impl TurnChildren {
-    /// Children that answer by these rows. They have told nothing yet.
+    /// Children that answer from these rows. They have reported nothing yet.
     pub(crate) fn new(turns: Vec<Turn>) -> TurnChildren {
         let rows = Vec::new(*turns.allocator());
         TurnChildren {
@@ -50,13 +52,13 @@ impl TurnChildren {
         }
     }
 
-    /// Counts as if they had told as many outcomes as can be counted.
+    /// Sets the counts as if the greatest countable number of outcomes had been reported.
     pub(crate) fn spend(&mut self) {
         self.completed = u64::MAX - self.failed;
     }
 
-    /// The numbers of the rows by which the children answered that were started since this was asked last, in their order, with
-    /// none for one that has no row.
+    /// The numbers of the rows from which children answered since the last call of this, in order; none for a
+    /// child without a row.
     pub(crate) fn take_rows(&mut self) -> Vec<Option<usize>> {
         let none = Vec::new(*self.rows.allocator());
         std::mem::replace(&mut self.rows, none)
@@ -97,7 +99,7 @@ impl Children for TurnChildren {
     }
 }
 
-// The first of the rows with these words and seen files whose turn it was least often.
+// The first of the rows with these words and seen files that had the fewest turns.
 fn next_row(turns: &[Turn], words: &[Text], seen: &Tree) -> Option<usize> {
     let mut next = None;
     let mut least = u64::MAX;

@@ -4,7 +4,7 @@ use std::alloc::Global;
 use std::io;
 use std::io::{ErrorKind, Write};
 
-/// A writer that takes a few bytes a call, and gives an error at one call.
+/// A writer that takes a few bytes in each call, and gives an error in one of them.
 #[derive(Drop)]
 pub(crate) struct Kept {
     pub(crate) bytes: Vec<u8>,
@@ -47,7 +47,7 @@ impl Write for Kept {
     }
 }
 
-/// A writer that hands out only what was flushed.
+/// A writer that keeps only what was flushed.
 #[derive(Drop)]
 pub(crate) struct Flushed {
     held: Vec<u8>,

@@ -1,4 +1,4 @@
--- What the stamp at the end of a program's file says of how it was built. A stamp is line feeds, and then a line.
+-- How a program was built, by the stamp at the end of its file. A stamp is line feeds, and then a line.
 use Rattle.std.specs.Prelude.{◌≡◌, ◌≤◌, ◌==◌, ◌⊎◌, ◌++◌, ◌∷◌, ℕ, All, Bool, if◌then◌else◌, List, [], codes, length}
 
 abbrev pub is_line_feed : ℕ → Bool
@@ -9,11 +9,11 @@ abbrev pub without_line_feeds : List ℕ → List ℕ
 without_line_feeds [] = []
 without_line_feeds (byte ∷ bytes) = if is_line_feed byte then without_line_feeds bytes else byte ∷ bytes
 
--- one of the digits from 0 to 9 and from a to f
+-- a hexadecimal digit, from 0 to 9 or from a to f
 abbrev pub IsHexDigit : ℕ → Type 0
 IsHexDigit byte = ((48 ≤ byte) × (byte ≤ 57)) ⊎ ((97 ≤ byte) × (byte ≤ 102))
 
--- the first twelve digits by which Git names a commit
+-- the first twelve hexadecimal digits of a commit's id in Git
 pub record IsGitId (id : List ℕ) : Type 0 where
   pub long : length id ≡ 12
   pub digits : All IsHexDigit id
@@ -24,7 +24,7 @@ pub record IsGitIdBefore (words text : List ℕ) : Type 0 where
   pub is : text ≡ id ++ words
   pub named : IsGitId id
 
--- the end of a line, which says of which commit a program was built, and whether files weren't those of the commit
+-- the end of a line, which says from which commit a program was built, and whether files differed from it
 abbrev pub IsGitCommit : List ℕ → Type 0
 IsGitCommit text = (text ≡ codes "unknown\n") ⊎ IsGitIdBefore (codes "\n") text ⊎ IsGitIdBefore (codes " with changes\n") text
 
@@ -34,6 +34,6 @@ pub record IsBuiltAs (words line : List ℕ) : Type 0 where
   pub is : line ≡ words ++ commit
   pub named : IsGitCommit commit
 
--- the line says whether the program was proved, and of which commit it was built
+-- the line says whether the program was proved, and from which commit it was built
 abbrev pub IsBuildLine : List ℕ → Type 0
 IsBuildLine line = IsBuiltAs (codes "build: proved, of commit ") line ⊎ IsBuiltAs (codes "build: trial, nothing was proved, of commit ") line

@@ -8,7 +8,7 @@ use Rattle.hook_base.specs.declared.file.Mode.TheVariants.{Plain}
 abbrev pub plain_file : List ℕ → List ℕ → File
 plain_file path bytes = record { path = path; entry = record { mode = Plain; bytes = bytes } }
 
--- the file of a word: plain, under the word as its path, with bytes of which there are not too many
+-- the file of a word: plain, under the word as its path, with at most `most_file_bytes` bytes
 pub record IsFileOf (word : List ℕ) (file : File) : Type 0 where
   pub bytes : List ℕ
   pub is : file ≡ plain_file word bytes
@@ -20,7 +20,7 @@ AreFilesOf [] [] = Unit {0}
 AreFilesOf (word ∷ words) (file ∷ files) = IsFileOf word file × AreFilesOf words files
 AreFilesOf _ _ = ⊥
 
--- a row stands at the path
+-- a row has the path
 abbrev pub HasRowAt : List File → List ℕ → Type 0
 HasRowAt [] path = ⊥
 HasRowAt (row ∷ rows) path = (row.path ≡ path) ⊎ HasRowAt rows path

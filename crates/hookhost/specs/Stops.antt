@@ -1,4 +1,5 @@
--- The exit status with which the program ends for each reason to stop, and what an error of a library stops it for.
+-- The exit status with which the program ends for each reason to stop, and which reason an error of a library
+-- is.
 use Rattle.std.specs.Prelude.{◌≡◌, ◌≢◌, ◌⊎◌, ◌++◌, ◌∷◌, ℕ, Bool, true, false, List, None, codes}
 use Rattle.std.specs.IoError.{error_kind, raw_os_error}
 use Rattle.std.specs.declared.io.Error.{Error}
@@ -33,17 +34,17 @@ status_of (NoRepository fault) = 3
 status_of (NoNewRepository fault) = 3
 status_of (RefusedCommand refusal) = 3
 
--- 0 where every hook passed, and 1 where one failed
+-- 0 if every hook passed, and 1 if one failed
 abbrev pub status_of_run : Bool → ℕ
 status_of_run true = 0
 status_of_run false = 1
 
--- the program itself was refused memory: the system's own want of memory has a number
+-- the program itself was refused memory: the system's own want of memory has an error number
 pub record IsNoMemory (error : Error) : Type 0 where
   pub kind : error_kind error ≡ MemoryKind
   pub numbered : raw_os_error error ≡ None
 
--- the program stops for want of memory where an error is that, and else for this reason
+-- the program stops for want of memory if an error is that, and otherwise for this reason
 pub record StopsFor (reason : Stop) (error : Error) (stop : Stop) : Type 0 where
   pub memory : IsNoMemory error → stop ≡ Refused OutOfMemory
   pub other : ¬ IsNoMemory error → stop ≡ reason
@@ -66,12 +67,12 @@ pub record StopsAtFile (words : List (List ℕ)) (stop : Stop) : Type 0 where
 abbrev pub IsStopOfFiles : List (List ℕ) → Stop → Type 0
 IsStopOfFiles words stop = StopsAtFile words stop ⊎ (stop ≡ Refused OutOfMemory)
 
--- what StopsFor says, of an error of the command line's parser
+-- what `StopsFor` says, for an error of the command line's parser
 pub record IsUsageOf (error : WordsError) (stop : Stop) : Type 0 where
   pub memory : kind_of error ≡ WordsMemory → stop ≡ Refused OutOfMemory
   pub other : kind_of error ≢ WordsMemory → stop ≡ Usage error
 
--- a run's refusal where a configuration is read alone: want of memory is the configuration's
+-- a run's refusal when a configuration is read alone: want of memory is the configuration's refusal
 abbrev pub of_check_fault : TryFault → Stop
 of_check_fault Read = Refused Read
 of_check_fault (Config fault) = Refused (Config fault)
@@ -89,7 +90,7 @@ of_check (NoRepository fault) = NoRepository fault
 of_check (NoNewRepository fault) = NoNewRepository fault
 of_check (RefusedCommand refusal) = RefusedCommand refusal
 
--- a run's refusal where a command on the repository is asked for: want of memory is the host's
+-- a run's refusal when a command on the repository is asked for: want of memory is the host's refusal
 abbrev pub of_command_fault : TryFault → Stop
 of_command_fault Read = Refused Read
 of_command_fault (Config fault) = Refused (Config fault)
@@ -122,13 +123,14 @@ IsStopOfReading stop = ⊥
 abbrev pub IsStopOfNames : List ℕ → Stop → Type 0
 IsStopOfNames from stop = (stop ≡ NotText) ⊎ IsStopOfFile from stop
 
--- a file or a folder that a line stages can't be used, or memory was refused, which is then the host's refusal
+-- a file or a folder that a line stages can't be used, or memory was refused, which is then the host's
+-- refusal
 abbrev pub IsStopOfStaging : Stop → Type 0
 IsStopOfStaging (CannotUse word) = Unit {0}
 IsStopOfStaging (RefusedCommand refusal) = refusal ≡ NoMemoryOfHost
 IsStopOfStaging stop = ⊥
 
--- the same of a file that lists names
+-- the same for a file that lists names
 abbrev pub IsStopOfList : List ℕ → Stop → Type 0
 IsStopOfList from stop = (stop ≡ NotText) ⊎ (stop ≡ CannotUse from) ⊎ (stop ≡ RefusedCommand NoMemoryOfHost)
 
@@ -151,7 +153,8 @@ IsStopOfItsList (Commit message no_verify color) stop = ⊥
 IsStopOfItsList Forget stop = ⊥
 IsStopOfItsList (Limit limit) stop = ⊥
 
--- a variable which names a file, the folder of children, what links in this folder lead to, or the file that stands for Git's state
+-- a variable which names a file of calls, the folder of children, what links in this folder lead to, or the
+-- file that represents Git's state
 abbrev pub IsVariable : List ℕ → Type 0
 IsVariable word =
     (word ≡ codes "HOOKHOST_GIT_CALLS") ⊎ (word ≡ codes "HOOKHOST_SCRATCH") ⊎ (word ≡ codes "HOOKHOST_LINKS") ⊎ (word ≡ codes "HOOKHOST_GIT_STATE")
@@ -162,20 +165,20 @@ IsStopOfVariable variable (CannotUse word) = word ≡ variable
 IsStopOfVariable variable (Refused fault) = fault ≡ OutOfMemory
 IsStopOfVariable variable stop = ⊥
 
--- a variable that children go by can't be used, or memory was refused
+-- a variable that children depend on can't be used, or memory was refused
 abbrev pub IsStopOfChildren : Stop → Type 0
 IsStopOfChildren (CannotUse word) = IsVariable word
 IsStopOfChildren (Refused fault) = fault ≡ OutOfMemory
 IsStopOfChildren stop = ⊥
 
--- the same of a command on the repository, where want of memory is the host's refusal
+-- the same for a command on the repository: want of memory is then the host's refusal
 abbrev pub IsStopOfHooks : Stop → Type 0
 IsStopOfHooks (CannotUse word) = IsVariable word
 IsStopOfHooks (RefusedCommand refusal) = refusal ≡ NoMemoryOfHost
 IsStopOfHooks stop = ⊥
 
--- what stops an update for what it needs beside the store: the files that it stages can't be used, or what runs of hooks need, or
--- memory was refused for one of these, which is then the host's refusal
+-- what stops an update for what it needs besides the store: the files that it stages, or what runs of hooks
+-- need, can't be used. Or memory was refused for these, which is then the host's refusal
 abbrev pub IsStopOfWork : Update → Stop → Type 0
 IsStopOfWork (Add paths mode) stop = IsStopOfStaging stop
 IsStopOfWork (Remove paths) stop = ⊥
@@ -190,6 +193,6 @@ abbrev pub IsStopOfLookUp : Stop → Type 0
 IsStopOfLookUp (NoRepository fault) = Unit {0}
 IsStopOfLookUp stop = ⊥
 
--- what stops an update: that, the file that lists its paths, or what it needs beside the store
+-- what stops an update: that, the file that lists its paths, or what it needs besides the store
 abbrev pub IsStopOfUpdate : Update → Stop → Type 0
 IsStopOfUpdate update stop = IsStopOfLookUp stop ⊎ IsStopOfItsList update stop ⊎ IsStopOfWork update stop

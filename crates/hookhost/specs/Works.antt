@@ -13,14 +13,14 @@ use Rattle.hook_cli.specs.CommandOver.{IsOverHost, IsRunless}
 use Rattle.hookhost.specs.declared.work.Work.{Work}
 use Rattle.hookhost.specs.declared.work.Work.TheVariants as work
 
--- a line that has a call of its own is a command over a repository, which one call of the host does
+-- a line that has a call of its own is a command on a repository, which one call of the host does
 abbrev pub IsWork : Work → Type 0
 IsWork (work.Call asked bytes) = IsOverHost asked
 IsWork (work.HookCall asked skip children) = IsOverHost asked
 IsWork (work.Stage edits) = Unit {0}
 IsWork (work.Unstage words) = Unit {0}
 
--- the files that a run is about, those that a file lists by their names
+-- the files of a run, of which those that a file lists are given by their names
 abbrev pub named : FileChoice → List (List ℕ) → FileChoice
 named (ListedFiles from) names = Named names
 named files names = files
@@ -40,20 +40,20 @@ abbrev pub IsAdd : Update → Type 0
 IsAdd (Add paths mode) = Unit {0}
 IsAdd update = ⊥
 
--- the update takes these words out of the staged files
+-- the update unstages these words
 abbrev pub IsRemoveOf : Update → List (List ℕ) → List (List ℕ) → Type 0
 IsRemoveOf (Remove paths) names words = words ≡ words_of paths names
 IsRemoveOf update names words = ⊥
 
--- What an update asks of the store: its own call, which has children where hooks run in it; or changes of the staged files. Which
--- bytes are staged and which hooks are skipped is left open, and so is what the changes of `add` are.
+-- What an update asks of the store: its own call, with children if hooks run in it, or changes of the staged
+-- files. It is left open which bytes are staged, which hooks are skipped, and what the changes of `add` are.
 abbrev pub IsWorkOf : Update → List (List ℕ) → Work → Type 0
 IsWorkOf update names (work.Call asked bytes) = (asked ≡ line.Update (with_names update names)) × IsRunless asked
 IsWorkOf update names (work.HookCall asked skip children) = (asked ≡ line.Update (with_names update names)) × (¬ IsRunless asked)
 IsWorkOf update names (work.Stage edits) = IsAdd update
 IsWorkOf update names (work.Unstage words) = IsRemoveOf update names words
 
--- the hooks that a variable of the environment skips: none where it isn't set, or isn't text
+-- the hooks that a variable of the environment skips: none if it isn't set or isn't UTF-8
 abbrev pub skipped_by : {A : Type 0} → Result (String A) VarError → List (List ℕ)
 skipped_by (Ok text) = skip_list (string_bytes text)
 skipped_by (Err error) = []

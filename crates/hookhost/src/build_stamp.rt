@@ -1,7 +1,8 @@
-//! How the program was built: whether it was proved, and of which commit.
+//! How the program was built: whether it was proved, and from which commit (docs/REFERENCE.md, "How a program
+//! was built").
 //!
-//! Its code can't say that of itself. So `share/stamp` puts it to the end of the program's file, which the system doesn't load.
-//! The contracts cite `specs/BuildStamps.antt`, which has the form.
+//! Its code can't say that of itself. So `share/stamp` appends it to the program's file, where the system
+//! doesn't load it. The contracts cite `specs/BuildStamps.antt`, which has the form.
 
 ghost use Rattle.std.specs.Prelude.{◌≡◌, ◌↔◌, IsTrue, codes};
 ghost use Rattle.hookhost.specs.BuildStamps.{IsBuildLine, IsBuiltAs, IsGitCommit, IsGitId, IsGitIdBefore, IsHexDigit, without_line_feeds};
@@ -10,12 +11,12 @@ use std::fs;
 use std::io::{self, Read, Seek, SeekFrom};
 use std::rt::Files;
 
-// How many bytes a stamp has, and where it begins from the end of the file.
+// How many bytes a stamp has, and its offset from the end of the file.
 const STAMP_BYTES: usize = 96;
 
 const FROM_END: i64 = -96;
 
-// The file of the program that runs.
+// The file of the program that runs (proc(5), "/proc/self").
 const PROGRAM: &str = "/proc/self/exe";
 
 const PROVED: &[u8] = b"build: proved, of commit ";
@@ -26,10 +27,10 @@ const UNKNOWN: &[u8] = b"build: unknown\n";
 
 const UNKNOWN_COMMIT: &[u8] = b"unknown\n";
 
-// How many of the digits of a commit a stamp has.
+// How many hexadecimal digits of a commit's id a stamp has.
 const GIT_DIGITS: usize = 12;
 
-/// As many bytes from the end of the program's file as a stamp has. They are 0 where they can't be read.
+/// The last bytes of the program's file, as many as a stamp has. They are all 0 if they can't be read.
 pub(crate) fn end_of_program<R: Files>(rt: &R) -> [u8; STAMP_BYTES] {
     let mut end = [0; STAMP_BYTES];
     match read_end(rt, &mut end) {
@@ -44,7 +45,8 @@ fn read_end<R: Files>(rt: &R, end: &mut [u8]) -> io::Result<()> {
     file.read_exact(end)
 }
 
-/// The line that says how a program was built whose file ends with these bytes: the one of its stamp, or `build: unknown`.
+/// The line that says how a program was built whose file ends with these bytes: the one of its stamp, or
+/// `build: unknown` if it has none.
 pub(crate) fn build_line(end: &[u8]) -> &[u8]
     ensures stamped { IsBuildLine (without_line_feeds end.now) → result.now ≡ without_line_feeds end.now }
     ensures unstamped { ¬ IsBuildLine (without_line_feeds end.now) → result.now ≡ codes "build: unknown\n" }

@@ -1,4 +1,4 @@
-//! The report in colors, where a terminal shows it: how each hook ended stands at the end of its first line.
+//! The report in colors, for a terminal: how each hook ended is at the end of its first line.
 
 use crate::heard_children::SharedReport;
 use crate::runs::RealChildren;
@@ -10,16 +10,17 @@ use std::env::{self, VarError};
 use std::io::{self, IsTerminal, Printer, Write};
 use std::rc::Rc;
 
-// Says `always`, `never` or `auto`, as pre-commit's option `--color` does.
+// The variable that says `always`, `never` or `auto`, as pre-commit's option `--color` does.
 const WHEN: &str = "PRE_COMMIT_COLOR";
 
-// Whoever sets it, to anything but the empty text, wants no colors.
+// The variable by which a user wants no colors, unless it is the empty text (no-color.org).
 const NONE: &str = "NO_COLOR";
 
-// What is put behind a colored word.
+// What follows a colored word: it resets all attributes (ECMA-48, section 8.3.117, SGR).
 const PLAIN: &[u8] = b"\x1b[m";
 
-// The ends of lines that are colored, and how their word is, with the colors of pre-commit. Of two that fit the first counts.
+// The ends of lines that are colored, each with its color, which is pre-commit's, and the bytes of its last
+// word. The first one that fits counts.
 const ENDINGS: [(&[u8], &[u8], usize); 4] = [
     (b".Passed", b"\x1b[42m", 6),
     (b".Failed", b"\x1b[41m", 6),
@@ -27,8 +28,8 @@ const ENDINGS: [(&[u8], &[u8], usize); 4] = [
     (b".Skipped", b"\x1b[43;30m", 7),
 ];
 
-/// Whether the report wants colors: by the choice, else by `PRE_COMMIT_COLOR`, and else where standard output is a terminal that
-/// knows them and `NO_COLOR` isn't set.
+/// Whether the report gets colors: by the choice, otherwise by `PRE_COMMIT_COLOR`, and otherwise if standard
+/// output is a terminal that knows them and `NO_COLOR` is unset or empty.
 pub(crate) fn wants_colors(rt: &HostRuntime, choice: ColorChoice) -> bool {
     match choice {
         ColorChoice::Always => true,
@@ -47,7 +48,7 @@ fn knows_colors(rt: &HostRuntime) -> bool {
         && variable(rt, "TERM").as_str() != "dumb"
 }
 
-/// What writes the report of a run of these children, which show it while it comes.
+/// The writer for the report of a run of these children, which show it while it comes.
 pub(crate) fn report_writer<'r>(
     rt: &'r HostRuntime,
     color: ColorChoice,
@@ -69,7 +70,7 @@ pub(crate) fn report_writer<'r>(
     }
 }
 
-// A variable of the environment, empty where it isn't there or can't be read.
+// A variable of the environment, empty if it isn't set or can't be read.
 fn variable(rt: &HostRuntime, name: &str) -> String {
     match env::var(rt, name) {
         Ok(text) => text,
@@ -79,8 +80,8 @@ fn variable(rt: &HostRuntime, name: &str) -> String {
     }
 }
 
-/// A writer that colors how hooks ended, in the lines that end within what it is handed at once. It leaves out what is shown there by
-/// then.
+/// A writer that colors how hooks ended, in the lines that end within what it is given in one call. It leaves
+/// out what is shown at the terminal by then.
 #[derive(Drop)]
 pub(crate) struct ColoredReport<W: Write + Drop> {
     alloc: Global,
@@ -90,7 +91,7 @@ pub(crate) struct ColoredReport<W: Write + Drop> {
 }
 
 impl<W: Write + Drop> ColoredReport<W> {
-    // Writes the rest of a text of which a part may be shown there.
+    // Writes the rest of a text of which a part may be shown already.
     fn write_rest(&mut self, text: &[u8]) -> io::Result<()> {
         let Some(shown) = &self.shown else {
             return self.writer.write_all(text);
@@ -108,7 +109,7 @@ impl<W: Write + Drop> Write for ColoredReport<W> {
             return self.writer.write(buf);
         }
         if self.is_on {
-            // Without memory for them the report has no colors.
+            // If memory for the colors is refused, the report has none.
             if let Ok(colored) = colored(self.alloc, buf) {
                 self.write_rest(colored.as_slice())?;
                 return Ok(buf.len());
@@ -145,7 +146,7 @@ fn push_line(colored: &mut Vec<u8>, line: &[u8]) -> Result<(), AllocError> {
     Ok(())
 }
 
-// The line, of which the last word has so many bytes and gets the color.
+// Appends the line, whose last `word` bytes get the color.
 fn push_ending(
     colored: &mut Vec<u8>,
     line: &[u8],

@@ -39,10 +39,11 @@ const HOOK_FAILED: u8 = 1;
 // The exit status of a refused command.
 const REFUSED: u8 = 3;
 
-/// Looks something up in the repository, and answers the exit status, as `command_over` does. The errors are, in this order:
-/// `RepositoryFault::CannotUseStore` where the store's file isn't there, `RepositoryFault::CannotUseLock`, and what the store says
-/// when it is opened. In any case the folder is as it was, but for its lock, a log of a command that was killed, which is in the
-/// database then, and a store of an earlier version, which is taken over.
+/// Looks something up in the repository, and returns the exit status, as `command_over` does. The errors are,
+/// in this order: `RepositoryFault::CannotUseStore` if the store's file isn't there,
+/// `RepositoryFault::CannotUseLock`, and what opening the store reports. In any case the folder is as it was,
+/// with these exceptions: its lock, the log of a killed command, which is then in the database, and a store
+/// of an earlier version, which is adopted.
 pub(crate) fn look_up(rt: &HostRuntime, asked: LookUp) -> Result<u8, Stop>
     ensures status { IfOk result (λ status. (status ≡ 0) ⊎ (status ≡ 1) ⊎ (status ≡ 3)) }
     ensures stopped { IfErr result IsStopOfLookUp }
@@ -56,24 +57,29 @@ pub(crate) fn look_up(rt: &HostRuntime, asked: LookUp) -> Result<u8, Stop>
     open_and_do(rt, &lock, work)
 }
 
-/// Makes a change of the repository, and answers the exit status, as `command_over` and `stage_over` do. The errors are, in this
-/// order: `RepositoryFault::CannotUseStore` where the store's file isn't there, what `names_of` says of the file of
-/// `--paths-from`, `RepositoryFault::CannotUseLock`, what `work_of` says of the files of `add` and of what runs of hooks need, and
-/// what the store says when it is opened. After an error or a refusal the folder is as it was, but for its lock, an ignore file of an
-/// earlier program, in whose place Git's own list keeps the folder out, the folder of children, a log of a command that was killed, which is in the database then, and a store of an earlier version, which is taken
-/// over; after a refused run or commit it remembers what was answered by then.
+/// Makes a change of the repository, and returns the exit status, as `command_over` and `stage_over` do. The
+/// errors come in this order. The first is `RepositoryFault::CannotUseStore` if the store's file isn't there.
+/// Then come what `names_of` reports of the file of `--paths-from`, and `RepositoryFault::CannotUseLock`.
+/// Then come what `work_of` reports of the files of `add` and of what runs of hooks need, and what opening
+/// the store reports.
+///
+/// After an error or a refusal the folder is as it was, except for its lock and the folder of children.
+/// Besides, the log of a killed command is then in the database, and a store of an earlier version is
+/// adopted. An ignore file of an earlier program is replaced by a line in Git's own exclude list. After a
+/// refused run or commit, what was answered by then is cached.
 pub(crate) fn change(rt: &HostRuntime, update: Update) -> Result<u8, Stop>
     ensures status { IfOk result (λ status. (status ≡ 0) ⊎ (status ≡ 1) ⊎ (status ≡ 3)) }
     ensures stopped { IfErr result (IsStopOfUpdate update) }
 {
     look_at_store(rt)?;
-    // Standard input may be what another command on this repository prints, so nothing is waited for under the lock.
+    // Standard input may be what another command on this repository prints, so nothing is waited for under
+    // the lock.
     let names = names_of(rt, &update)?;
     let lock = take_lock(rt)?;
     change_under(rt, &lock, update, names)
 }
 
-// Makes a change while nobody else works on the repository.
+// Makes a change under the repository's lock.
 fn change_under(
     rt: &HostRuntime,
     lock: &Lock,
@@ -83,7 +89,7 @@ fn change_under(
     ensures status { IfOk result (λ status. (status ≡ 0) ⊎ (status ≡ 1) ⊎ (status ≡ 3)) }
     ensures stopped { IfErr result (IsStopOfUpdate update) }
 {
-    // The ignore file of an earlier program would stand above the files over which hooks run.
+    // The ignore file of an earlier program would be above the files over which hooks run.
     keep_out_of_git(rt);
     let work = work_of(rt, update, names)?;
     open_and_do(rt, lock, work)
@@ -100,8 +106,8 @@ fn open_and_do(rt: &HostRuntime, lock: &Lock, work: Work) -> Result<u8, Stop>
     do_over(rt, work, &before, conn)
 }
 
-// Does what is asked of the store in a database, and leaves the database. This says it of files of any kind: what is said of those
-// that the program has takes the checker minutes.
+// Does what is asked of the store in a database, and leaves the database. It is generic over the files
+// because the same statements about the program's own files take the checker minutes.
 fn do_over<D: Disk + Drop>(
     rt: &HostRuntime,
     work: Work,
@@ -122,7 +128,7 @@ fn do_over<D: Disk + Drop>(
     }
 }
 
-// Does what is asked of the store in a database, whatever that is kept in.
+// Does what is asked of the store in a database, whatever kind of storage that uses.
 fn do_in<S: Alter + Drop>(
     rt: &HostRuntime,
     work: Work,
@@ -151,7 +157,7 @@ fn do_in<S: Alter + Drop>(
     }
 }
 
-// Says the next step behind what was done, where there is one.
+// Says the next step after what was done, if there is one.
 fn hint_behind<S: Alter>(
     rt: &HostRuntime,
     status: u8,
@@ -183,7 +189,7 @@ fn answer<S: Alter + Drop>(rt: &HostRuntime, work: Work, host: &mut Host<S>) -> 
     }
 }
 
-// The call of a line that runs hooks.
+// Makes the call of a line that runs hooks.
 fn answer_hooks<S: Alter + Drop>(
     rt: &HostRuntime,
     line: &Line,
@@ -210,7 +216,8 @@ fn answer_hooks<S: Alter + Drop>(
     status
 }
 
-// Takes out what the words name. Where the first names the working folder, and nothing is staged, that is refused first.
+// Unstages what the words name. If the first one names the working folder, and nothing is staged, that is
+// refused first.
 fn unstage<S: Alter + Drop>(rt: &HostRuntime, words: &[Text], host: &mut Host<S>) -> u8
     ensures { (result ≡ 0) ⊎ (result ≡ 3) }
 {
@@ -228,7 +235,7 @@ fn unstage<S: Alter + Drop>(rt: &HostRuntime, words: &[Text], host: &mut Host<S>
     }
 }
 
-// The call of a line that runs no hooks, unless it is `rm` of a folder: that stands for the staged files below it.
+// Makes the call of a line that runs no hooks. But an `rm` of a folder means the staged files below it.
 fn answer_line<S: Alter + Drop>(
     rt: &HostRuntime,
     line: &Line,
@@ -263,7 +270,7 @@ fn removed_below<S: Alter>(
     }
 }
 
-// The word of an `rm` that has one alone.
+// The word of an `rm` that has just one.
 fn removed_word(line: &Line) -> Option<&Text> {
     let Line::Update(
         Update::Remove {
@@ -303,7 +310,8 @@ fn call<S: Alter + Drop, C: Children, W: Write>(
     )
 }
 
-// The colors that the report of a line that runs hooks is to have, and whether it is to say how long their commands took.
+// The choice of colors for the report of a line that runs hooks, and whether it is to say how long their
+// commands took.
 fn shows_of(line: &Line) -> (ColorChoice, bool) {
     match line {
         Line::Update(Update::Run { options, .. }) => (options.color, options.verbose),
@@ -325,7 +333,7 @@ fn stage_if_known<S: Alter + Drop>(
     }
 }
 
-// A folder without files asks for nothing.
+// A folder without files gives no edits, and the store isn't asked.
 fn stage<S: Alter + Drop>(rt: &HostRuntime, edits: &[StagingEdit], host: &mut Host<S>) -> u8
     ensures { (result ≡ 0) ⊎ (result ≡ 3) }
 {

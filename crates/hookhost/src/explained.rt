@@ -7,8 +7,9 @@ use configuration_explain::{Explanation, explain};
 use hook_base::Text;
 use hook_cli::MOST_CONFIGURATION_BYTES;
 
-/// What is said of the configuration in a file, or in standard input, in a folder with the regular files of the working folder that can
-/// be told. A file that can't be read is `Stop::CannotUse`, and want of memory `Stop::Refused`.
+/// The explanation of the configuration in a file or in standard input, for the regular files that can be
+/// found in the working folder. A file that can't be read is `Stop::CannotUse`, and want of memory is
+/// `Stop::Refused`.
 pub(crate) fn explain_file(rt: &HostRuntime, word: Text) -> Result<Explanation, Stop> {
     let name = word.clone()?;
     let bytes = match read_word(rt, word.as_str(), MOST_CONFIGURATION_BYTES + 1) {
@@ -28,7 +29,7 @@ pub(crate) fn explain_file(rt: &HostRuntime, word: Text) -> Result<Explanation, 
     Ok(explanation)
 }
 
-// A file is shown by its name.
+// How messages show a file: by its name, or `<stdin>` for standard input.
 fn shown(name: &str) -> &str {
     match name {
         STANDARD_INPUT => "<stdin>",

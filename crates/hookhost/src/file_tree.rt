@@ -8,7 +8,7 @@ ghost use Rattle.hookhost.specs.FileTrees.{HoldsFiles, plain_file};
 use hook_base::{Bytes, Content, File, FileEntry, Mode, OutOfMemory, RepoPath, Tree};
 use std::alloc::Global;
 
-/// The row of a file with these bytes, which hooks see as a plain one.
+/// The tree's row of a file with these bytes, which hooks see as a plain file.
 pub(crate) fn plain_file(alloc: Global, path: RepoPath, bytes: Vec<u8>) -> Result<File, OutOfMemory>
     ensures { IfOk result (λ file. file ≡ plain_file path bytes.items) }
 {
@@ -20,7 +20,7 @@ pub(crate) fn plain_file(alloc: Global, path: RepoPath, bytes: Vec<u8>) -> Resul
     })
 }
 
-/// The tree of the files. Of several at one path one stands there.
+/// The tree of the files. If several have the same path, it has one of them.
 pub(crate) fn tree_of(alloc: Global, files: Vec<File>) -> Result<Tree, OutOfMemory>
     ensures { IfOk result (HoldsFiles files.items) }
 {

@@ -14,8 +14,8 @@ use std::os::unix::fs::FileTypeExt;
 use std::rt::Files;
 use std::{fs, io};
 
-/// The files of the words, as plain files of a tree. The first word whose path isn't allowed, or whose file can't be
-/// read or is over 16 MiB, is `Stop::CannotUse`; want of memory is `Stop::Refused`.
+/// The files of the words, as plain files of a tree. The first word whose path isn't allowed, or whose file
+/// can't be read or is over 16 MiB, is `Stop::CannotUse`; want of memory is `Stop::Refused`.
 pub(crate) fn read_tree<R: Files + AllocGlobal>(rt: &R, words: Items<Text>) -> Result<Tree, Stop>
     ensures tree { IfOk result (IsTreeOf words) }
     ensures refused { IfErr result (IsStopOfFiles words) }
@@ -51,7 +51,8 @@ fn read_plain_file<R: Files + AllocGlobal>(rt: &R, word: Text) -> Result<File, S
     }
 }
 
-/// The configuration's bytes, up to one past the limit: the run refuses one that is longer.
+/// The configuration's bytes, up to one past the limit: the run refuses a longer one. A file that can't be
+/// read is `Stop::CannotUse`, and want of memory is `Stop::Refused`.
 pub(crate) fn read_configuration<R: Files + AllocGlobal>(
     rt: &R,
     word: Text,
@@ -62,23 +63,23 @@ pub(crate) fn read_configuration<R: Files + AllocGlobal>(
     }
 }
 
-/// The bytes of a file that is staged, up to one past the limit: the host refuses one that is longer. A file that isn't there or
-/// can't be read, any pipe among them, is `Stop::CannotUse`, and want of memory `Stop::Refused`.
+/// The bytes of a file to stage, up to one past the limit: the host refuses a longer one. A file that isn't
+/// there or can't be read, or any pipe, is `Stop::CannotUse`; want of memory is `Stop::Refused`.
 pub(crate) fn read_staged<R: Files + AllocGlobal>(rt: &R, path: &Text) -> Result<Vec<u8>, Stop>
     ensures { IfErr result (IsStopOfFile path.now) }
 {
     let word = path.clone()?;
-    // A pipe would be waited for while the lock keeps other commands out.
+    // Reading a pipe would wait while the lock keeps other commands out.
     match read_from(rt, open_file(rt, word.as_str()), MOST_FILE_BYTES + 1) {
         Ok(bytes) => Ok(bytes),
         Err(error) => Err(Stop::of_file(&error, word)),
     }
 }
 
-/// The word that stands for standard input.
+/// The word that means standard input (POSIX.1-2017, XBD section 12.2, Guideline 13).
 pub(crate) const STANDARD_INPUT: &str = "-";
 
-/// The bytes of a word's file, or of standard input, at most so many, as `read_up_to` reads them.
+/// The bytes of a word's file, or of standard input, at most so many. A file is read as by `read_up_to`.
 pub(crate) fn read_word(rt: &HostRuntime, word: &str, most: usize) -> io::Result<Vec<u8>> {
     if word == STANDARD_INPUT {
         let mut bytes = Vec::new(rt.alloc());
@@ -89,8 +90,9 @@ pub(crate) fn read_word(rt: &HostRuntime, word: &str, most: usize) -> io::Result
     }
 }
 
-/// The bytes of a file, at most so many. A fifo, a pipe with a name, isn't opened, since that would wait for its other end: the
-/// error is `ErrorKind::Unsupported`. A pipe without one is read, as a shell hands it on by `/dev/stdin` or `/dev/fd/63`.
+/// The bytes of a file, at most so many. A fifo, which is a pipe with a name, isn't opened, since that would
+/// wait for its other end (fifo(7)): the error is `ErrorKind::Unsupported`. A pipe without a name is read,
+/// such as one that a shell passes on as `/dev/stdin` or `/dev/fd/63`.
 pub(crate) fn read_up_to<R: Files + AllocGlobal>(
     rt: &R,
     path: &str,
@@ -106,7 +108,7 @@ fn read_from<R: Files + AllocGlobal>(
 ) -> io::Result<Vec<u8>> {
     let mut bytes = Vec::new(rt.alloc());
     opened?.take(most as u64).read_to_end(&mut bytes)?;
-    // A run keeps the bytes of all its files, and reading leaves room behind them.
+    // A run keeps the bytes of all its files, and reading leaves unused memory after them.
     bytes.shrink_to_fit();
     Ok(bytes)
 }
@@ -128,7 +130,8 @@ fn open_file_or_pipe<R: Files + AllocGlobal>(rt: &R, path: &str) -> io::Result<R
     fs::open(rt, path)
 }
 
-// Opens what was no pipe when it was looked at. A fifo that has taken the name since isn't waited for, once it is open.
+// Opens what was no pipe when it was looked at. A fifo that has taken the name since may block the opening,
+// but isn't read.
 fn open_seen_file<R: Files>(rt: &R, path: &str) -> io::Result<R::File> {
     let file = fs::open(rt, path)?;
     if file.metadata()?.file_type().is_fifo() {
@@ -144,7 +147,7 @@ fn is_pipe<R: Files>(rt: &R, path: &str) -> bool {
     }
 }
 
-// Whether the file stands at a name: what is reached by the process's own descriptors alone stands at none.
+// Whether the file has a name. A pipe that is reached only by the process's own descriptors has none.
 fn has_name<R: Files + AllocGlobal>(rt: &R, path: &str) -> bool {
     match fs::canonicalize(rt, path) {
         Ok(_) => true,

@@ -17,23 +17,24 @@ const GIT: &str = ".git";
 #[derive(Drop)]
 struct Below {
     files: Vec<String>,
-    // Those that weren't looked into yet.
+    // Those that weren't read yet.
     folders: Vec<String>,
-    // Whether each file is wanted, so that what can't be read stops the walk. Else it is left out.
+    // Whether every file is wanted, so that what can't be read stops the walk. Otherwise that is left out.
     is_whole: bool,
 }
 
-/// The paths of the regular files below a folder, in the order of their bytes; below the working folder where the folder's path is
-/// empty. No link is followed, and `.git` and the `.hookhost` of the working folder are left out. A folder that can't be read, or
-/// that holds a name which isn't UTF-8, is `Stop::CannotUse`, and want of memory `Stop::Refused`.
+/// The paths of the regular files below a folder, in the order of their bytes. The empty path is the working
+/// folder. No link is followed, and `.git` and the `.hookhost` of the working folder are left out. A folder
+/// that can't be read, or that holds a name which isn't UTF-8, is `Stop::CannotUse`; want of memory is
+/// `Stop::Refused`.
 pub(crate) fn files_below<R: Files + AllocGlobal>(rt: &R, folder: &str) -> Result<Vec<String>, Stop>
     ensures { IfErr result IsStopOfReading }
 {
     walk(rt, folder, true)
 }
 
-/// The same of the working folder, but for folders that can't be read and names that aren't UTF-8: they are left out, and so is
-/// what lies below them.
+/// The same for the working folder. But folders that can't be read and names that aren't UTF-8 are left out,
+/// with what is below them.
 pub(crate) fn readable_files<R: Files + AllocGlobal>(rt: &R) -> Result<Vec<String>, Stop>
     ensures { IfErr result IsStopOfReading }
 {
@@ -75,7 +76,7 @@ fn look_into<R: Files + AllocGlobal>(rt: &R, folder: &str, below: &mut Below) ->
     }
 }
 
-// An error is one of reading the folder itself.
+// The outer error is one of reading the folder itself.
 fn look_at_names<R: Files + AllocGlobal>(
     rt: &R,
     folder: &str,
@@ -97,7 +98,7 @@ fn look_at_names<R: Files + AllocGlobal>(
     Ok(Ok(()))
 }
 
-// The names end each in a byte 0.
+// Each name ends with a NUL byte.
 fn take_names<R: Files + AllocGlobal>(
     rt: &R,
     folder: &str,
@@ -137,7 +138,7 @@ fn take_name<R: Files + AllocGlobal>(
     Ok(())
 }
 
-// What can't be used stops the walk where each file is wanted.
+// What can't be used stops the walk if every file is wanted, and is left out otherwise.
 fn stop_or_leave(below: &Below, stop: Stop) -> Result<(), Stop>
     requires { IsStopOfReading stop }
     ensures { IfErr result IsStopOfReading }
@@ -178,7 +179,7 @@ fn unusable<R: AllocGlobal>(rt: &R, folder: &str) -> Stop
     }
 }
 
-// The folder as it is told.
+// The folder, as messages show it.
 fn told<R: AllocGlobal>(rt: &R, folder: &str) -> Result<Text, Stop>
     ensures { IfErr result IsStopOfReading }
 {

@@ -1,4 +1,4 @@
-//! The file of the tree that stands for Git's state.
+//! The file of the tree that represents Git's state (docs/GIT.md, "Git's state in what a hook reads").
 
 ghost use Rattle.std.specs.Prelude.{IfErr, codes};
 ghost use Rattle.hookhost.specs.Stops.{IsStopOfVariable};
@@ -9,11 +9,12 @@ use hook_base::{PathFault, RepoPath, Text};
 use hook_cli::TryFault;
 use std::env;
 
-// The variable by which Git's hook names it. A child that has seen it is told so, since then its key says of which state of Git its
-// answer is.
+// The variable by which Git's hook names it. A child that has seen it finds a variable that says so: the key
+// of its cached result then has the state of Git to which its answer belongs.
 const GIT_STATE: &str = "HOOKHOST_GIT_STATE";
 
-/// The path of the file that stands for Git's state, where the variable names one. What is no path of a tree is `Stop::CannotUse`.
+/// The path of the file that represents Git's state, if the variable names one. What isn't UTF-8, or is no
+/// path of a tree, is `Stop::CannotUse`; want of memory is `Stop::Refused`.
 pub(crate) fn git_state(rt: &HostRuntime) -> Result<Option<RepoPath>, Stop>
     ensures { IfErr result (IsStopOfVariable (codes "HOOKHOST_GIT_STATE")) }
 {

@@ -1,5 +1,5 @@
-//! Children of a run that says how it goes on: what the report says of a hook is shown once that has ended, and how long its commands
-//! took.
+//! Children of a run that shows its progress: the report on each hook once that has ended, and how long its
+//! commands took.
 
 ghost use Rattle.std.specs.Prelude.{◌≡◌};
 
@@ -13,27 +13,28 @@ use std::time::{Duration, Instant};
 /// A report that is shown while it comes, and then written whole.
 pub(crate) type SharedReport = Rc<RefCell<ShownReport>>;
 
-/// Children that hand each call on to others, and say what they hear. What isn't shown or told for want of memory, or since the system
-/// doesn't take it, is left out.
+/// Children that pass each call on to others, and show the news of the run. What can't be shown for want of
+/// memory, or because the system doesn't take it, is left out.
 #[derive(Drop)]
 pub(crate) struct HeardChildren<C: Children> {
     inner: C,
     listener: Listener,
 }
 
-// What hears of a run.
+// What gets the news of a run.
 #[derive(Drop)]
 struct Listener {
     rt: HostRuntime,
     report: Option<SharedReport>,
     is_timed: bool,
-    // The hook that the children are of, which have run for so long. Nothing before its first child.
+    // The hook to which the children belong, and how long they have run, which is `None` before its first
+    // child.
     hook: Option<Text>,
     took: Option<Duration>,
 }
 
 impl<C: Children> HeardChildren<C> {
-    /// The children. Nothing is shown.
+    /// The children. Nothing is shown yet.
     pub(crate) fn new(rt: HostRuntime, inner: C) -> HeardChildren<C> {
         let listener = Listener {
             rt,
@@ -45,12 +46,12 @@ impl<C: Children> HeardChildren<C> {
         HeardChildren { inner, listener }
     }
 
-    /// From now on the report of their run is shown there, if anywhere.
+    /// From now on the report of their run is shown there, or nowhere if it is `None`.
     pub(crate) fn show_report(&mut self, report: Option<SharedReport>) {
         self.listener.report = report;
     }
 
-    /// From now on how long each hook's commands took is said on standard error.
+    /// From now on standard error says how long each hook's commands took.
     pub(crate) fn tell_durations(&mut self) {
         self.listener.is_timed = true;
     }

@@ -1,4 +1,4 @@
-//! The next step, told to whoever sits at a terminal.
+//! Hints at the next step, for a user at a terminal.
 
 use hook_base::RepoPath;
 use std::env::{self, VarError};
@@ -8,22 +8,22 @@ use std::io::IsTerminal;
 pub(crate) const FIXES: &str =
     "hint: hookhost fixes lists what hooks changed, hookhost accept stages it";
 
-/// What is waited for where no words are given.
+/// What the program waits for if no words are given.
 pub(crate) const WAITS: &str =
     "hint: a configuration is read from standard input: hookhost --help says more";
 
-/// The variable of the environment that Git's hook sets to the top of the working tree. It says itself what comes next, in the words
-/// of Git.
+/// The variable of the environment that Git's hook sets to the top of the working tree. That hook says itself
+/// what comes next, in Git's commands.
 pub(crate) const TOP: &str = "HOOKHOST_TOP";
 
-/// Says a hint on standard error where that is a terminal, and else nothing. Nothing either within Git's hook.
+/// Says a hint on standard error, if that is a terminal and the program doesn't run within Git's hook.
 pub(crate) fn hint(rt: &HostRuntime, text: &str) {
     if is_heard(rt) && !is_within_git_hook(rt) {
         let _said = rt.eprintln(text);
     }
 }
 
-/// Whether somebody sees what is said on standard error alone.
+/// Whether a user sees what is said on standard error alone.
 pub(crate) fn is_heard(rt: &HostRuntime) -> bool {
     rt.stderr().is_terminal()
 }
@@ -32,7 +32,8 @@ fn is_within_git_hook(rt: &HostRuntime) -> bool {
     !matches!(env::var(rt, TOP), Err(VarError::NotPresent))
 }
 
-/// Says that the fix of this path is undone, and how its bytes are taken over nevertheless: they are forgotten by now.
+/// Says that the fix of this path is undone, and how to get its bytes nevertheless: the fix is dropped by
+/// now.
 pub(crate) fn hint_undone(rt: &HostRuntime, path: &RepoPath) {
     let path = path.as_str();
     let word = if path.bytes().all(is_plain) {
@@ -47,7 +48,7 @@ pub(crate) fn hint_undone(rt: &HostRuntime, path: &RepoPath) {
     }
 }
 
-/// Whether a shell takes the byte in a word as it is, wherever it stands.
+/// Whether a shell takes the byte as it is, anywhere in a word (POSIX.1-2017, XCU section 2.2).
 pub(crate) fn is_plain(byte: u8) -> bool {
     byte.is_ascii_alphanumeric() || matches!(byte, b'.' | b'/' | b'_' | b'+')
 }

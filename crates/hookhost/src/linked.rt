@@ -1,4 +1,5 @@
-//! The links in the folder of children: to what is installed in the working folder, and isn't staged.
+//! The links in the folder of children to what is installed in the working folder, and isn't staged
+//! (docs/GIT.md, "Links to what is installed").
 
 ghost use Rattle.std.specs.Prelude.{IfErr, codes};
 ghost use Rattle.hookhost.specs.Stops.{IsStopOfVariable};
@@ -12,12 +13,13 @@ use repository_files::FOLDER;
 use std::alloc::Global;
 use std::env;
 
-/// The variable that names them, as `.venv:node_modules`: names in the working folder, or within Git's hook at the top of the working
-/// tree.
+/// The variable that names them, such as `.venv:node_modules`: names in the working folder, or within Git's
+/// hook at the top of the working tree.
 pub(crate) const LINKS: &str = "HOOKHOST_LINKS";
 
-/// The places that links lead to, in the order of the variable, each once. What isn't a name that a file at the top of a tree may
-/// have is `Stop::CannotUse`, and so is a working folder that can't be told.
+/// The places that links lead to, in the order of the variable, each once. A name that no file at the top of
+/// a tree may have is `Stop::CannotUse`, and so is a working folder whose path can't be found. Want of memory
+/// is `Stop::Refused`.
 pub(crate) fn linked(rt: &HostRuntime) -> Result<Vec<String>, Stop>
     ensures { IfErr result (IsStopOfVariable (codes "HOOKHOST_LINKS")) }
 {
@@ -27,7 +29,7 @@ pub(crate) fn linked(rt: &HostRuntime) -> Result<Vec<String>, Stop>
     }
 }
 
-// The folder that the names stand in, by its full path.
+// The full path of the folder that has the names.
 fn top_of(rt: &HostRuntime) -> Result<String, Stop>
     ensures { IfErr result (IsStopOfVariable (codes "HOOKHOST_LINKS")) }
 {

@@ -1,5 +1,5 @@
-//! The program `hookhost`: its words and files become one call, and the answer becomes printed lines and an exit
-//! status.
+//! The program `hookhost`: its words and files become one call, and the answer becomes printed lines and an
+//! exit status.
 #![tactic(auto)]
 
 ghost use Rattle.std.specs.Prelude.{◌≡◌};
@@ -49,7 +49,7 @@ use stop::{Stop, tell};
 use stop_hints::{CONFIGURATION, hint_at, hint_refused_file};
 use trouble::tell_trouble;
 
-// The exit status where what was asked for is done, and no hook failed.
+// The exit status if what was asked for is done, and no hook failed (docs/REFERENCE.md, "The command line").
 const DONE: u8 = 0;
 
 // The exit status of a run in which a hook failed.
@@ -66,7 +66,7 @@ fn main(rt: HostRuntime) -> ExitCode {
     }
 }
 
-// Does what the process's words ask for, and answers its exit status.
+// Does what the process's words ask for, and returns its exit status.
 fn run(rt: &HostRuntime) -> Result<u8, Stop> {
     match line_of_process(rt) {
         Ok(Some(line)) => do_line(rt, line),
@@ -85,7 +85,8 @@ fn run(rt: &HostRuntime) -> Result<u8, Stop> {
     }
 }
 
-// Prints the version, and how the program was built, where the words ask for it; else the error stops the program.
+// Prints the version, and how the program was built, if the words ask for it. Otherwise the error stops the
+// program.
 fn version_or_usage(rt: &HostRuntime, error: clap::Error) -> Result<u8, Stop> {
     if error.kind() != clap::error::ErrorKind::DisplayVersion {
         return Err(Stop::Usage(error));
@@ -96,7 +97,8 @@ fn version_or_usage(rt: &HostRuntime, error: clap::Error) -> Result<u8, Stop> {
     Ok(DONE)
 }
 
-// The line that the process's words make, or `None` where there are none. The words, of which there may be many, aren't kept.
+// The line that the process's words make, or `None` if there are none. The words, of which there may be many,
+// aren't kept.
 fn line_of_process(rt: &HostRuntime) -> Result<Option<Line>, Stop> {
     let mut words = env::args(rt).map_err(Stop::of_words)?;
     let _program = words.next();
@@ -119,7 +121,7 @@ fn do_line(rt: &HostRuntime, line: Line) -> Result<u8, Stop> {
     }
 }
 
-// What needs no repository.
+// Does what needs no repository.
 fn do_alone(rt: &HostRuntime, asked: Standalone) -> Result<u8, Stop> {
     match asked {
         Standalone::Init => {
@@ -146,12 +148,13 @@ fn status_of_run(passed: bool) -> u8
     if passed { DONE } else { HOOK_FAILED }
 }
 
-// `check`: reads the working folder's configuration, and prints how many hooks it has and which keys are ignored.
+// `check`: reads the working folder's configuration, and prints how many hooks it has and which keys are
+// ignored.
 fn check<R: Files + Print + AllocGlobal>(rt: &R) -> Result<(), Stop> {
     let bytes = read_configuration(rt, Text::copy_of(rt.alloc(), CONFIGURATION)?)?;
     let read = read_config_with_node(rt.alloc(), bytes.as_slice())?;
     let checked = print_check(rt, &read.config);
-    // The process ends next and its memory with it, so the nodes aren't freed one by one before.
+    // The process ends next, and its memory with it, so the nodes needn't be freed one by one.
     mem::forget(read);
     checked
 }
@@ -178,7 +181,7 @@ fn print<R: Print>(rt: &R, text: &[u8]) -> io::Result<()> {
     writer.flush()
 }
 
-// `try CONFIG PATH..`: the first word whose file can't be used decides, and the run comes last.
+// `try CONFIG PATH..`: the first word whose file can't be used is the error, and the run comes last.
 fn try_files(
     rt: &HostRuntime,
     config: Text,
@@ -207,12 +210,13 @@ fn try_over_files(
     replace_ignore_file(rt);
     let children = passing_children(rt)?;
     let passed = report(rt, &mut bytes.as_slice(), &tree, children, color)?;
-    // As above, of the files.
+    // As in `check`, for the files.
     mem::forget(tree);
     Ok(passed)
 }
 
-// Runs the configuration over the tree, with these children, and prints the report. What was in their way comes after it.
+// Runs the configuration over the tree, with these children, and prints the report. What was in their way is
+// said after it.
 fn report(
     rt: &HostRuntime,
     reader: &mut impl Read,

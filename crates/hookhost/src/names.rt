@@ -10,9 +10,9 @@ use crate::stop::Stop;
 use hook_base::{Items, MOST_FILE_BYTES, Text};
 use hook_cli::{FileChoice, PathSource, Update};
 
-/// The names that the file of `--paths-from` lists, in their order; none for an update without. A file that can't be read, or has
-/// more than 16 MiB, is `Stop::CannotUse`, names that aren't UTF-8 are `Stop::NotText`, and want of memory is
-/// `Stop::RefusedCommand`.
+/// The names that the file of `--paths-from` lists, in their order, and none for an update without that
+/// option. A file that can't be read, or has more than 16 MiB, is `Stop::CannotUse`. Names that aren't UTF-8
+/// are `Stop::NotText`, and want of memory is `Stop::RefusedCommand`.
 pub(crate) fn names_of(rt: &HostRuntime, update: &Update) -> Result<Items<Text>, Stop>
     ensures { IfErr result (IsStopOfItsList update.now) }
 {
@@ -60,7 +60,7 @@ fn names_in(rt: &HostRuntime, bytes: &[u8]) -> Result<Items<Text>, Stop>
     'names: for name in text.split('\0') {
         names.push(Text::copy_of(rt.alloc(), name)?)?;
     }
-    // Behind the last NUL nothing has to stand.
+    // After the last NUL there may be no name.
     if text.is_empty() || text.ends_with('\0') {
         let _nothing = names.pop();
     }

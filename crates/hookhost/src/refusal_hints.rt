@@ -1,4 +1,4 @@
-//! The next step behind a refused command on the repository.
+//! The next step after a refused command on the repository.
 
 use crate::files::read_up_to;
 use crate::hint::hint;
@@ -22,14 +22,14 @@ const EXPLAIN_STAGED: &str =
 const NO_FIXES: &str =
     "hint: there are no fixes: hookhost run makes them, where a hook changes files";
 
-/// What a command is refused for where the repository lacks it.
+/// What a command needs, and is refused for if the repository lacks it.
 #[derive(Clone, Copy, Debug)]
 pub(crate) enum Need {
     /// A configuration that can be read.
     Configuration,
     /// Fixes.
     Fixes,
-    /// Nothing of which a hint says more.
+    /// Nothing that a hint is about.
     Nothing,
 }
 
@@ -45,7 +45,7 @@ pub(crate) fn need_of(work: &Work) -> Need {
     }
 }
 
-/// Says how a refused command gets what it needs, where the repository lacks it.
+/// Says how a refused command gets what it needs, if the repository lacks it.
 pub(crate) fn hint_need<S: Alter>(rt: &HostRuntime, need: Need, store: &Store<S>) {
     match need {
         Need::Configuration => hint_configuration(rt, store),
@@ -73,7 +73,7 @@ fn is_refused(rt: &HostRuntime, bytes: &[u8]) -> bool {
     }
 }
 
-// What `explain` reads is the working folder's file.
+// `explain` reads the working folder's file, which may differ from the staged one.
 fn hint_explain(rt: &HostRuntime, staged: &[u8]) {
     let is_staged = match read_up_to(rt, CONFIGURATION, MOST_CONFIGURATION_BYTES + 1) {
         Ok(bytes) => bytes.as_slice() == staged,

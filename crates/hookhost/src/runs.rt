@@ -21,19 +21,22 @@ use std::io::Stderr;
 // The variable of the environment that names the hooks to skip.
 const SKIP: &str = "SKIP";
 
-// The variable by which Git's hook names a file. There its own `git` notes each call that finds no repository in the folder of
-// children: what the hook answers then is no answer.
+// The variable by which Git's hook names a file. There its own `git` records each call that finds no
+// repository in the folder of children: what the hook answers then doesn't count.
 const GIT_CALLS: &str = "HOOKHOST_GIT_CALLS";
 
-// The variable by which Git's hook names the folder of children: one that no tool takes for a part of Git's own.
+// The variable by which Git's hook names the folder of children: one that no tool mistakes for a part of
+// Git's own.
 const SCRATCH_FOLDER: &str = "HOOKHOST_SCRATCH";
 
-/// Children that are processes, which a terminal shows.
+/// Children that are processes and that a terminal shows.
 pub(crate) type RealChildren = HeardChildren<ShownChildren<ProcessChildren<HostRuntime>, Stderr>>;
 
-/// The children of a run on the repository, of which none has run yet. They run in the folder that the variable of Git's hook
-/// names, else in that of the repository. If a variable names a file of calls, none of them is told as done that called Git there.
-/// If one names the file that stands for Git's state, each is told whether it has seen that. A variable that isn't UTF-8 is `Stop::CannotUse`.
+/// The children of a run on the repository, of which none has run yet. They run in the folder that the
+/// variable of Git's hook names, and otherwise in that of the repository. If a variable names a file of
+/// calls, a child during which a call was recorded there is a fault. If one names the file that represents
+/// Git's state, each child learns whether it has seen that. A variable that isn't UTF-8, or names what can't
+/// be, is `Stop::CannotUse`; want of memory is `Stop::Refused`.
 pub(crate) fn children_of(rt: &HostRuntime) -> Result<RealChildren, Stop>
     ensures { IfErr result IsStopOfChildren }
 {
@@ -52,7 +55,7 @@ pub(crate) fn children_of(rt: &HostRuntime) -> Result<RealChildren, Stop>
     Ok(shown(rt, children)?)
 }
 
-// The children, of which a terminal shows which is running.
+// The children, with a terminal that shows which one is running.
 fn shown(
     rt: &HostRuntime,
     children: ProcessChildren<HostRuntime>,
@@ -61,7 +64,8 @@ fn shown(
     Ok(HeardChildren::new(rt.clone()?, shown))
 }
 
-/// What the variable of this name names. There is nothing where it isn't set.
+/// What the variable of this name names, or `None` if it isn't set. A variable that isn't UTF-8 is
+/// `Stop::CannotUse`.
 pub(crate) fn named_by(
     alloc: Global,
     variable: &str,
@@ -77,7 +81,7 @@ pub(crate) fn named_by(
     }
 }
 
-/// The children of a run without a repository, of whose folder nothing is left at their end.
+/// The children of a run without a repository. Nothing is left of their folder at their end.
 pub(crate) fn passing_children(rt: &HostRuntime) -> Result<RealChildren, Stop>
     ensures { IfErr result IsStopOfChildren }
 {
@@ -93,7 +97,7 @@ pub(crate) fn skipped(rt: &HostRuntime) -> Result<Items<Text>, OutOfMemory> {
     skipped_by(rt.alloc(), env::var(rt, SKIP))
 }
 
-// Those that a variable names. There are none where it isn't set, or isn't UTF-8.
+// Those that a variable names. There are none if it isn't set or isn't UTF-8.
 fn skipped_by(alloc: Global, found: Result<String, VarError>) -> Result<Items<Text>, OutOfMemory>
     ensures { IfOk result (λ names. names ≡ skipped_by found) }
 {

@@ -6,20 +6,20 @@ use std::env;
 use std::fs::{File, OpenOptions};
 use std::io::{self, IsTerminal, Stderr, Stdout, Write};
 
-// The variable by which Git's hook, which reads standard output, has the report shown on standard error. It names the file in which
-// what is shown is noted.
+// The variable by which Git's hook, which reads standard output, has the report shown on standard error. It
+// names the file in which the hook finds what was shown.
 const SHOWN: &str = "HOOKHOST_SHOWN";
 
-/// What of a report is shown by now.
+/// What is shown of a report by now.
 #[derive(Drop)]
 pub(crate) struct ShownReport {
     alloc: Global,
     screen: Screen,
     is_colored: bool,
-    // What is shown, and how much of it would have been written by now.
+    // What is shown, and how many bytes of it the writer of the report has reached.
     shown: Vec<u8>,
     written: usize,
-    // Nothing more is shown since something wasn't taken.
+    // Nothing more is shown, since a part wasn't taken.
     is_over: bool,
 }
 
@@ -33,7 +33,7 @@ enum Screen {
 }
 
 impl ShownReport {
-    /// A report of which nothing is shown yet. Nothing where there is no terminal.
+    /// A report of which nothing is shown yet. `None` if there is no terminal to show it.
     pub(crate) fn at_terminal(rt: &HostRuntime, is_colored: bool) -> Option<ShownReport> {
         let screen = screen_of(rt)?;
         Some(ShownReport {
@@ -46,7 +46,8 @@ impl ShownReport {
         })
     }
 
-    /// Shows how the report goes on. What a terminal doesn't take, or if memory is refused, isn't shown, and nothing after it.
+    /// Shows the next part of the report. If the terminal doesn't take it, or memory is refused, nothing more
+    /// is shown.
     pub(crate) fn show(&mut self, part: &[u8]) {
         if !self.is_over {
             self.is_over = self.show_part(part).is_err();
@@ -65,8 +66,8 @@ impl ShownReport {
         Ok(())
     }
 
-    /// What of the text that the report goes on with isn't on standard output yet: all of it and of what follows, once it isn't what
-    /// is shown there.
+    /// What isn't on standard output yet of the text that the report goes on with. Once a text isn't what is
+    /// shown there, that is all of it and of what follows.
     pub(crate) fn rest<'t>(&mut self, text: &'t [u8]) -> &'t [u8] {
         let Screen::Output(_) = &self.screen else {
             return text;

@@ -1,4 +1,4 @@
-//! The files that the words of `add` stand for, each read once.
+//! The files that the words of `add` name, each read once.
 
 ghost use Rattle.std.specs.Prelude.{IfErr};
 ghost use Rattle.hookhost.specs.Stops.{IsStopOfReading};
@@ -22,10 +22,11 @@ struct Gathered {
     paths: BTreeSet<String>,
 }
 
-/// The edits that stage the files of the words, in the order of the words. A folder stands for the files below it, and a file that
-/// comes again is staged once. The first word that can't be used is `Stop::CannotUse`, with the path of the file or the folder
-/// that can't be read, and want of memory is `Stop::Refused`. An empty word, which the store refuses, isn't read. Where there are
-/// more files than a store has, those behind the first one too many are left out, since the store refuses all of them.
+/// The edits that stage the files of the words, in the order of the words. A folder means the files below it,
+/// and a file that comes again is staged once. The first word that can't be used is `Stop::CannotUse`, with
+/// the path of the file or the folder that can't be read. Want of memory is `Stop::Refused`. An empty word,
+/// which the store refuses, isn't read. If there are more files than a store may have, those after the first
+/// one too many are left out, since the store refuses all of them.
 pub(crate) fn staged_by<R: Files + AllocGlobal>(
     rt: &R,
     words: &[Text],
@@ -44,8 +45,8 @@ pub(crate) fn staged_by<R: Files + AllocGlobal>(
     Ok(gathered.edits)
 }
 
-/// The path of the folder that a word names, empty for the working folder, and `None` where it names no folder. Slashes may stand
-/// behind it. A link is none.
+/// The path of the folder that a word names, empty for the working folder, and `None` if it names no folder.
+/// Slashes may follow the name. A link is no folder.
 pub(crate) fn folder_of<R: Files + AllocGlobal>(rt: &R, word: &str) -> Result<Option<String>, Stop>
     ensures { IfErr result IsStopOfReading }
 {
@@ -64,7 +65,7 @@ pub(crate) fn folder_of<R: Files + AllocGlobal>(rt: &R, word: &str) -> Result<Op
     }
 }
 
-/// Whether a word names the working folder, behind which slashes may stand.
+/// Whether a word names the working folder: a dot, which slashes may follow.
 pub(crate) fn is_working_folder(word: &str) -> bool {
     word.trim_end_matches('/') == "."
 }

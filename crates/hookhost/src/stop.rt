@@ -11,13 +11,13 @@ use repository_files::{LOCK, RepositoryFault, STORE};
 use std::alloc::{AllocError, AllocFailed};
 use std::io;
 
-// The exit status where the words name no command.
+// The exit status if the words name no command.
 const USAGE: u8 = 2;
 
 // The exit status of a refusal.
 const REFUSED: u8 = 3;
 
-/// Why what was asked for doesn't stand on standard output, or not the whole of it.
+/// Why what was asked for isn't on standard output, or not all of it.
 #[derive(Debug, Drop)]
 pub(crate) enum Stop {
     /// The words name no command, or ask for help.
@@ -64,7 +64,7 @@ impl Stop {
 }
 
 impl Stop {
-    /// The same stop where a configuration is read alone: want of memory is then its refusal.
+    /// The same stop if a configuration is read alone: want of memory is then its refusal.
     pub(crate) fn of_check(self) -> Stop
         ensures { result ≡ of_check self }
     {
@@ -76,7 +76,7 @@ impl Stop {
         }
     }
 
-    /// The same stop where a command on the repository is asked for: want of memory is then the host's refusal.
+    /// The same stop if a command on the repository is asked for: want of memory is then the host's refusal.
     pub(crate) fn of_command(self) -> Stop
         ensures { result ≡ of_command self }
     {
@@ -87,7 +87,8 @@ impl Stop {
     }
 }
 
-/// Whether the program itself was refused memory: the system's own want of memory has a number.
+/// Whether the program itself was refused memory: the system's own want of memory has an error number,
+/// ENOMEM.
 pub(crate) fn is_memory(error: &io::Error) -> bool
     ensures { IsTrue result ↔ IsNoMemory error.now }
 {
@@ -177,8 +178,8 @@ impl<T: Drop> From<AllocFailed<T>> for Stop {
     }
 }
 
-/// Says on standard error why the program stops, and answers its exit status. That standard error takes nothing is no
-/// further reason to stop.
+/// Says on standard error why the program stops, and returns its exit status. If standard error takes
+/// nothing, that is ignored.
 pub(crate) fn tell<R: Eprint>(rt: &R, stop: &Stop) -> u8
     ensures { result ≡ status_of stop.now }
 {

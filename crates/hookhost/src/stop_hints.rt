@@ -1,4 +1,4 @@
-//! The next step behind a stop.
+//! The next step after a stop.
 
 use crate::hint::{hint, is_plain};
 use crate::stop::Stop;
@@ -9,10 +9,11 @@ use std::fs;
 use std::io::ErrorKind;
 use std::rt::Files;
 
-/// The file that `check` and `explain` read where they are given none, and that is staged for the hooks of a repository.
+/// The file that `check` reads, and `explain` if it is given none, and that is staged for the hooks of a
+/// repository.
 pub(crate) const CONFIGURATION: &str = ".pre-commit-config.yaml";
 
-/// Where the configuration of the working folder is said more of.
+/// How to learn more of the configuration of the working folder.
 pub(crate) const EXPLAIN: &str = "hint: hookhost explain says what is wrong and where";
 
 const NO_STORE: &str = "hint: hookhost init makes a repository here";
@@ -25,7 +26,7 @@ const NO_CONFIGURATION: &str =
 // The most folders above the working folder in which a repository is looked for.
 const MOST_FOLDERS: usize = 40;
 
-/// Says the remedy of a stop, where it has one.
+/// Says the remedy for a stop, if there is one.
 pub(crate) fn hint_at(rt: &HostRuntime, stop: &Stop) {
     match stop {
         Stop::NoRepository(RepositoryFault::CannotUseStore) if is_missing(rt, STORE) => {
@@ -44,7 +45,7 @@ fn is_missing_configuration<R: Files>(rt: &R, word: &Text) -> bool {
     word.as_str() == CONFIGURATION && is_missing(rt, CONFIGURATION)
 }
 
-// Says where the repository is, if it is in a folder above, and else how one is made.
+// Says where the repository is, if it is in a folder above, and otherwise how one is made.
 fn hint_repository(rt: &HostRuntime) {
     let mut folder = String::new(rt.alloc());
     'folders: for _ in 0..MOST_FOLDERS {
@@ -68,7 +69,8 @@ fn hint_folder(rt: &HostRuntime, folder: &str) {
     }
 }
 
-/// Says where more is told of the configuration of a `try` that was refused. A file that isn't there to be read again has no hint.
+/// Says how to learn more of a configuration that `try` refused. Only a regular file has a hint, since it is
+/// there to be read again.
 pub(crate) fn hint_refused_file(rt: &HostRuntime, file: &str) {
     if file == CONFIGURATION {
         hint(rt, EXPLAIN);
@@ -90,7 +92,7 @@ fn is_word(name: &str) -> bool {
     !name.starts_with('-') && name.bytes().all(|byte| byte == b'-' || is_plain(byte))
 }
 
-/// Whether nothing stands at a name.
+/// Whether nothing is at a name.
 pub(crate) fn is_missing<R: Files>(rt: &R, name: &str) -> bool {
     match fs::symlink_metadata(rt, name) {
         Ok(_) => false,

@@ -4,8 +4,8 @@ use child_display::{Terminal, columns_of};
 use std::env;
 use std::io::{IsTerminal, Stderr};
 
-/// Standard error, where it is a terminal on which a line can be cleared. How many columns it has is what a shell says in
-/// `COLUMNS`, since the kit's C library has no `ioctl` to ask for it, and else 80.
+/// Standard error, if it is a terminal on which a line can be cleared. How many columns it has is what a
+/// shell says in `COLUMNS`, and otherwise 80: the kit's C library has no `ioctl` to ask for it.
 pub(crate) fn terminal_of(rt: &HostRuntime) -> Option<Terminal<Stderr>> {
     let writer = rt.stderr();
     if !writer.is_terminal() || variable(rt, "TERM").as_str() == "dumb" {
@@ -18,7 +18,7 @@ pub(crate) fn terminal_of(rt: &HostRuntime) -> Option<Terminal<Stderr>> {
     })
 }
 
-// A variable of the environment, empty where it isn't there or can't be read.
+// A variable of the environment, empty if it isn't set or can't be read.
 fn variable(rt: &HostRuntime, name: &str) -> String {
     match env::var(rt, name) {
         Ok(text) => text,

@@ -1,5 +1,5 @@
-//! A store that Git tracks. It came with a checkout, so whoever wrote that may have written what the store remembers, and a few edits
-//! make it tell any hook as passed.
+//! A store that Git tracks. It came with a checkout, so whoever wrote that may have written its cached
+//! results. A few edits would make any hook be reported as passed.
 
 use crate::stop::is_memory;
 use commit_flow::{Host, HostRefusal};
@@ -9,11 +9,12 @@ use std::alloc::{AllocError, Global};
 use std::io;
 use std::process::Command;
 
-// What is said where something was remembered.
+// What is said if something was cached.
 const NOT_TRUSTED: &str =
     "hookhost: Git tracks .hookhost, or doesn't say: what is remembered there isn't used (git rm -r --cached .hookhost)";
 
-/// Forgets what the store remembers where Git tracks it, or where that can't be told, and says so. A refusal leaves all as it was.
+/// Drops the cached results of a store that Git tracks, and says so; also if it can't be learned whether Git
+/// does. A refusal leaves all as it was.
 pub(crate) fn distrust<S: Alter + Drop>(
     rt: &HostRuntime,
     host: &mut Host<S>,
@@ -33,7 +34,7 @@ fn may_be_tracked(rt: &HostRuntime) -> Result<bool, HostRefusal> {
     }
 }
 
-// What Git says, or that it may be so where that can't be told.
+// Whether Git says so, and true if that can't be learned.
 fn is_told_tracked(rt: &HostRuntime) -> Result<bool, HostRefusal> {
     match is_tracked(rt) {
         Ok(is_tracked) => Ok(is_tracked),
@@ -42,7 +43,7 @@ fn is_told_tracked(rt: &HostRuntime) -> Result<bool, HostRefusal> {
     }
 }
 
-// Whether Git tracks anything in the folder of the repository, or fails.
+// Whether Git tracks anything in the folder of the repository (git-ls-files(1), "--cached"), or fails.
 fn is_tracked(rt: &HostRuntime) -> io::Result<bool> {
     let ended = command_of(rt.alloc())?.output(rt)?;
     Ok(!(ended.status.success() && ended.stdout.is_empty()))

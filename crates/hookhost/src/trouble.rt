@@ -1,18 +1,18 @@
-//! What was in the way of children: of their files, and of a start.
+//! Reports what was in the way of children: of their files, and of a start.
 
 use crate::runs::RealChildren;
 use process_children::Trouble;
 use std::io::Write;
 use text_output::{Unwritten, write_path, write_pieces};
 
-// What stands before the place that was in the way of files, and before the word that could not be started.
+// What comes before the place that was in the way of files, and before the word that could not be started.
 const AT: &str = "hookhost: ";
 
 const CANNOT_START: &str = "hookhost: cannot start ";
 
-/// Says on standard error which file or folder was in the way of the children's files first, and which word could not be started
-/// first, each with the system's error there. Nothing of what was in no child's way, of a word without a letter, or if memory is
-/// refused.
+/// Says on standard error which file or folder was first in the way of the children's files, and which word
+/// could not be started first. Each comes with the system's error there. Nothing is said if there was no such
+/// trouble, of an empty place or word, or if memory is refused.
 pub(crate) fn tell_trouble(rt: &HostRuntime, children: &RealChildren) {
     let children = children.children().children();
     tell(rt, AT, children.trouble());

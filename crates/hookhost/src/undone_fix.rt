@@ -8,8 +8,8 @@ use repo_store::Store;
 use sqlite::Alter;
 use std::alloc::Global;
 
-/// The path of the first file to which the work gives other bytes than its fix would, where there is one. It is looked for before
-/// the work is done, since the fixes are forgotten then. `None` also where memory is refused.
+/// The path of the first file to which the work gives other bytes than its fix would, if there is one. It is
+/// looked for before the work is done, since that drops the fixes. `None` also if memory is refused.
 pub(crate) fn undone_fix<S: Alter>(
     alloc: Global,
     work: &Work,
@@ -52,7 +52,7 @@ fn undone_by(alloc: Global, edit: &StagingEdit, fixes: &[Change]) -> Option<Repo
     }
 }
 
-// The path, where its fix gives other bytes to it than these. The fixes stand in the order of their paths.
+// The path, if its fix gives other bytes to it than these. The fixes are in the order of their paths.
 fn undone_at(alloc: Global, path: &Text, bytes: &[u8], fixes: &[Change]) -> Option<RepoPath> {
     let Ok(path) = RepoPath::read(alloc, path.as_str()) else {
         return None;

@@ -1,4 +1,4 @@
-//! The staged files that the words of `rm` stand for.
+//! The staged files that the words of `rm` name.
 
 use crate::staged_words::is_working_folder;
 use commit_flow::StagingEdit;
@@ -17,8 +17,9 @@ struct Gathered {
     paths: BTreeSet<String>,
 }
 
-/// The edits that take out what the words name, in the order of the words. A word that isn't staged but is a folder of staged files
-/// stands for these, and what comes again is taken out once. A word that is neither has an edit too, which the store refuses.
+/// The edits that unstage what the words name, in the order of the words. A word that isn't staged but is a
+/// folder of staged files means these, and what comes again is unstaged once. A word that is neither has an
+/// edit too, which the store refuses.
 pub(crate) fn unstaged_by<S: Alter>(
     alloc: Global,
     store: &Store<S>,
@@ -39,7 +40,7 @@ pub(crate) fn unstaged_by<S: Alter>(
     Ok(gathered.edits)
 }
 
-/// The edits that take out the staged files below a word. There are none where the word itself is staged.
+/// The edits that unstage the staged files below a word. There are none if the word itself is staged.
 pub(crate) fn unstaged_below<S: Alter>(
     alloc: Global,
     store: &Store<S>,
@@ -56,8 +57,8 @@ pub(crate) fn unstaged_below<S: Alter>(
     Ok(gathered.edits)
 }
 
-/// Whether a word names the working folder while no file is staged. The store would be asked for a file of that name then, which is
-/// no path.
+/// Whether a word names the working folder while no file is staged. Otherwise the store would be asked for a
+/// file of that name, which is no path.
 pub(crate) fn is_folder_of_none<S: Alter>(word: &Text, store: &Store<S>) -> bool {
     is_working_folder(word.as_str()) && store.staged_file(0).is_none()
 }
@@ -70,7 +71,7 @@ fn is_staged<S: Alter>(alloc: Global, store: &Store<S>, word: &str) -> Result<bo
     }
 }
 
-// Gathers the staged files below a folder, and answers whether there are any.
+// Gathers the staged files below a folder, and returns whether there are any.
 fn gather_below<S: Alter>(
     store: &Store<S>,
     word: &str,
@@ -91,7 +92,7 @@ fn gather_below<S: Alter>(
     Ok(is_any)
 }
 
-// How the paths below a folder begin. Slashes may stand behind the word already.
+// How the paths below a folder begin. Slashes may follow the word already.
 fn head_of(alloc: Global, word: &str) -> Result<String, OutOfMemory> {
     if is_working_folder(word) {
         return Ok(String::new(alloc));
@@ -101,7 +102,7 @@ fn head_of(alloc: Global, word: &str) -> Result<String, OutOfMemory> {
     Ok(head)
 }
 
-// The index of the first staged file whose path isn't before the text. The paths rise.
+// The index of the first staged file whose path isn't less than the text. The paths are in rising order.
 fn first_from<S: Alter>(store: &Store<S>, text: &str) -> usize {
     let (mut low, mut high) = (0, MOST_FILES);
     'halves: for _turn in 0..usize::BITS {

@@ -23,14 +23,14 @@ use std::rt::Files;
 pub(crate) enum Work {
     /// The call of a line in which no hooks run, with the bytes of the file that it stages.
     Call {
-        /// The line, whose names are all in it.
+        /// The line with all its names.
         line: Line,
         /// The bytes, none for a line that stages no file.
         bytes: Vec<u8>,
     },
     /// The call of a line that runs hooks.
     HookCall {
-        /// The line, whose names are all in it.
+        /// The line with all its names.
         line: Line,
         /// The ids and aliases of the hooks that are skipped.
         skip: Items<Text>,
@@ -39,13 +39,14 @@ pub(crate) enum Work {
     },
     /// Changes of the staged files, all or none. There may be none to make.
     Stage(Vec<StagingEdit>),
-    /// Staged files are taken out, all or none: the words name them, or folders of them.
+    /// Staged files to unstage, all or none: the words name them, or folders of them.
     Unstage(Items<Text>),
 }
 
-/// What an update asks of the store. The names are those that its `--paths-from` lists. What it stages is read, each file once and
-/// up to one byte past the limit: the host refuses one that is longer. A word that can't be used is `Stop::CannotUse`, and want of
-/// memory, for what runs of hooks need too, `Stop::RefusedCommand`. So it is of the variable by which Git's hook names a file, if it isn't UTF-8.
+/// What an update asks of the store. The names are those that its `--paths-from` lists. What it stages is
+/// read, each file once and up to one byte past the limit: the host refuses a longer one. A word that can't
+/// be used is `Stop::CannotUse`, and so is a variable that children depend on. Want of memory is
+/// `Stop::RefusedCommand`, also for what runs of hooks need.
 pub(crate) fn work_of(rt: &HostRuntime, update: Update, names: Items<Text>) -> Result<Work, Stop>
     ensures can { IfOk result IsWork }
     ensures work { IfOk result (IsWorkOf update names) }
@@ -122,7 +123,7 @@ fn add_work<R: Files + AllocGlobal>(
     }
 }
 
-// One word that is a file is the host's own call, as ever.
+// A single word that names no folder is the host's own call.
 fn add_words<R: Files + AllocGlobal>(
     rt: &R,
     words: Items<Text>,
@@ -148,7 +149,7 @@ fn add_words<R: Files + AllocGlobal>(
     })
 }
 
-// One word that is no folder is the host's own call too.
+// A single word is a call too: `answer_line` of `commands` looks whether it is a folder of staged files.
 fn remove_work<R: AllocGlobal>(rt: &R, paths: PathSource, names: Items<Text>) -> Work
     ensures can { IsWork result }
     ensures work { IsWorkOf (Remove paths) names result }
@@ -165,7 +166,7 @@ fn remove_work<R: AllocGlobal>(rt: &R, paths: PathSource, names: Items<Text>) ->
     }
 }
 
-// The files that a run is about, those that its file lists by their names.
+// The files of a run, of which those that a file lists are given by their names.
 fn named(files: FileChoice, names: Items<Text>) -> FileChoice
     ensures named { result ≡ named files names }
     ensures can { IsNamed result }

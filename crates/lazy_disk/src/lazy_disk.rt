@@ -1,4 +1,4 @@
-//! The disk that hands on only what has to be done.
+//! `LazyDisk`: a disk that passes a sync or a cut on only when it has to.
 
 ghost use Rattle.std.specs.Prelude.{◌≡◌, ◌≤◌, ◌+◌, ◌↔◌, ◌&&◌, not, false, length, List, ℕ, None, IsTrue, IsOk, IfErr, IfSome, OnOk};
 ghost use Rattle.sqlite_disk.specs.Disk.{CountsFault, Only};
@@ -10,28 +10,31 @@ ghost use Rattle.lazy_disk.specs.DueCutLemmas.{shown_may_stay};
 use sqlite_disk::{Crash, Disk, Tally};
 use std::io;
 
-/// A disk that hands each call on to another, but for two.
+/// A disk that passes each call on to another disk, with three exceptions.
 ///
-/// It hands a sync on only where something may have been written since the last one that passed. Where nothing was, the disk
-/// below has just what a read returns, so to wait for it again tells nothing new: such a sync answers `Ok`.
+/// It passes a sync on only if something may have been written since the last sync that passed. If nothing
+/// was, the disk below keeps just what a read returns, and another wait adds nothing: such a sync answers
+/// `Ok`.
 ///
-/// It refuses what would make the file longer than it may get, before anything of it is handed on ([`LazyDisk::up_to`]).
+/// It refuses what would make the file longer than it may get, before any of it is passed on
+/// ([`LazyDisk::up_to`]).
 ///
-/// It puts a cut of the file off: a length that the file is known to have is only kept as due, and is handed on before the next
-/// write, a longer length or a sync. Each answer is as if the file were cut. Where nothing more is written or synced, the file
-/// below stays longer, which is what a cut that wasn't synced may leave anyway.
+/// It delays a cut of the file. A length that the file is known to have is only noted as due. It is passed on
+/// before the next write, a longer length or a sync. Each answer is as if the file were cut already. If
+/// nothing more is written or synced, the file below stays longer, which a cut that wasn't synced may leave
+/// anyway.
 #[derive(Drop)]
 pub struct LazyDisk<D: Disk> {
     inner: D,
-    // The file below has at least so many bytes, by what passed here.
+    // A lower bound on the length of the file below, from the calls that passed here.
     known_len: usize,
-    // The length to which it is still to be cut.
+    // The length to which the file below is still to be cut.
     cut: Option<usize>,
-    // The most bytes that the file may get.
+    // The greatest length that the file may get.
     most_len: usize,
-    // The calls that failed here, and not below.
+    // How many calls failed here, and not below.
     refused: u64,
-    // A sync failed before it reached the disk below.
+    // Whether a sync failed before it reached the disk below.
     is_sync_refused: bool,
     // Whether something may have been written below since the last sync that passed.
     is_dirty: bool,
@@ -44,8 +47,9 @@ pub struct LazyDisk<D: Disk> {
 impl<D: Disk> LazyDisk<D> {
     ghost use Rattle.lazy_disk.specs.LazyDisk.{inner_of, is_dirty, cut_of, uncut_of, most_of, IsFresh};
 
-    /// Over a disk of which it isn't known what is written: the first sync is handed on. Its torn writes mix in all of its
-    /// states or in none: a write may bring a cut with it here, and no contract says that a cut leaves this as it was.
+    /// Wraps a disk of which it isn't known what is synced, so the first sync is passed on. Its torn writes
+    /// must mix in all of its states or in none. For a write may bring a cut with it here, and no contract
+    /// says that a cut leaves `is_mixing` as it was.
     pub fn new(inner: D) -> Self
         requires { (a b : D) → D.Disk.is_mixing a ≡ D.Disk.is_mixing b }
         ensures inner { inner_of result ≡ inner }
@@ -64,8 +68,8 @@ impl<D: Disk> LazyDisk<D> {
         }
     }
 
-    /// Over a disk of which all that was written is synced: a sync is handed on only after the next write. Its torn writes
-    /// mix in all of its states or in none, as above.
+    /// Wraps a disk on which all writes are synced, so a sync is passed on only after the next write. Its
+    /// torn writes must mix in all of its states or in none, as for [`LazyDisk::new`].
     pub fn over_synced(inner: D) -> Self
         requires mixing { (a b : D) → D.Disk.is_mixing a ≡ D.Disk.is_mixing b }
         requires synced { Only (D.Disk.seen inner) (D.Disk.may_leave inner) }
@@ -85,8 +89,9 @@ impl<D: Disk> LazyDisk<D> {
         }
     }
 
-    /// The same disk, whose file gets no longer than this: a write past it, or such a length, is `ErrorKind::FileTooLarge`. Where the
-    /// process has a limit for the length of its files, to hand such a call on would end it by a signal.
+    /// The same disk, whose file gets no longer than `most_len`: a write past that, or a longer length, is
+    /// `ErrorKind::FileTooLarge`. If the process has a limit on the size of its files, such a call would end
+    /// it by the signal `SIGXFSZ` (getrlimit(2), "RLIMIT_FSIZE").
     pub fn up_to(self, most_len: usize) -> Self
         ensures inner { inner_of result ≡ inner_of self }
         ensures dirty { is_dirty result ≡ is_dirty self }
@@ -114,8 +119,8 @@ impl<D: Disk> LazyDisk<D> {
         &self.inner
     }
 
-    /// Where a cut is due, how many bytes the file below is known to have: those that the cut leaves, where it has failed
-    /// already. Else `None`.
+    /// How many bytes the file below is known to have while a cut is due, and `None` if none is due. After a
+    /// failed cut these are the bytes that the cut leaves.
     pub fn uncut_len(&self) -> Option<usize>
         ensures known { result ≡ uncut_of self.now }
         ensures within { IfSome result (λ n. n ≤ length (D.Disk.seen (inner_of self.now))) }
@@ -126,14 +131,14 @@ impl<D: Disk> LazyDisk<D> {
         }
     }
 
-    // How long the file shows at least, by what passed here.
+    // A lower bound on the length that the file shows, from the calls that passed here.
     fn shown_len(&self) -> usize
         ensures { result ≡ shown_len self.now.cut self.now.known_len }
     {
         self.cut.unwrap_or(self.known_len)
     }
 
-    // Does the cut that is due. Where that fails, it stays due, and the file shows as before.
+    // Does the cut that is due. If that fails, it stays due, and reads answer as before.
     fn settle(&mut self) -> io::Result<()>
         requires { IsTrue (D.Disk.is_usable self.old.inner) }
         ensures settled { OnOk result ((self.new.cut ≡ None) × (self.new.known_len ≡ shown_len self.old.cut self.old.known_len)) }
@@ -160,7 +165,7 @@ impl<D: Disk> LazyDisk<D> {
     }
 }
 
-// A read past the cut fails, as one past the end of a file does.
+// A read past the cut fails like one past the end of a file.
 fn keep_within(cut: Option<usize>, at: usize, len: usize, refused: &mut u64) -> io::Result<()>
     ensures within { IsOk result ↔ EndsWithin cut (at + len) }
     ensures faults { CountsFault result refused.old refused.new }
@@ -174,7 +179,7 @@ fn keep_within(cut: Option<usize>, at: usize, len: usize, refused: &mut u64) -> 
     Ok(())
 }
 
-// What would end past the most bytes that the file may get fails.
+// A call that would end past the greatest length of the file fails.
 fn keep_up_to(most: usize, at: usize, len: usize, refused: &mut u64) -> io::Result<()>
     ensures within { IsOk result ↔ at + len ≤ most }
     ensures kind { IfErr result (λ error. is_no_room error ≡ false) }
@@ -187,8 +192,9 @@ fn keep_up_to(most: usize, at: usize, len: usize, refused: &mut u64) -> io::Resu
     Ok(())
 }
 
-// Never frozen: on a frozen disk each call fails, and a cut that is put off or a sync that isn't handed on passes. No bytes are promised to be damaged,
-// since no contract says that a cut leaves the damage as it was.
+// Never frozen: each call on a frozen disk fails, but here a delayed cut passes, and so does a sync that
+// isn't passed on. No bytes are promised to be damaged, since no contract says that a cut leaves the damage
+// as it was.
 impl<D: Disk> Disk for LazyDisk<D> {
     ghost seen = { λ f. shown_bytes f.cut (D.Disk.seen f.inner) };
 
@@ -283,8 +289,8 @@ impl<D: Disk> Disk for LazyDisk<D> {
     }
 }
 
-// What a crash leaves may be shorter than anything that passed here, and with the machine the cut is gone. It is synced again
-// before anything rests on it, so the disk counts as written to.
+// A crash may leave a file shorter than any length that passed here, and the due cut is lost with the
+// machine. The file is synced again before anything relies on it, so the disk counts as written to.
 impl<D: Crash> Crash for LazyDisk<D> {
     fn crash(&mut self) {
         self.known_len = 0;

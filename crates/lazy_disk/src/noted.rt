@@ -1,4 +1,4 @@
-//! A disk that notes the calls which change or read its file, for tests.
+//! A disk for tests that records the calls which change or read its file.
 
 use sqlite_disk::{Crash, Disk, Tally};
 use std::io;
@@ -6,13 +6,13 @@ use std::io;
 #[derive(Drop)]
 pub(crate) struct Noted<D: Disk> {
     pub(crate) inner: D,
-    /// A letter for each call, in order: `r` for a read, `l` for the length, `w` for a write, `c` for a new length, `s` for
-    /// a sync.
+    /// A letter for each call, in order: `r` for a read, `l` for the length, `w` for a write, `c` for a new
+    /// length, `s` for a sync.
     pub(crate) calls: String,
 }
 
 fn note(calls: &mut String, letter: char) {
-    // A letter that is lost is missed in what a test compares.
+    // A lost letter is missing in what a test compares.
     let _noted = calls.push(letter);
 }
 
@@ -94,7 +94,7 @@ impl<D: Crash> Crash for Noted<D> {
     }
 }
 
-/// What tells which calls it noted.
+/// A disk that reports the calls that it recorded.
 pub(crate) trait Notes {
     fn notes(&self) -> &str;
 }

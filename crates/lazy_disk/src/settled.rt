@@ -1,4 +1,4 @@
-//! The files of a database as they are opened.
+//! A `LazyDisk` over each file of a database that was just opened.
 
 ghost use Rattle.std.specs.Prelude.{◌≡◌, true, false, None, IsTrue};
 ghost use Rattle.lazy_disk.specs.LazyDisk.{inner_of, is_dirty, cut_of};
@@ -8,8 +8,8 @@ use crate::LazyDisk;
 use sqlite_disk::{Disk, Files, Start};
 use sqlite_std_file::FileFrom;
 
-/// The files as `sqlite_std_file::open` gives them, which has synced both: a sync of either is handed on only after the
-/// next write to it, and a cut only before one, before a longer length or before a sync.
+/// Wraps the files as `sqlite_std_file::open` gives them, which has synced both. A sync of either is passed
+/// on only after the next write to it. A cut is passed on only before a write, a longer length or a sync.
 pub fn settled_files<S: Start>(files: Files<FileFrom<S>>) -> Files<LazyDisk<FileFrom<S>>>
     requires fresh { IsFresh true files.log × IsFresh false files.db }
     ensures log { inner_of result.log ≡ files.log }

@@ -1,11 +1,12 @@
-//! Tests of what no clause says: which calls are handed on.
+//! Tests of what no clause says: which calls are passed on.
 //!
-//! A case is a disk, the calls that are made of it, and what they tell, a word a call: `.` where it passed and `!` where it
-//! failed, the letters of the calls that were handed on (`noted.rt`), and behind a slash what was read. A disk that may not be
-//! used is asked nothing but to crash: `-`. At the end stands whether a cut is due.
+//! A case is a disk, the calls that are made on it, and what is expected, a word for each call. A word is `.`
+//! if the call passed and `!` if it failed, the letters of the calls that were passed on (`noted.rt`), and
+//! after a slash what was read. A disk that may not be used gets no call but a crash: `-`. The end says
+//! whether a cut is due.
 //!
-//! A case is plain data, and each layer of its disk is put on by a function of its own, over any disk: a proof grows with the
-//! types that its function names, and faster than they do.
+//! A case is plain data, and a function of its own, over any disk, adds each layer of its disk. For a proof
+//! grows faster than the types that its function names.
 
 ghost use Rattle.std.specs.Prelude.{◌≡◌, true, false, IsTrue};
 ghost use Rattle.sqlite_disk.specs.Disk.{Only};
@@ -26,16 +27,16 @@ enum Call {
     SetLen(usize),
     Sync,
     Len,
-    // Two bytes from there on.
+    // Two bytes from this offset on.
     Read(usize),
-    // Writes two bytes, waits for the disk, and reads them beside their digest.
+    // Writes two bytes, syncs, and reads them together with their digest.
     ReadBesideDigest,
     Crash,
 }
 
 use Call::{Len, Read, ReadBesideDigest, SetLen, Sync, Write};
 
-// A disk over an empty file in memory, of which so many calls pass and then each fails.
+// A disk over an empty file in memory, on which so many calls pass and then each one fails.
 #[derive(Clone, Copy)]
 enum Over {
     // Nothing is known to be synced.
@@ -53,7 +54,7 @@ fn passing_calls(over: Over) -> u64 {
     }
 }
 
-// Text that is lost is missed in what a test compares.
+// Lost text is missing in what a test compares.
 fn tell(told: &mut String, text: &str) {
     let _told = told.push_str(text);
 }
@@ -77,7 +78,7 @@ fn read_beside_digest<D: Disk>(disk: &mut D, read: &mut [u8; 2]) -> io::Result<(
     disk.read_checked(7, digest_of(7, b"ab"), 0, read)
 }
 
-// Makes a call of a disk that may be used.
+// Makes a call on a disk that may be used.
 fn called<D: Disk>(disk: &mut D, call: Call, read: &mut [u8; 2]) -> &'static str {
     if !disk.may_be_used() {
         return "-";
@@ -110,7 +111,7 @@ fn tell_read(told: &mut String, call: Call, read: [u8; 2]) {
     }
 }
 
-// A call's word.
+// Appends the word of a call.
 fn tell_call<D: Crash + Notes>(told: &mut String, disk: &mut LazyDisk<D>, call: Call) {
     let before = disk.inner().notes().len();
     let mut read = [0; 2];
@@ -120,7 +121,7 @@ fn tell_call<D: Crash + Notes>(told: &mut String, disk: &mut LazyDisk<D>, call: 
     tell(told, " ");
 }
 
-// What the calls tell that are made of a disk.
+// The words of the calls that are made on a disk, and the end.
 fn played<D: Crash + Notes + Drop>(alloc: Global, disk: LazyDisk<D>, calls: &[Call]) -> String {
     let mut disk = disk;
     let mut told = String::new(alloc);
@@ -148,7 +149,7 @@ fn lazy<D: Disk>(inner: D, over: Over) -> LazyDisk<D>
     }
 }
 
-// The disk that is tested goes over one that notes its calls.
+// Puts the disk under test over one that records its calls.
 fn told_lazily<D: Crash + Notes + Drop>(
     alloc: Global,
     inner: D,
@@ -161,7 +162,7 @@ fn told_lazily<D: Crash + Notes + Drop>(
     played(alloc, lazy(inner, over), calls)
 }
 
-// And that goes over one that may fail.
+// Puts that one over a disk that may fail.
 fn told_noted<D: Crash + Drop>(alloc: Global, inner: D, over: Over, calls: &[Call]) -> String
     requires mixing { (a b : D) → D.Disk.is_mixing a ≡ D.Disk.is_mixing b }
     requires synced { Only (D.Disk.seen inner) (D.Disk.may_leave inner) }
@@ -178,7 +179,7 @@ fn told(alloc: Global, over: Over, calls: &[Call]) -> String {
     told_noted(alloc, inner, over, calls)
 }
 
-// These calls of such a disk tell this.
+// Checks that these calls on such a disk give these words.
 fn check(rt: &(impl Abort + AllocGlobal), over: Over, calls: &[Call], wanted: &str) {
     let told = told(rt.alloc(), over, calls);
     assert_eq!(rt; told.as_str(), wanted);
@@ -342,7 +343,7 @@ const FOLDER: &str = "lazy_disk_test";
 
 const PATH: &str = "lazy_disk_test/a.db";
 
-// Writes bytes between two waits for the disk, and answers how many there are then.
+// Writes bytes between two syncs, and returns the length of the file then.
 fn kept<D: Disk>(disk: &mut D, bytes: &[u8]) -> io::Result<usize>
     requires { IsTrue (D.Disk.is_usable disk.old) }
 {
@@ -371,7 +372,7 @@ fn both_have<D: Disk>(files: &mut Files<D>) -> io::Result<bool>
     Ok(log == *b"log" && db == *b"db")
 }
 
-// What is done of the files once they are opened.
+// What is done with the files once they are opened.
 #[derive(Clone, Copy)]
 enum Turn {
     Keep,

@@ -1,5 +1,5 @@
-//! Tests of what no clause of `result_book` says: that the calls which take memory succeed, and what a key is and which row
-//! goes, by example.
+//! Tests of what no clause of `result_book` says: that calls which allocate succeed, and by example what a
+//! key is and which row is dropped.
 
 ghost use Rattle.store_faults.specs.Limits.{IsLimit};
 
@@ -12,7 +12,7 @@ use std::process::Abort;
 use std::test::Fail;
 use store_faults::FIRST_LIMIT;
 
-// The files of these paths with the bytes after `=`. Those that are to be run have `*` before their path.
+// The files at these paths with the bytes after `=`. `*` before a path means that the file is executable.
 fn tree_of(alloc: Global, files: &str) -> Result<Tree, Fail> {
     let mut tree = Tree::new(alloc);
     for file in files.split_whitespace() {
@@ -27,7 +27,7 @@ fn tree_of(alloc: Global, files: &str) -> Result<Tree, Fail> {
     Ok(tree)
 }
 
-// An answer that prints this, and leaves it in the file of this path.
+// An answer that prints this, and leaves it in the file at this path.
 fn answer_of(alloc: Global, path: &str, output: &str) -> Result<Answer, Fail> {
     let mut changes = Vec::new(alloc);
     changes.push(Change {
@@ -41,7 +41,7 @@ fn answer_of(alloc: Global, path: &str, output: &str) -> Result<Answer, Fail> {
     })
 }
 
-// What is put, for these words and files, is an answer that prints this.
+// Puts an answer that prints this for these words and files.
 fn put(
     rt: &impl Abort,
     alloc: Global,
@@ -56,7 +56,7 @@ fn put(
     Ok(book.put(words.as_slice(), &seen, &answer)?)
 }
 
-// What is found, for these words and files, is an answer that prints this, or nothing.
+// Checks that what is found for these words and files is an answer that prints this, or nothing.
 fn check_found(
     rt: &impl Abort,
     alloc: Global,
@@ -75,13 +75,13 @@ fn check_found(
     Ok(())
 }
 
-// What is asked of a book for these words and files, and how many answers it remembers then.
+// What a book is asked for these words and files, and how many answers it holds then.
 #[derive(Clone, Copy)]
 enum Step {
     Find((&'static str, &'static str), Option<&'static str>),
     Put((&'static str, &'static str), &'static str),
     Len(u64),
-    // So many were forgotten.
+    // The number of answers that were removed.
     Forget(u64),
 }
 
@@ -133,7 +133,8 @@ fn remembers_an_answer_until_it_forgets(rt: HostRuntime) -> Result<(), Fail> {
     )
 }
 
-// Of the same words and files nothing is found yet, and then what was put. The second time another answer is put in its place.
+// Checks that nothing is found for the words and files at first, and then what was put. The second time
+// another answer replaces it.
 fn check_key(
     rt: &impl Abort,
     alloc: Global,
@@ -189,7 +190,7 @@ fn play_line(rt: &impl Abort, alloc: Global, book: &mut ListBook, line: &str) ->
     Ok(())
 }
 
-// Each word of a line is found, or none is.
+// Checks that each word of a line is found, or that none is.
 fn check_line(
     rt: &impl Abort,
     alloc: Global,
@@ -204,8 +205,8 @@ fn check_line(
     Ok(())
 }
 
-// Plays a line over a book of a limit: each word is put, or looked up where it has `?` behind it. Then those are found that are
-// `kept`, and none of those that are `gone`; how many there are is told by the book too.
+// Plays a line over a book with a limit: each word is put, or looked up if `?` follows it. Then the `kept`
+// ones are found and the `gone` ones aren't, and the book reports how many there are.
 fn check_play(
     rt: &impl Abort,
     alloc: Global,
@@ -223,7 +224,7 @@ fn check_play(
     check_count(rt, alloc, &mut book, kept.split_whitespace().count() as u64)
 }
 
-// So many answers are remembered, and forgotten; one is remembered then again.
+// Checks how many answers are cached and removed, and that one is cached again afterwards.
 fn check_count(
     rt: &impl Abort,
     alloc: Global,

@@ -1,5 +1,5 @@
-//! Tests of what no clause of `child_port` says: that the calls which take memory succeed, the rules by example, and which call
-//! of a fuse fails.
+//! Tests of what no clause of `child_port` says: that calls which allocate succeed, the rules by example, and
+//! which call of a fuse fails.
 
 use crate::words::words_of;
 use child_port::{
@@ -11,7 +11,7 @@ use std::alloc::Global;
 use std::process::Abort;
 use std::test::Fail;
 
-// A file at each of these paths. It holds its path, and is to be run where this ends in `.sh`.
+// A file at each of these paths. It contains its path, and is executable if the path ends in `.sh`.
 fn tree_of(alloc: Global, paths: &str) -> Result<Tree, Fail> {
     let mut tree = Tree::new(alloc);
     for path in paths.split_whitespace() {
@@ -34,7 +34,8 @@ fn paths_of(alloc: Global, paths: &str) -> Result<Vec<RepoPath>, Fail> {
     Ok(all)
 }
 
-// A child of these words, and of these further paths, sees the files of these paths, or all where it sees the whole tree.
+// Checks that a child with these words and extra paths sees the files at these paths, or all if it sees the
+// whole tree.
 fn check_seen(
     rt: &impl Abort,
     alloc: Global,
@@ -144,7 +145,7 @@ fn takes_one_dot_slash_away(rt: HostRuntime) {
     }
 }
 
-// An answer that leaves these bytes in the file of each word's path, or says of a path alone that it is gone.
+// An answer that leaves the given bytes in each word's file; a path alone means that the file is gone.
 fn answer_of(alloc: Global, changes: &str) -> Result<Answer, Fail> {
     let mut list = Vec::new(alloc);
     for change in changes.split_whitespace() {
@@ -182,7 +183,8 @@ fn strays_where_it_changes_what_it_has_not_seen(rt: HostRuntime) -> Result<(), F
     Ok(())
 }
 
-// A child of this word that sees the whole tree ends so, and then so many calls and faults are counted.
+// Checks how a child with this word that sees the whole tree ends, and how many calls and faults are counted
+// then.
 fn check_call<C: Children>(
     rt: &impl Abort,
     alloc: Global,
@@ -199,7 +201,7 @@ fn check_call<C: Children>(
     Ok(())
 }
 
-// Children that answer `c` alone on this tree, and have told so many outcomes.
+// Children that answer only `c` on this tree, and have reported `calls` outcomes.
 fn children_of(alloc: Global, tree: &Tree, calls: u64) -> Result<TableChildren, Fail> {
     let mut rows = Vec::new(alloc);
     rows.push(TableRow {
@@ -210,7 +212,7 @@ fn children_of(alloc: Global, tree: &Tree, calls: u64) -> Result<TableChildren, 
     Ok(TableChildren::with_calls(Items::from(rows), calls))
 }
 
-// Of three calls the one of this number fails so, and no other.
+// Checks that of three calls only the one with this number fails, and with what.
 fn check_kth(
     rt: &impl Abort,
     alloc: Global,

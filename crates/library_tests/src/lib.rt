@@ -1,9 +1,10 @@
-//! Tests of public calls of libraries: of what no clause says, as the texts that are printed, and that calls which take memory
-//! succeed.
+//! Tests of the public calls of libraries: of what no clause says, such as the texts that are printed, and
+//! that calls which allocate succeed.
 //!
-//! They stand in a crate of their own, since a crate with tests is proved twice: alone, and once more with them. The module
-//! `children` tests `child_port`, `shown_lines` `child_display`, and `books` `result_book`. A test is a list of cases, which one
-//! function plays: a proof grows with the ways out of a function, and faster than they do.
+//! They are in a crate of their own, since a crate with tests is proved twice: without them, and again with
+//! them. The module `children` tests `child_port`, `shown_lines` tests `child_display`, and `books` tests
+//! `result_book`. A test is a list of cases that one function plays: a proof grows faster than the number of
+//! ways out of a function.
 #![tactic(auto)]
 
 #[cfg(test)]

@@ -1,5 +1,5 @@
-//! Tests of what no clause of `child_display` says: that lines are made, by example, and what a terminal is told while a child
-//! runs.
+//! Tests of what no clause of `child_display` says: by example that lines are made, and what is written to a
+//! terminal while a child runs.
 
 use child_display::{
     ShownChildren, ShownHook, Terminal, clearing, columns_of, line_of_child, line_of_hook,
@@ -75,7 +75,7 @@ fn reads_how_many_columns_there_are(rt: HostRuntime) {
     }
 }
 
-// A terminal that takes nothing.
+// A terminal that accepts nothing.
 #[derive(Drop)]
 struct Broken;
 
@@ -97,7 +97,8 @@ fn done(alloc: Global) -> Result<Answer, OutOfMemory> {
     })
 }
 
-// Children that answer `c x` on an empty tree, fail their second call by a signal, and have told seven outcomes.
+// Children that answer `c x` on an empty tree, fail their second call with a signal, and have reported seven
+// outcomes.
 fn children_of(alloc: Global) -> Result<FuseChildren<TableChildren>, Fail> {
     let mut rows = Vec::new(alloc);
     rows.push(TableRow {
@@ -109,7 +110,7 @@ fn children_of(alloc: Global) -> Result<FuseChildren<TableChildren>, Fail> {
     Ok(FuseChildren::new(table, 2, Fault::Signal))
 }
 
-// What shown children tell of three calls, and their counts.
+// What shown children report of three calls, and their counts.
 fn play<W: Write + Drop>(
     rt: &impl Abort,
     alloc: Global,
@@ -196,7 +197,7 @@ fn names_a_hook_before_the_words(rt: HostRuntime) -> Result<(), Fail> {
     Ok(())
 }
 
-// Runs a child before a run says anything, and then children of two hooks.
+// Runs a child before a run reports anything, and then children of two hooks.
 fn run_heard<W: Write + Drop>(
     rt: &impl Abort,
     alloc: Global,

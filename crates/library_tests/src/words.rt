@@ -4,7 +4,7 @@ use hook_base::{Items, Text};
 use std::alloc::Global;
 use std::test::Fail;
 
-/// The words that stand between blanks in a line.
+/// The words between the blanks of a line.
 pub(crate) fn words_of(alloc: Global, line: &str) -> Result<Items<Text>, Fail> {
     let mut words = Vec::new(alloc);
     for word in line.split_whitespace() {

@@ -1,4 +1,4 @@
-//! Bytes of their own, as a list.
+//! Owned bytes, as a list.
 
 ghost use Rattle.std.specs.Prelude.{◌≡◌, ◌↔◌, [], length, IfOk, IsTrue};
 
@@ -6,7 +6,8 @@ use crate::OutOfMemory;
 use std::alloc::{AllocError, Global};
 use std::marker::Model;
 
-/// Bytes that contracts see as the list of them. They are made from a `Vec` and give it back without memory.
+/// Bytes that contracts see as a list. They are made from a `Vec` and turned back into it without an
+/// allocation.
 #[derive(Debug, Drop)]
 pub struct Bytes {
     bytes: Vec<u8>,
@@ -30,7 +31,7 @@ impl Bytes {
         }
     }
 
-    /// A copy of the bytes, or `OutOfMemory` where memory is refused.
+    /// A copy of the bytes, or `OutOfMemory` if memory is refused.
     pub fn copy_of(alloc: Global, bytes: &[u8]) -> Result<Self, OutOfMemory>
         ensures { IfOk result (λ copy. copy ≡ bytes.now) }
     {
@@ -59,7 +60,7 @@ impl Bytes {
         self.bytes.as_slice()
     }
 
-    /// The same bytes, as a `Vec`. It takes no memory.
+    /// The same bytes, as a `Vec`. It allocates nothing.
     pub fn into_vec(self) -> Vec<u8>
         ensures { result.items ≡ self }
     {

@@ -1,12 +1,12 @@
-//! Items of any type, as a list.
+//! Owned items of any type, as a list.
 
 ghost use Rattle.std.specs.Prelude.{◌≡◌, ◌↔◌, [], length, IsTrue};
 
 use std::alloc::{AllocError, Global};
 use std::marker::Model;
 
-/// A collection that contracts see as the list of its items. It is made from a `Vec` and gives it back without
-/// memory.
+/// A collection that contracts see as the list of its items. It is made from a `Vec` and turned back into it
+/// without an allocation.
 #[derive(Debug, Drop)]
 pub struct Items<T> {
     items: Vec<T>,
@@ -44,7 +44,7 @@ impl<T> Items<T> {
         self.items.is_empty()
     }
 
-    /// The same items, as a `Vec`. It takes no memory.
+    /// The same items, as a `Vec`. It allocates nothing.
     pub fn into_vec(self) -> Vec<T>
         ensures { result.items ≡ self }
     {

@@ -1,7 +1,6 @@
-//! The small collections that contracts see as lists, and the refusal of memory.
+//! Small collections that contracts see as lists, and the refusal of memory.
 //!
-//! `Bytes`, `Text` and `Items` own what contracts see as the list of their bytes or items. `OutOfMemory` is the refusal of
-//! memory.
+//! `Bytes`, `Text` and `Items` own their bytes or items. `OutOfMemory` is the refusal of memory.
 #![tactic(auto)]
 
 mod bytes;

@@ -1,4 +1,4 @@
-//! Texts of their own, as lists of bytes.
+//! Owned texts, as lists of bytes.
 
 ghost use Rattle.std.specs.Prelude.{◌≡◌, ◌↔◌, [], length, string_bytes, IfOk, IsTrue};
 
@@ -6,8 +6,8 @@ use crate::{Items, OutOfMemory};
 use std::alloc::{AllocError, Global};
 use std::marker::Model;
 
-/// A text that contracts see as the list of its bytes in UTF-8. It is made from a `String` and gives it back without
-/// memory.
+/// A text that contracts see as the list of its bytes in UTF-8. It is made from a `String` and turned back
+/// into it without an allocation.
 #[derive(Debug, Drop)]
 pub struct Text {
     text: String,
@@ -22,7 +22,7 @@ impl Model for Text {
 }
 
 impl Text {
-    /// A copy of the text, or `OutOfMemory` where memory is refused.
+    /// A copy of the text, or `OutOfMemory` if memory is refused.
     pub fn copy_of(alloc: Global, text: &str) -> Result<Self, OutOfMemory>
         ensures { IfOk result (λ copy. copy ≡ text.now) }
     {
@@ -51,7 +51,7 @@ impl Text {
         self.text.as_str()
     }
 
-    /// The same text, as a `String`. It takes no memory.
+    /// The same text, as a `String`. It allocates nothing.
     pub fn into_string(self) -> String
         ensures { string_bytes result ≡ self }
     {
@@ -102,7 +102,7 @@ impl Eq for Text {
     ghost laws = { nat_list_eq_equiv };
 }
 
-/// The same texts, or `OutOfMemory` where memory is refused.
+/// A copy of the texts, or `OutOfMemory` if memory is refused.
 pub fn copy_texts(alloc: Global, texts: &[Text]) -> Result<Items<Text>, OutOfMemory>
     ensures { IfOk result (λ copy. copy ≡ texts.now) }
 {

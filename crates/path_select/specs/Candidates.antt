@@ -6,11 +6,11 @@ use Rattle.hook_base.specs.Rising.{IsRisingBy}
 use Rattle.path_select.specs.Patterns.{is_found}
 use denote.Ref.{Bor}
 
--- the paths behind references
+-- the paths that references lead to
 abbrev pub paths_of : List (Bor (List ℕ)) → List (List ℕ)
 paths_of references = map (λ path. path.now) references
 
--- each path comes before the next, so none stands there twice
+-- each path comes before the next, so none occurs twice
 abbrev pub AreRisingPaths : List (List ℕ) → Type 0
 AreRisingPaths = IsRisingBy (λ path. path)
 

@@ -1,4 +1,5 @@
--- What is chosen of candidates, looked up in the tree one by one, and when their tags needn't be made. This serves private functions alone.
+-- What is chosen of candidates, looked up in the tree one by one, and when their tags needn't be made. This
+-- serves private functions only.
 use Rattle.std.specs.Prelude.{◌≡◌, ℕ, Bool, false, IsTrue, List, [], Option, None, Some, codes}
 use Rattle.std.specs.List.{list_all}
 use Rattle.std.specs.Str.{bytes_eq}
@@ -7,7 +8,7 @@ use Rattle.hook_base.specs.declared.file.FileEntry.{FileEntry}
 use Rattle.hook_base.specs.Trees.{entry_of}
 use Rattle.path_select.specs.Selection.{RuleTexts, fits_hook}
 
--- something stands at the path, and it fits the hook
+-- there is a file at the path, and it fits the hook
 abbrev pub fits_entry : RuleTexts → List ℕ → Option FileEntry → Bool
 fits_entry rules path None = false
 fits_entry rules path (Some entry) = fits_hook rules (record { path = path; entry = entry })

@@ -1,4 +1,4 @@
--- Whether a file fits a hook by tags that are kept. This serves private functions alone.
+-- Whether a file fits a hook by tags that are kept. This serves private functions only.
 use Rattle.std.specs.Prelude.{ℕ, Bool, false, ◌&&◌, List, Option, None, Some}
 use Rattle.std.specs.Option.{option_map}
 use Rattle.hook_base.specs.declared.file.File.{File}
@@ -7,7 +7,7 @@ use Rattle.file_tags.specs.FileTags.{tags_of_file}
 use Rattle.path_select.specs.Candidates.{passes}
 use Rattle.path_select.specs.Selection.{RuleTexts, fits_types}
 
--- the tags of what the tree holds at a path
+-- the tags of the file at a path, none if the tree has no such file
 abbrev pub tags_at : List File → List ℕ → Option (List (List ℕ))
 tags_at tree path = option_map (tags_of_file path) (entry_of path tree)
 

@@ -12,15 +12,15 @@ abbrev pub number_of : PatternFault → ℕ
 number_of NotAPattern = 1
 number_of OutOfMemory = 2
 
--- want of memory is told from every other refusal of `regex`
+-- want of memory is one refusal, and every other error of `regex` is the other
 abbrev pub fault_of : Error → PatternFault
 fault_of refused.OutOfMemory = OutOfMemory
 fault_of (refused.Syntax error) = NotAPattern
 fault_of refused.CompiledTooBig = NotAPattern
 fault_of refused.Internal = NotAPattern
 
--- the fault is that of a refusal which `regex` may give for this text: one for its syntax only where the grammar reads
--- no pattern there or a pattern that nests too deep, one for its size only where there is a pattern
+-- The fault is that of an error which `regex` may give for this text. It is one of syntax only if the grammar
+-- reads no pattern there, or one that nests too deep. It is one of size only if there is a pattern.
 abbrev pub IsRefused : List ℕ → PatternFault → Type 0
 IsRefused text fault =
     (error : Error) × IsRefusal default_config text error × IsRightKind default_config text error × (fault ≡ fault_of error)

@@ -1,4 +1,5 @@
--- What a pattern means: what the grammar of `regex` reads in its text, looked for anywhere in a path.
+-- What a pattern means: what the grammar of `regex` reads in its text, searched for anywhere in a path
+-- (pre-commit.com, "Regular expressions").
 use Rattle.std.specs.Prelude.{ℕ, Bool, false, List, Option, None, Some, IsSome, is_some}
 use Rattle.std.specs.Str.{chars}
 use Rattle.regex_syntax.specs.Brackets.{Nested}
@@ -16,6 +17,7 @@ abbrev pub has_match : Option (Nested Re × Names) → List ℕ → Bool
 has_match None text = false
 has_match (Some (meaning, names)) text = is_some (find_str meaning.value text 0)
 
--- what is read in the first text matches somewhere in the second: it isn't anchored
+-- what is read in the first text matches somewhere in the second, as Python's re.search does: it isn't
+-- anchored
 unfoldable pub is_found : List ℕ → List ℕ → Bool
 is_found pattern text = has_match (meaning_of pattern) text

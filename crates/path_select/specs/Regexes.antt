@@ -1,4 +1,5 @@
--- How what `regex` makes of a pattern stands to the pattern's text. This serves the invariants of private fields alone.
+-- How a compiled pattern of `regex` relates to the text of the pattern. It serves the invariants of
+-- private fields only.
 use Rattle.std.specs.Prelude.{◌≡◌, ℕ, List, IsSomeAnd}
 use Rattle.path_select.specs.Patterns.{meaning_of}
 use Rattle.regex.specs.Patterns.{default_config, SameCaptures}

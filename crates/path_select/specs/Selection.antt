@@ -39,7 +39,8 @@ abbrev pub has_one_if_any : List (List ℕ) → List (List ℕ) → Bool
 has_one_if_any [] tags = true
 has_one_if_any (first ∷ others) tags = has_one (first ∷ others) tags
 
--- the tags have all of `types`, one of `types_or` where that list isn't empty, none of `exclude_types`
+-- the tags have all of `types`, one of `types_or` if that list isn't empty, none of `exclude_types`
+-- (pre-commit.com, "Filtering files with types")
 abbrev pub fits_types : RuleTexts → List (List ℕ) → Bool
 fits_types rules tags = has_all rules.types tags && (has_one_if_any rules.types_or tags && not (has_one rules.exclude_types tags))
 
@@ -63,7 +64,8 @@ selected rules candidates tree = map path_of (selected_rows rules candidates tre
 abbrev pub selected_among : RuleTexts → List (List ℕ) → List File → List (List ℕ)
 selected_among rules among tree = map path_of (filter (λ row. is_candidate among row.path && fits_hook rules row) tree)
 
--- the rules of one pattern alone: all others are those that a configuration has by default, and no tags are asked for
+-- the rules of one pattern alone: all others are the default ones of a configuration, and no tags are asked
+-- for
 abbrev pub rules_of_pattern : List ℕ → RuleTexts
 rules_of_pattern pattern = record {
   top_files = codes "";

@@ -19,7 +19,8 @@ turned true false c = refl
 turned false true c = refl
 turned false false c = refl
 
--- what is selected among the candidates that pass the patterns of the whole configuration is what is selected among all
+-- what is selected among the candidates that pass the patterns of the whole configuration is what is selected
+-- among all
 pub selected_among_passing : (rules : RuleTexts) (candidates among : List (List ℕ)) (tree : List File) → ArePassing rules.top_files rules.top_exclude candidates among → selected_among rules among tree ≡ selected rules candidates tree
 unfolding is_selected
 selected_among_passing rules candidates among tree passing =
@@ -36,7 +37,7 @@ rising_paths : (rows : List File) → IsRising rows → AreRisingPaths (map path
 rising_paths [] rising = tt
 rising_paths (row ∷ rows) rising = (before_paths row.path rows rising.0, rising_paths rows rising.1)
 
--- what is selected stands in the order of the paths, each once
+-- what is selected is in the order of the paths, each once
 pub selected_rising : (rules : RuleTexts) (candidates : List (List ℕ)) (tree : List File) → IsRising tree → AreRisingPaths (selected rules candidates tree)
 selected_rising rules candidates tree rising =
     rising_paths (filter (is_selected rules candidates) tree) (IsRisingBy-filter path_of (is_selected rules candidates) tree rising)
@@ -53,7 +54,7 @@ candidates-within candidates (row ∷ rows) within = (
   candidates-within candidates rows (λ path is. within path (rw is (or-true (bytes_eq row.path path)))),
 )
 
--- each file is a candidate where all paths are
+-- each file is a candidate if all paths are
 pub all_are_candidates : (tree : List File) → Each (λ row. is_candidate (map path_of tree) row.path ≡ true) tree
 all_are_candidates tree = candidates-within (map path_of tree) tree (λ path is. is)
 
@@ -76,7 +77,7 @@ found-first : (first : Bool) (row : File) (rows : List File) (path : List ℕ) �
 found-first true row rows path = refl
 found-first false row rows path = refl
 
--- a pattern is found in the paths of the tree in which it is
+-- a path is among those in which a pattern is found if it is one of the tree's and the pattern is found in it
 pub found_among : (pattern : List ℕ) (tree : List File) (path : List ℕ) → is_candidate (found_in pattern tree) path ≡ (is_candidate (map path_of tree) path && is_found pattern path)
 found_among pattern [] path = refl
 found_among pattern (row ∷ rows) path =

@@ -10,8 +10,9 @@ use hook_base::{OutOfMemory, RepoPath};
 use std::alloc::Global;
 use std::marker::Model;
 
-/// The paths that the hooks of a run may get: the candidates that pass the patterns of the whole configuration, in their
-/// order, each once. They are the same for all hooks, so a caller makes them once. Contracts see the list of them.
+/// The paths that the hooks of a run may get: the candidates that pass the patterns of the whole
+/// configuration, in their order, each once. They are the same for all hooks, so a caller makes them once.
+/// Contracts see the list of them.
 #[derive(Drop)]
 pub struct Candidates<'a> {
     pub(crate) paths: Vec<&'a RepoPath>,
@@ -30,8 +31,8 @@ impl<'a> Model for Candidates<'a> {
 }
 
 impl<'a> Candidates<'a> {
-    /// The candidates in whose path `files` is found and `exclude` isn't. They may come in any order, and repeated; those
-    /// that come in order aren't sorted. `OutOfMemory` where memory is refused.
+    /// The candidates in whose path `files` is found and `exclude` isn't. They may come in any order and
+    /// repeated; those that come in order aren't sorted. `OutOfMemory` if memory is refused.
     pub fn passing(
         alloc: Global,
         files: &Pattern,

@@ -8,9 +8,10 @@ use crate::search::Search;
 use hook_base::{Items, OutOfMemory, RepoPath, Tree};
 use std::alloc::Global;
 
-/// The paths of the tree's files in which the pattern is found, in their order. Neither other patterns nor tags are looked at:
-/// it is what [`crate::select`] gives with all paths as candidates, where all other patterns are those that a configuration
-/// has by default, and no tags are asked for ([`crate::laws`]). `OutOfMemory` where memory is refused.
+/// The paths of the tree's files in which the pattern is found, in their order. Neither other patterns nor
+/// tags are looked at. It is what [`crate::select`] gives with all paths as candidates, if all other patterns
+/// are the default ones of a configuration, and no tags are asked for ([`crate::laws`]). `OutOfMemory` if
+/// memory is refused.
 pub fn select_found(
     alloc: Global,
     pattern: &Pattern,

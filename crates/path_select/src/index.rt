@@ -1,4 +1,4 @@
-//! Where a path's file stands in a tree.
+//! The index of a path's file in a tree.
 
 ghost use Rattle.std.specs.Prelude.{◌≡◌, None};
 ghost use Rattle.std.specs.Option.{MatchOption};
@@ -8,7 +8,8 @@ ghost use Rattle.hook_base.specs.Trees.{entry_of};
 use hook_base::{RepoPath, Tree};
 use std::cmp::Ordering;
 
-/// The index of the file at the path in the order of the tree, by halves, or `None` where the tree holds nothing there.
+/// The index of the file at the path in the order of the tree, or `None` if the tree has no such file. A
+/// binary search.
 pub(crate) fn index_of(tree: &Tree, path: &RepoPath) -> Option<usize>
     ensures { MatchOption result (entry_of path.now tree.now ≡ None) (IsAt path.now tree.now) }
 {

@@ -16,10 +16,11 @@ use file_tags::{KeptTags, Tags};
 use hook_base::{Items, OutOfMemory, RepoPath, Tree};
 use std::alloc::Global;
 
-/// What [`select`](crate::select) gives, by the tags of the tree's files: none are made. `OutOfMemory` where memory is
-/// refused.
+/// What [`select`](crate::select) gives, by the kept tags of the tree's files: none are made. `OutOfMemory`
+/// if memory is refused.
 ///
-/// Who selects for several hooks makes the [`Candidates`] once, and calls [`select_kept_among`] for each hook.
+/// A caller that selects for several hooks makes the [`Candidates`] once, and calls [`select_kept_among`] for
+/// each hook.
 pub fn select_kept(
     alloc: Global,
     rules: &Rules,
@@ -34,8 +35,8 @@ pub fn select_kept(
     select_kept_among(alloc, rules, &among, tree, tags)
 }
 
-/// What [`select_among`](crate::select_among) gives, by the tags of the tree's files: none are made. `OutOfMemory` where
-/// memory is refused.
+/// What [`select_among`](crate::select_among) gives, by the kept tags of the tree's files: none are made.
+/// `OutOfMemory` if memory is refused.
 pub fn select_kept_among(
     alloc: Global,
     rules: &Rules,
@@ -76,7 +77,7 @@ fn chosen_by_tags(
     Ok(chosen)
 }
 
-// The tags of the file at the path, or `None` where the tree holds nothing there.
+// The tags of the file at the path, or `None` if the tree has no such file.
 fn tags_near<'t>(
     tree: &Tree,
     tags: &'t KeptTags,
@@ -92,7 +93,7 @@ fn tags_near<'t>(
     }
 }
 
-// Whether a file with these tags stands at the path and fits the hook.
+// Whether there are tags, so a file at the path, and it fits the hook.
 fn fits_tags(test: &mut PathFilter, rules: &Rules, path: &RepoPath, tags: Option<&Tags>) -> bool
     requires files { test.old.files ≡ rules.now.files.now }
     requires exclude { test.old.exclude ≡ rules.now.exclude.now }

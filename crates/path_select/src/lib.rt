@@ -1,14 +1,17 @@
 //! Patterns over paths, and which files of a tree a hook gets.
 //!
-//! [`Pattern`] is a pattern in the syntax of `regex` (`PatternFault` says why a text is none). [`select`] gives the files
-//! that [`Rules`] select: candidates whose paths pass the patterns of the whole configuration and of the hook, and that
-//! have the tags that the hook asks for. A run with many hooks makes the [`Candidates`] once and calls [`select_kept_among`]
-//! for each hook, by tags that are kept for all files of a tree, in `KeptTags` of the crate `file_tags`; [`select_among`]
-//! makes them anew. [`laws`] says that both select what [`select`] does, and so does [`select_kept`].
+//! [`Pattern`] is a pattern in the syntax of `regex` (`PatternFault` says why a text is none). [`select`]
+//! gives the files that [`Rules`] select. These are candidates whose paths pass the patterns of the whole
+//! configuration and of the hook, and that have the tags that the hook asks for.
 //!
-//! The contracts cite `specs/Patterns.antt`, `specs/PatternFaults.antt`, `specs/Candidates.antt` and `specs/Selection.antt`;
-//! `specs/SelectionLaws.antt` is for callers' proofs, and `specs/Regexes.antt`, `specs/Chosen.antt` and
-//! `specs/KeptTags.antt` serve private fields and functions alone.
+//! A run with many hooks makes the [`Candidates`] once and calls [`select_kept_among`] for each hook. It
+//! takes the tags that are kept for all files of a tree (`KeptTags` of the crate `file_tags`), while
+//! [`select_among`] makes them again. [`laws`] says that both select what [`select`] does, and so does
+//! [`select_kept`].
+//!
+//! The contracts cite `specs/Patterns.antt`, `specs/PatternFaults.antt`, `specs/Candidates.antt` and
+//! `specs/Selection.antt`. `specs/SelectionLaws.antt` is for callers' proofs. `specs/Regexes.antt`,
+//! `specs/Chosen.antt` and `specs/KeptTags.antt` serve private fields and functions only.
 #![tactic(auto)]
 
 mod candidates;

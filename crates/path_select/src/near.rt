@@ -1,4 +1,4 @@
-//! The files of a tree at paths that rise.
+//! Looks up the files of a tree at paths that come in rising order.
 
 ghost use Rattle.std.specs.Prelude.{◌≡◌, None};
 ghost use Rattle.std.specs.Option.{MatchOption, option_copied};
@@ -12,8 +12,8 @@ use std::cmp::Ordering;
 // How many files are looked at one after another before the whole tree is searched by halves.
 const NEAR: usize = 8;
 
-/// What the tree holds at the path, or `None` where it holds nothing. Where one path after another is asked for in their
-/// order, `next` is the place of the file after the last that was found: the file is looked for there first.
+/// What the tree has at the path, or `None` if it has nothing there. For paths that are asked for in their
+/// order, `next` is the index of the first file that wasn't passed so far, and the search begins there.
 pub(crate) fn entry_near<'t>(
     tree: &'t Tree,
     next: &mut usize,

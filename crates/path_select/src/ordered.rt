@@ -1,4 +1,4 @@
-//! Paths in their order, each once.
+//! Sorts paths and drops repeated ones.
 
 ghost use Rattle.std.specs.Prelude.{◌≡◌, ◌↔◌, ℕ, List, IfOk, IsTrue};
 ghost use Rattle.path_select.specs.Candidates.{AreRisingPaths, is_candidate, paths_of};
@@ -7,7 +7,8 @@ use hook_base::{OutOfMemory, RepoPath};
 use std::alloc::Global;
 use std::cmp::Ordering;
 
-/// The paths in their order, each once, or `OutOfMemory` where memory is refused. Paths that are so already aren't sorted.
+/// The paths in their order, each once, or `OutOfMemory` if memory is refused. Paths that already rise aren't
+/// sorted.
 pub(crate) fn in_order<'a>(
     alloc: Global,
     paths: &'a [RepoPath],

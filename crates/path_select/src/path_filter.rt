@@ -1,4 +1,4 @@
-//! Two patterns, of which a path has to hold the one and not the other.
+//! The test of paths by two patterns: the first has to be found, and the second not.
 
 ghost use Rattle.std.specs.Prelude.{◌≡◌, IfOk};
 ghost use Rattle.path_select.specs.Candidates.{passes};
@@ -8,7 +8,7 @@ use crate::search::Search;
 use hook_base::OutOfMemory;
 use std::alloc::Global;
 
-/// What tests paths by two patterns.
+/// Tests paths by two patterns.
 #[derive(Drop)]
 pub(crate) struct PathFilter<'p> {
     files: Search<'p>,
@@ -16,7 +16,7 @@ pub(crate) struct PathFilter<'p> {
 }
 
 impl<'p> PathFilter<'p> {
-    /// What tests paths by these patterns, or `OutOfMemory` where memory is refused.
+    /// A filter with these patterns, or `OutOfMemory` if memory is refused.
     pub(crate) fn new(
         alloc: Global,
         files: &'p Pattern,

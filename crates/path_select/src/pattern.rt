@@ -9,7 +9,7 @@ use regex::Regex;
 use std::alloc::Global;
 use std::marker::Model;
 
-/// A pattern in the syntax of `regex`, made ready to be looked for in paths. Contracts see its text.
+/// A pattern in the syntax of `regex`, compiled, to be searched for in paths. Contracts see its text.
 #[derive(Debug, Drop)]
 pub struct Pattern {
     pub(crate) regex: Regex,
@@ -28,7 +28,7 @@ impl Model for Pattern {
 }
 
 impl Pattern {
-    /// Reads a pattern, or says why the text isn't taken as one.
+    /// Compiles a pattern, or says why the text isn't taken as one.
     pub fn build(alloc: Global, text: &str) -> Result<Pattern, PatternFault>
         ensures same { IfOk result (λ pattern. pattern ≡ text.now) }
         ensures pattern { IfOk result (λ _. IsPattern text.now) }

@@ -9,8 +9,8 @@ use thiserror::Error;
 /// Why a text isn't taken as a pattern.
 #[derive(Clone, Copy, Debug, PartialEq, Eq, Error)]
 pub enum PatternFault {
-    /// `regex` refuses the text for another cause than memory: it is no pattern, nests too deep, or is too big once it is
-    /// compiled.
+    /// `regex` refuses the text for another reason than memory: it is no pattern, nests too deep, or is too
+    /// big once it is compiled.
     #[error("the text is no pattern")]
     NotAPattern,
     /// Memory was refused.

@@ -9,7 +9,8 @@ use regex::Matcher;
 use std::alloc::Global;
 use std::marker::Model;
 
-/// What looks for one pattern, and keeps what it learns of it from search to search. Contracts see the pattern's text.
+/// Searches for one pattern, and keeps what it learns about it from search to search. Contracts see the
+/// pattern's text.
 #[derive(Drop)]
 pub(crate) struct Search<'p> {
     pattern: &'p Pattern,
@@ -29,7 +30,7 @@ impl<'p> Model for Search<'p> {
 }
 
 impl<'p> Search<'p> {
-    /// What looks for the pattern, or `OutOfMemory` where memory is refused.
+    /// A search for the pattern, or `OutOfMemory` if memory is refused.
     pub(crate) fn new(alloc: Global, pattern: &'p Pattern) -> Result<Search<'p>, OutOfMemory>
         ensures { IfOk result (λ search. search ≡ pattern.now) }
     {

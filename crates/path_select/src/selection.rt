@@ -13,11 +13,13 @@ use crate::{Candidates, Rules};
 use hook_base::{FileEntry, Items, OutOfMemory, RepoPath, Tree};
 use std::alloc::Global;
 
-/// The paths of the files that a hook gets, in their order, each once: those of the tree that are candidates, pass the
-/// patterns of the whole configuration, pass the hook's own patterns, and have the tags that it asks for. Candidates may
-/// come in any order, more than once, and without a file in the tree. `OutOfMemory` where memory is refused.
+/// The paths of the files that a hook gets, in their order, each once. They are those of the tree's files
+/// that are candidates, pass the patterns of the whole configuration and of the hook, and have the tags that
+/// it asks for. Candidates may come in any order, more than once, and without a file in the tree.
+/// `OutOfMemory` if memory is refused.
 ///
-/// Who selects for several hooks makes the [`Candidates`] once, and calls [`select_among`] for each hook.
+/// A caller that selects for several hooks makes the [`Candidates`] once, and calls [`select_among`] for each
+/// hook.
 pub fn select(
     alloc: Global,
     rules: &Rules,
@@ -30,8 +32,8 @@ pub fn select(
     select_among(alloc, rules, &among, tree)
 }
 
-/// The same among candidates that have passed the patterns of the whole configuration, which aren't looked for again: those
-/// of the rules are passed over. `OutOfMemory` where memory is refused.
+/// The same among candidates that have passed the patterns of the whole configuration. These patterns of the
+/// rules aren't looked for again. `OutOfMemory` if memory is refused.
 pub fn select_among(
     alloc: Global,
     rules: &Rules,
@@ -68,7 +70,8 @@ fn chosen_of(
     Ok(chosen)
 }
 
-// Whether something stands at the path that fits the hook. The patterns are looked for before the tags are made.
+// Whether there is a file at the path that fits the hook. The patterns are looked for before the tags are
+// made.
 fn fits(
     alloc: Global,
     test: &mut PathFilter,

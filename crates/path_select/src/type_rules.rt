@@ -13,8 +13,8 @@ use std::alloc::Global;
 // The tag that every file has.
 const OF_EVERY_FILE: &str = "file";
 
-/// Whether a file has the tags that the hook asks for, or `OutOfMemory` where memory is refused. They aren't made where
-/// every file has those asked for.
+/// Whether a file has the tags that the hook asks for, or `OutOfMemory` if memory is refused. The tags aren't
+/// made if every file has those asked for.
 pub(crate) fn fits_types(
     alloc: Global,
     rules: &Rules,
@@ -30,7 +30,7 @@ pub(crate) fn fits_types(
     Ok(have_types(rules, &tags))
 }
 
-/// Whether the tags are those that the hook asks for.
+/// Whether the tags are those that the hook asks for (pre-commit.com, "Filtering files with types").
 pub(crate) fn have_types(rules: &Rules, tags: &Tags) -> bool
     ensures { result ≡ fits_types (texts_of_rules rules.now) tags.now }
 {
@@ -46,7 +46,7 @@ fn asks_for_none(rules: &Rules) -> bool
     rules.types_or.is_empty() && rules.exclude_types.is_empty() && every_file_has(rules.types)
 }
 
-// Whether each of the tags is that of every file.
+// Whether each of the tags is the one that every file has.
 fn every_file_has(types: &[Text]) -> bool
     ensures { result ≡ every_file_has types.now }
 {

@@ -1,4 +1,4 @@
-//! What files contain.
+//! Reads and writes what files contain.
 
 ghost use Rattle.std.specs.Io.{ReadsAtMost};
 
@@ -12,7 +12,7 @@ use std::io::{ErrorKind, Read, Write};
 use std::os::unix::fs::OpenOptionsExt;
 use std::{fs, io};
 
-// The limit of the process for its files' length, by POSIX's RLIMIT_FSIZE.
+// `RLIMIT_FSIZE` on Linux: the limit on the size of files that this process writes (getrlimit(2)).
 const FILE_BYTES: i32 = 1;
 
 /// How many bytes are read at once.
@@ -38,7 +38,7 @@ pub(crate) fn begins_with<F: Read>(
     Ok(false)
 }
 
-/// What the file at a place contains. An error of its own where that is more than a file may have.
+/// What the file at a place contains. `ErrorKind::FileTooLarge` if that is more than `MOST_FILE_BYTES`.
 pub(crate) fn read_file<R: Files>(
     files: &R,
     alloc: Global,
@@ -48,7 +48,7 @@ pub(crate) fn read_file<R: Files>(
     read_open(alloc, &mut fs::open(files, place)?, piece)
 }
 
-/// What an open file contains, from where it stands.
+/// What an open file contains from its current offset on, with the same error.
 pub(crate) fn read_open<F: Read>(
     alloc: Global,
     file: &mut F,
@@ -68,8 +68,8 @@ pub(crate) fn read_open<F: Read>(
     Err(io::Error::from(ErrorKind::FileTooLarge))
 }
 
-/// Makes a new file, where none may stand, with the bytes of this one and its mode. Its stamp afterwards. An error of its own
-/// where they are more than this process may write.
+/// Makes a new file with the bytes and the mode of this one, and returns its stamp. An error if anything is
+/// at its place, and `ErrorKind::FileTooLarge` if there are more bytes than this process may write.
 pub(crate) fn write_new<R: Files>(files: &R, place: &str, wanted: &FileEntry) -> io::Result<Stamp> {
     let bytes = wanted.bytes.as_slice();
     if bytes.len() as u64 > most_bytes() {
@@ -82,8 +82,8 @@ pub(crate) fn write_new<R: Files>(files: &R, place: &str, wanted: &FileEntry) ->
     Ok(Stamp::of(&file.metadata()?))
 }
 
-// The most bytes that a file of this process may get. To write past them would end it by the signal SIGXFSZ, which the kit has no
-// call to ignore.
+// The most bytes that a file of this process may get. A write past them would end the process by the signal
+// `SIGXFSZ` (getrlimit(2), "RLIMIT_FSIZE"), which the kit has no call to ignore.
 fn most_bytes() -> u64 {
     let mut limit = rlimit {
         rlim_cur: u64::MAX,
@@ -95,7 +95,7 @@ fn most_bytes() -> u64 {
     limit.rlim_cur
 }
 
-/// Reads once, and again where a signal came first. 0 at the end.
+/// Reads once, and again if a signal interrupted that (read(2), EINTR). 0 at the end of the file.
 pub(crate) fn read_some<F: Read>(file: &mut F, piece: &mut [u8]) -> io::Result<usize>
     ensures { ReadsAtMost result piece.new }
 {

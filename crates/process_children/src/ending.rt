@@ -9,20 +9,20 @@ use std::io::Read;
 use std::os::fd::AsRawFd;
 use std::process::{Child, OpenProcess};
 
-/// How a child ended that gave an exit code, and what it wrote.
+/// The exit status of a child that gave one, and what it wrote.
 #[derive(Debug, Drop)]
 pub(crate) struct Ending {
-    /// Its exit code.
+    /// Its exit status.
     pub status: u8,
     /// Its standard output, followed by its standard error.
     pub output: Bytes,
 }
 
-/// Reads what the child writes until it has closed both outputs, and waits for its end. It is waited for whatever
-/// happens, so that none goes on while the next one runs.
+/// Reads what the child writes until both outputs are at their ends, and waits for its end. It is waited for
+/// in any case, so that none goes on while the next one runs.
 ///
-/// `WaitFailed` where that can't be done, `Signal` where it ended without an exit code, `OutputTooLong` where it wrote
-/// more than it may.
+/// `WaitFailed` if reading or waiting fails, `Signal` if a signal ended the child (wait(2), "WIFSIGNALED"),
+/// and `OutputTooLong` if it wrote more than it may. Want of memory is `Stop::OutOfMemory`.
 pub(crate) fn ending_of<P: OpenProcess + Drop>(
     alloc: Global,
     mut child: Child<P>,

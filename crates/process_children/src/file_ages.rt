@@ -1,4 +1,4 @@
-//! What the times of files tell in a run.
+//! What the times of files show in a run.
 
 use crate::file_system::{seconds_to_disk, stamps_writes};
 use crate::stamp::{Moment, Stamp};
@@ -6,16 +6,16 @@ use std::alloc::Global;
 use std::fs::{Files, Metadata};
 use std::os::unix::fs::MetadataExt;
 
-/// What the times of files tell in a run. A file that was changed as long ago as is asked here, and that has the stamp that
-/// it had when it was read, contains what was read: whoever changes it from then on, and be it by what he opened before,
-/// stamps it anew.
+/// What the times of files show in a run. Take a file that was last changed as long ago as is asked here, and
+/// that still has the stamp that it had when it was read. It contains what was read. For any later change
+/// gives it another stamp, even one through what was opened before.
 #[derive(Clone, Copy, Debug)]
 pub(crate) enum Times {
-    /// It wasn't asked yet.
+    /// Nobody has asked yet.
     Unasked,
-    /// Nothing.
+    /// They show nothing.
     Mute,
-    /// Who can have changed a file, by when it was changed last.
+    /// They show who can have changed a file, by when it was last changed.
     Telling(Ages),
 }
 
@@ -23,14 +23,14 @@ pub(crate) enum Times {
 #[derive(Clone, Copy, Debug)]
 pub(crate) struct Ages {
     device: u64,
-    // What was changed before was written to the disk before the run.
+    // What was last changed before this was on the disk before the run.
     settled: Moment,
-    // What was changed before wasn't changed by the run's children.
+    // What was last changed before this wasn't changed by the run's children.
     first_child: Option<Moment>,
 }
 
 impl Times {
-    /// Asks, once a run, by something that was made in the scratch folder just before.
+    /// Asks, once in a run, by the metadata of something that was made in the scratch folder just before.
     pub(crate) fn ask<R: Files>(
         &mut self,
         files: &R,
@@ -46,7 +46,8 @@ impl Times {
         }
     }
 
-    /// The first child is about to be started, if none was: the scratch folder was changed just before.
+    /// Notes that a child is about to be started, if it is the first. The scratch folder was changed just
+    /// before.
     pub(crate) fn child_starts(&mut self, folder: &Metadata) {
         if let Times::Telling(ages) = self {
             if ages.first_child.is_none() {
@@ -59,7 +60,7 @@ impl Times {
         }
     }
 
-    /// Whether no child was started yet.
+    /// Whether it is known that no child was started yet.
     pub(crate) fn is_before_children(&self) -> bool {
         match self {
             Times::Telling(ages) => ages.first_child.is_none(),
@@ -67,7 +68,8 @@ impl Times {
         }
     }
 
-    /// Whether a file was changed so long before the run that no process has it dirty in its memory.
+    /// Whether a file was last changed so long before the run that no process has unwritten changes of it in
+    /// its memory.
     pub(crate) fn are_settled(&self, stamp: &Stamp) -> bool {
         match self {
             Times::Telling(ages) => {
@@ -77,8 +79,8 @@ impl Times {
         }
     }
 
-    /// Whether a file was changed before the run's first child. One that this run has made is in the hands of no process
-    /// then.
+    /// Whether a file was last changed before the run's first child. If this run has made the file, no
+    /// process has it open then.
     pub(crate) fn precede_children(&self, stamp: &Stamp) -> bool {
         match self {
             Times::Telling(

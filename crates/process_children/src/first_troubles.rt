@@ -1,10 +1,10 @@
-//! What was in the way of children first.
+//! The first trouble with the files of children, and with a start.
 
 use crate::stop::Stop;
 use crate::trouble::Trouble;
 use child_port::Fault;
 
-/// What was in the way of children first: of their files, and of a start.
+/// The first trouble with the files of children, and the first with a start.
 #[derive(Debug, Drop)]
 pub(crate) struct FirstTroubles {
     of_files: Option<Trouble>,
@@ -12,7 +12,7 @@ pub(crate) struct FirstTroubles {
 }
 
 impl FirstTroubles {
-    /// Nothing yet.
+    /// No trouble yet.
     pub(crate) fn new() -> FirstTroubles {
         FirstTroubles {
             of_files: None,
@@ -20,28 +20,29 @@ impl FirstTroubles {
         }
     }
 
-    /// What kept files from being laid or read back first.
+    /// The first trouble of laying files or reading them back.
     pub(crate) fn of_files(&self) -> Option<&Trouble> {
         self.of_files.as_ref()
     }
 
-    /// The word that could not be started first.
+    /// The first word that could not be started.
     pub(crate) fn of_a_start(&self) -> Option<&Trouble> {
         self.of_a_start.as_ref()
     }
 
-    /// What became of files that are laid or read back: a trouble is the fault `ScratchFailed`, unless memory was refused.
+    /// Notes how laying files or reading them back ended: a trouble is the fault `ScratchFailed`, unless
+    /// memory was refused.
     pub(crate) fn note_files<T>(&mut self, ended: Result<T, Trouble>) -> Result<T, Stop> {
         noted(&mut self.of_files, ended, Fault::ScratchFailed)
     }
 
-    /// What became of a start: a trouble is the fault `NotStarted`, unless memory was refused.
+    /// Notes how a start ended: a trouble is the fault `NotStarted`, unless memory was refused.
     pub(crate) fn note_start<T>(&mut self, ended: Result<T, Trouble>) -> Result<T, Stop> {
         noted(&mut self.of_a_start, ended, Fault::NotStarted)
     }
 }
 
-// A result whose trouble is kept, if it is a fault and the first one.
+// Turns the trouble of a result into a stop, and keeps it if it is a fault and the first one.
 fn noted<T>(
     first: &mut Option<Trouble>,
     ended: Result<T, Trouble>,

@@ -1,13 +1,13 @@
-//! What files and folders are like that were just made.
+//! The modes and the owner of files and folders that were just made.
 
 use hook_base::{FileEntry, Mode};
 use std::fs::Metadata;
 use std::os::unix::fs::MetadataExt;
 
-// Who may read, write and run, and the bits for other users' programs and for shared folders.
+// The permissions, with the set-user-ID, set-group-ID and sticky bits (inode(7), "The file type and mode").
 const MODE_BITS: u32 = 0o7777;
 
-/// The mode with which a file is made, before the process's mask narrows it.
+/// The mode with which a file is made, before umask(2) narrows it.
 pub(crate) fn asked_mode(mode: Mode) -> u32 {
     match mode {
         Mode::Plain => 0o666,
@@ -15,7 +15,7 @@ pub(crate) fn asked_mode(mode: Mode) -> u32 {
     }
 }
 
-/// What files and folders are like that were just made: their modes, as the process's mask narrows them, and their
+/// What files and folders that were just made are like: their modes, as umask(2) narrows them, and their
 /// owner.
 #[derive(Clone, Copy, Debug)]
 pub(crate) struct Fresh {
@@ -25,7 +25,7 @@ pub(crate) struct Fresh {
 }
 
 impl Fresh {
-    /// As a folder that was just made.
+    /// As this folder, which was just made.
     pub(crate) fn of(folder: &Metadata) -> Fresh {
         Fresh {
             mode: folder.mode() & 0o777,
@@ -39,12 +39,12 @@ impl Fresh {
         self.mode
     }
 
-    /// The owner and the group of what is new.
+    /// The owner and the group of new files and folders.
     pub(crate) fn owner_and_group(&self) -> (u32, u32) {
         (self.owner, self.group)
     }
 
-    /// Whether this is a folder, not a link to one, of the same owner.
+    /// Whether this is a folder, not a link to one, with the owner and the group of a new one.
     pub(crate) fn is_folder(&self, found: &Metadata) -> bool {
         found.is_dir() && self.is_owner_of(found)
     }
@@ -54,7 +54,8 @@ impl Fresh {
         found.mode() & MODE_BITS == self.mode
     }
 
-    /// Whether this is a file of that length, with the mode and the owner that it has where it is made, and with no second name.
+    /// Whether this is a file of that length, with the mode and the owner of a new one, and without a second
+    /// name.
     pub(crate) fn is_file(&self, found: &Metadata, wanted: &FileEntry) -> bool {
         found.is_file()
             && found.len() == wanted.bytes.len() as u64

@@ -1,8 +1,9 @@
-//! Folders that are held open, so that what is looked up in one is looked up there, whatever is put in its place meanwhile.
+//! Folders that are held open: a name is looked up in the folder itself, whatever is put in its place
+//! meanwhile.
 
 use std::io;
 
-// The number of standard error.
+// The descriptor of standard error.
 const LAST_STREAM: i32 = 2;
 
 /// A folder that is held open.
@@ -12,7 +13,7 @@ pub(crate) struct HeldFolder {
 }
 
 impl HeldFolder {
-    /// Holds a scratch folder. An error where it, or the folder that it stands in, is a link or isn't there.
+    /// Holds a scratch folder. An error if it, or its parent folder, is a link or isn't there.
     pub(crate) fn scratch(folder: &str) -> io::Result<HeldFolder> {
         match folder.rsplit_once('/') {
             Some((parent, name)) => {
@@ -23,8 +24,8 @@ impl HeldFolder {
         }
     }
 
-    /// Holds the folder of a path in this one, by one step after another, so that the path may be longer than the system
-    /// takes at once. An error where a link stands in its place or on the way to it, or where there is none.
+    /// Holds the folder of a path in this one. It is opened step by step, so that the path may be longer than
+    /// the system takes at once. An error if it, or a folder on the way, is a link or isn't there.
     pub(crate) fn within(&self, path: &str) -> io::Result<HeldFolder> {
         let mut names = path.split('/');
         let mut held = self.folder(names.next().unwrap_or("."))?;
@@ -47,7 +48,7 @@ impl HeldFolder {
         }
     }
 
-    /// The number by which the system knows it in this process.
+    /// Its descriptor.
     pub(crate) fn number(&self) -> i32 {
         self.number
     }
@@ -60,8 +61,9 @@ impl Drop for HeldFolder {
     }
 }
 
-// The number of what was opened, which is none of a child's streams: a program that was started without one of these gets its number,
-// and the child, which is started in the folder by its number, gets another file under it.
+// Moves a descriptor above those of the standard streams. open(2) gives the lowest number, so a program that
+// was started without a standard stream gets its number here. The child is started in the folder by its
+// number, and would find its own stream under it.
 fn above_streams(number: i32) -> i32 {
     if 0 <= number && number <= LAST_STREAM {
         let moved = os::duplicate(number);
@@ -72,7 +74,7 @@ fn above_streams(number: i32) -> i32 {
     }
 }
 
-/// The error of the system's call that failed last.
+/// The error of the system call that failed last (errno(3)).
 pub(crate) fn last_error() -> io::Error {
     io::Error::from_raw_os_error(os::errno())
 }

@@ -21,12 +21,13 @@ use std::io::ErrorKind;
 use std::os::unix::fs::{PermissionsExt, lchown};
 use std::{fs, io};
 
-/// Makes the folder, with its missing parents, and makes it hold the files of the tree, the folder `.git`, the links that are wanted,
-/// and nothing else. What is as it would be written stays; where that can't be told or mended, all of the folder is written anew. Of files that are known
-/// none is read, and those are known afterwards that were read and can be.
+/// Makes the folder, with its missing parents, and makes it hold the files of the tree, the folder `.git`,
+/// the wanted links, and nothing else. What is as it would be written stays. If that fails, unless memory was
+/// refused, the folder is emptied and all of it is written again. Known files aren't read. Known afterwards
+/// are those that were read, as far as they can be.
 ///
-/// What is in the way where neither can be done, or where the folder or the one that it stands in is a link: then nothing
-/// behind it is touched.
+/// The error is what is in the way if that fails too, or if the folder or its parent is a link: then nothing
+/// that it leads to is touched.
 pub(crate) fn keep_as<'a, R: Files>(
     files: &R,
     alloc: Global,
@@ -63,8 +64,7 @@ fn settle<'a, R: Files>(
     }
 }
 
-/// Makes the folder hold nothing. An error where that can't be done, or where the folder or the one that it stands in is a
-/// link.
+/// Makes the folder hold nothing. An error if that can't be done, or if the folder or its parent is a link.
 pub(crate) fn empty<R: Files>(files: &R, alloc: Global, folder: &str) -> Result<(), Trouble> {
     let mut known = KnownFiles::none_ever(alloc);
     let mut keeping = Keeping::begin(files, alloc, folder, &mut known, &mut [])?;
@@ -75,7 +75,8 @@ pub(crate) fn empty<R: Files>(files: &R, alloc: Global, folder: &str) -> Result<
     emptied
 }
 
-// Makes the folder where it isn't one, and makes one that is there usable.
+// Makes the folder if there is none, and otherwise makes it usable. Anything else at its place is removed
+// first.
 fn make_folder<R: Files>(files: &R, folder: &str) -> io::Result<()> {
     match standing_scratch(files, folder)? {
         None => fs::create_dir_all(files, folder),
@@ -148,7 +149,7 @@ impl<'f, 'k, R: Files> Keeping<'f, 'k, R> {
         empty_trash(self.files, self.alloc, &mut self.trash)
     }
 
-    // All of them anew: those of the last child, or what it put in their place, were strays.
+    // Makes all links again: those of the last child, or what it put in their place, were strays.
     fn make_links(&mut self, wanted: Wanted<'_>) -> Result<(), Trouble> {
         for place in wanted.links {
             let place = place.as_str();
@@ -158,7 +159,8 @@ impl<'f, 'k, R: Files> Keeping<'f, 'k, R> {
         Ok(())
     }
 
-    // Makes the folder `.git` anew, whatever stands there. Where the tree has files in it, it is settled as their folder.
+    // Makes the folder `.git` again, whatever is there. If the tree has files in it, it is settled as their
+    // folder.
     fn make_git_folder(&mut self, tree: &Tree) -> io::Result<()> {
         if belongs(self.alloc, tree, "", GIT_FOLDER.as_bytes())? {
             return Ok(());
@@ -173,7 +175,7 @@ impl<'f, 'k, R: Files> Keeping<'f, 'k, R> {
         fs::create_dir(self.files, place.as_str())
     }
 
-    // Each file, and before the first of each folder that folder.
+    // Settles each file, and before the first one of a folder that folder.
     fn settle_files(&mut self, tree: &Tree, piece: &mut [u8]) -> Result<(), Trouble> {
         let mut before = "";
         for index in 0..tree.len() {
@@ -207,7 +209,7 @@ impl<'f, 'k, R: Files> Keeping<'f, 'k, R> {
         }
     }
 
-    // Makes a folder like a new one, and answers whether it is one.
+    // Makes a folder be like a new one, and returns whether it is new.
     fn make_folder(&mut self, place: &str) -> io::Result<bool> {
         match standing(self.files, place)? {
             Some(found) if self.fresh.is_folder(&found) => {
@@ -243,7 +245,8 @@ impl<'f, 'k, R: Files> Keeping<'f, 'k, R> {
         take_strays(self.files, self.alloc, &mut self.trash, &wanted)
     }
 
-    // A file that differs in anything is replaced by a new one, so that no other name of it changes.
+    // A file that differs in anything is replaced by a new one, so that what its other names lead to doesn't
+    // change.
     fn settle_file(&mut self, file: &SharedFile, piece: &mut [u8]) -> io::Result<()> {
         if self.is_known(file)? {
             return Ok(());
@@ -262,8 +265,9 @@ impl<'f, 'k, R: Files> Keeping<'f, 'k, R> {
         Ok(())
     }
 
-    // Whether a file is known to be as a new one, and to contain what the tree's does: then it is what stands at its path, whatever
-    // leads there. A file of which nothing is known isn't looked at here.
+    // Whether a file is known to be like a new one, and to contain what the tree's file does. Then that very
+    // file is at its path, whatever folders lead there. A file of which nothing is known isn't looked at
+    // here.
     fn is_known(&mut self, file: &SharedFile) -> io::Result<bool> {
         let path = file.as_file().path.as_str();
         if !self.known.has(path) {
@@ -281,7 +285,7 @@ impl<'f, 'k, R: Files> Keeping<'f, 'k, R> {
         Ok(is_known)
     }
 
-    // Whether what stands at a place contains what the file does, which is read.
+    // Reads what is at a place, and returns whether it contains what the file does.
     fn holds(
         &mut self,
         place: &str,
@@ -301,7 +305,7 @@ impl<'f, 'k, R: Files> Keeping<'f, 'k, R> {
         Ok(is_equal)
     }
 
-    // The folder gets the mode and the owner of a new one.
+    // Gives the folder the mode and the owner of a new one.
     fn finish(self) -> Result<LaidFolder<'f>, Trouble> {
         let Keeping {
             files,

@@ -1,4 +1,4 @@
-//! Files of the scratch folder whose bytes are known without being read.
+//! Files of the scratch folder whose bytes are known without reading them.
 
 use crate::file_ages::Times;
 use crate::stamp::{Identity, Stamp};
@@ -16,7 +16,7 @@ enum Noted {
     Read,
 }
 
-// A file that was written, or read, with these bytes. It has them as long as its stamp is this.
+// A file that was written or read with these bytes. It has them as long as it has this stamp.
 #[derive(Debug, Drop)]
 struct KnownFile {
     file: SharedFile,
@@ -34,8 +34,8 @@ impl KnownFile {
     }
 }
 
-/// Files that were read and found to contain what a tree's do, and that no process can have changed since without a sign
-/// that the next look at them shows. They are gone through in the order of their paths.
+/// Files that were read and found to contain what a tree's files do. No process can have changed one since
+/// without a sign that the next look at it shows. A walk goes through them in the order of their paths.
 #[derive(Debug, Drop)]
 pub(crate) struct KnownFiles {
     times: Times,
@@ -47,12 +47,12 @@ pub(crate) struct KnownFiles {
 }
 
 impl KnownFiles {
-    /// None yet.
+    /// No file is known yet.
     pub(crate) fn new(alloc: Global) -> KnownFiles {
         KnownFiles::with_times(alloc, Times::Unasked)
     }
 
-    /// None, now and later, so that everything is read.
+    /// No file is known, and none will be: everything is read.
     pub(crate) fn none_ever(alloc: Global) -> KnownFiles {
         KnownFiles::with_times(alloc, Times::Mute)
     }
@@ -67,8 +67,8 @@ impl KnownFiles {
         }
     }
 
-    /// Begins a walk over the files of this folder, which notes each of them. Those that lay in another folder are known no
-    /// more. Something was made in the folder just before.
+    /// Begins a walk that notes each file of this folder. Files of another folder are no longer known. `made`
+    /// was made in the folder just before.
     pub(crate) fn begin_to_note<R: Files>(
         &mut self,
         files: &R,
@@ -87,23 +87,23 @@ impl KnownFiles {
         self.at = 0;
     }
 
-    /// Ends such a walk: the files that were noted in it are those that are known.
+    /// Ends such a walk: the files that it noted are the known ones from now on.
     pub(crate) fn end_to_note(&mut self, alloc: Global) {
         self.files = mem::replace(&mut self.noted, Vec::new(alloc));
         self.at = 0;
     }
 
-    /// Begins a walk over the files.
+    /// Begins a walk that only looks files up.
     pub(crate) fn begin(&mut self) {
         self.at = 0;
     }
 
-    /// A child is about to be started. The folder was changed just before.
+    /// Notes that a child is about to be started. The folder was changed just before.
     pub(crate) fn child_starts(&mut self, folder: &Metadata) {
         self.times.child_starts(folder);
     }
 
-    /// Whether the file at a path was read, so that a look at it may tell that it needn't be read again.
+    /// Whether the file at a path was read, so that its metadata may show that it needn't be read again.
     pub(crate) fn has(&mut self, path: &str) -> bool {
         self.known_at(path)
             .is_some_and(|known| known.noted == Noted::Read)
@@ -117,7 +117,7 @@ impl KnownFiles {
                 .is_some_and(|known| known.has_bytes_of(file))
     }
 
-    /// The same of a file that the last walk found as the tree has it.
+    /// The same for a file that the last walk found as the tree has it.
     pub(crate) fn are_unchanged(&mut self, file: &File, found: &Metadata) -> bool {
         let stamp = Stamp::of(found);
         let tells = self.times.are_settled(&stamp) || self.times.precede_children(&stamp);
@@ -127,7 +127,7 @@ impl KnownFiles {
                 .is_some_and(|known| known.noted == Noted::Read && known.stamp == stamp)
     }
 
-    // What is known at a path. It comes behind those that were asked for in this walk.
+    // What is known at a path. It mustn't be less than a path that was asked for in this walk.
     fn known_at(&mut self, path: &str) -> Option<&mut KnownFile> {
         let rest = self.files.as_slice().get(self.at..)?;
         let passed = rest.iter().take_while(|known| known.path() < path).count();
@@ -145,7 +145,7 @@ impl KnownFiles {
         self.push(file, stamp, Noted::Read)
     }
 
-    /// Notes a file that was just written, where no child was started yet that could have it open.
+    /// Notes a file that was just written, if no child was started yet that could have it open.
     pub(crate) fn note_written(
         &mut self,
         file: &SharedFile,
@@ -158,7 +158,7 @@ impl KnownFiles {
         }
     }
 
-    /// Notes a file that was read, where it can be known.
+    /// Notes a file that was read, if it can be known.
     pub(crate) fn note_read(&mut self, file: &SharedFile, stamp: Stamp) -> Result<(), AllocError> {
         if self.times.are_settled(&stamp) || self.confirm(file.as_file(), &stamp) {
             self.push(file, stamp, Noted::Read)
@@ -167,7 +167,8 @@ impl KnownFiles {
         }
     }
 
-    /// A file was read. It is known from now on if it was written before the first child. Answers whether it is.
+    /// Notes that a file was read: it is known from now on if it was written before the first child. Returns
+    /// whether it is.
     pub(crate) fn confirm(&mut self, file: &File, stamp: &Stamp) -> bool {
         let precedes = self.times.precede_children(stamp);
         match self.known_at(file.path.as_str()) {

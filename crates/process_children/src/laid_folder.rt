@@ -7,8 +7,9 @@ use std::fs::{Files, Metadata};
 use std::io::ErrorKind;
 use std::{fs, io};
 
-/// The scratch folder of a child. It is held open from before its first file is laid until the child's files are read back: so all
-/// of them are laid in one folder, the child is started in it, they are read there, and no other folder gets its number meanwhile.
+/// The scratch folder of a child. It is held open from before its first file is laid until the child's files
+/// are read back. So all files are laid in one folder, the child is started in it, and they are read there.
+/// No other folder gets its inode number meanwhile.
 #[derive(Drop)]
 pub(crate) struct LaidFolder<'a> {
     /// Its files.
@@ -25,12 +26,12 @@ impl<'a> LaidFolder<'a> {
         Ok(LaidFolder { own, found })
     }
 
-    /// What the system told of it when it was laid.
+    /// Its metadata from when it was laid.
     pub(crate) fn found(&self) -> &Metadata {
         &self.found
     }
 
-    /// An error where it doesn't stand at its place any more, or where a link stands there or in place of the folder that it is in.
+    /// An error if it is no longer at its place, or if a link is there or at the place of its parent folder.
     pub(crate) fn check_place<R: Files>(&self, files: &R) -> io::Result<()> {
         match standing_scratch(files, self.own.folder())? {
             Some(now) if self.is(&now) => Ok(()),

@@ -1,25 +1,28 @@
-//! Children that are real processes: `ProcessChildren` is the trait `Children` over the system's programs and files.
+//! Children that are real processes: `ProcessChildren` implements the trait `Children` with the system's
+//! programs and files.
 //!
-//! One call goes through four stations (`stations`). The scratch folder is made to hold the files of the tree, the folder `.git`, links
-//! to what is installed, and nothing else (`keep`; `strays` and `trash` for what doesn't belong there, `fresh` for what is as it
-//! would be made, `links`). The words are started in it (`start`). Both outputs are read side by side to their ends, and the child
-//! is waited for (`outputs`, `ending`). The files are read back (`read_back`). The first fault decides, but that a call which was
-//! written down meanwhile goes before how the child ended.
+//! One call goes through four stations (`stations`). First the scratch folder is made to hold the files of
+//! the tree, the folder `.git`, links to what is installed, and nothing else (`keep`, `links`). What doesn't
+//! belong there is removed (`strays`, `trash`), and what is as it would be made stays (`fresh`). Then the
+//! words are started in it (`start`). Both outputs are read at the same time to their ends, and the child is
+//! waited for (`outputs`, `ending`). Last, the files are read back (`read_back`). The first fault decides,
+//! except that a call which was recorded meanwhile takes precedence over how the child ended.
 //!
-//! Each file is found and opened in its folder, which is held open meanwhile (`own_files`, `held_folder`), so that no process
-//! can put a link or a fifo between a look and what is done there. The scratch folder itself is held while its child runs, and
-//! has to stand at its place once the files are read back (`laid_folder`). What is in the way is told by a `Trouble`, and the
-//! first one is kept (`first_troubles`).
+//! Each file is found and opened in its folder, which is held open meanwhile (`own_files`, `held_folder`). So
+//! no process can put a link or a fifo between a look and what is done there. The scratch folder itself is
+//! held while its child runs, and has to be at its place once the files are read back (`laid_folder`). What
+//! is in the way is reported by a `Trouble`, and the first one is kept (`first_troubles`).
 //!
-//! Both walks over the files read only those that a process can have changed since they were read (`known_files`): by what
-//! the system tells of each (`stamp`), and by what the times of files tell in this run (`file_ages`) and on this file system
-//! (`file_system`).
+//! Both walks over the files read only those that a process can have changed since they were read
+//! (`known_files`). This shows in the metadata of each (`stamp`), and in what the times of files show in this
+//! run (`file_ages`) and on this file system (`file_system`).
 //!
-//! Before the first call a folder is taken that no other run uses (`scratch_folder`; `mark` for the file that says so,
-//! `removal` for what a run left that a signal ended, `input` for a child of it that lives on).
+//! Before the first call a folder is taken that no other run uses (`scratch_folder`). The file of `mark` says
+//! so. `removal` removes what a run left that a signal ended, and `input` shows whether a child of such a run
+//! is still alive.
 //!
-//! What a process does can't be told beforehand, so the contracts speak of the counts alone, by the words of
-//! `child_port`: any outcome may be told (`specs/Anything.antt`).
+//! What a process does can't be known beforehand. So the contracts speak of the counts alone, in the terms of
+//! `child_port`: any outcome may be reported (`specs/Anything.antt`).
 #![tactic(auto)]
 
 mod contents;

@@ -1,4 +1,4 @@
-//! Links at the top of the scratch folder, which lead to what is installed beside the files of a tree.
+//! Links at the top of the scratch folder to what is installed next to the files of a tree.
 
 use crate::own_files::OwnFiles;
 use crate::search::belongs;
@@ -13,7 +13,7 @@ use std::{fs, io};
 pub(crate) struct Wanted<'a> {
     /// The files.
     pub tree: &'a Tree,
-    /// The places that links lead to, each of the name that its place ends with.
+    /// The places that links lead to. Each link has the last name of its place.
     pub links: &'a [String],
 }
 
@@ -25,8 +25,8 @@ pub(crate) fn last_name(place: &str) -> &str {
     }
 }
 
-/// Makes a link of the name that a place ends with. None where the tree has that name, or where nothing stands at the place.
-/// What stood under the name is gone by now.
+/// Makes a link with the last name of the place that it leads to, unless the tree has that name, or nothing
+/// is at the place. What had the name in the folder is gone by now.
 pub(crate) fn make_link<R: Files>(
     files: &R,
     alloc: Global,

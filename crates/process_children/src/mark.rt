@@ -1,4 +1,4 @@
-//! The mark of a run: a file beside its scratch folder, which stands there from before its first child until it ends.
+//! The mark of a run: a file next to its scratch folder, from before its first child until it ends.
 
 use crate::place::standing;
 use std::alloc::Global;
@@ -8,28 +8,28 @@ use std::os::fd::AsRawFd;
 use std::os::unix::fs::MetadataExt;
 use std::{fs, io};
 
-// The last descriptor of a standard stream.
+// The descriptor of standard error, `STDERR_FILENO`, the last of the standard streams.
 const LAST_STREAM: i32 = 2;
 
-// The bytes that tell runs apart are before this one.
+// The bytes that distinguish runs are before this one.
 const BYTES: u64 = 1 << 62;
 
-/// The mark that a run has set. Its file is locked until the run's process ends, however that ends: one that stands there
-/// without a lock is of a run that was stopped, and whose child may have outlived it.
+/// The mark that a run has set. Its file is locked until the run's process ends, however that ends. A mark
+/// without a lock is that of a run that was stopped, and whose child may have outlived it.
 #[derive(Drop)]
 pub(crate) struct Mark {
     file: File,
     place: String,
 }
 
-/// What a run finds that sets its mark.
+/// What a run finds when it sets its mark.
 #[derive(Drop)]
 pub(crate) enum Marking {
-    /// Nothing stood there.
+    /// There was none.
     Set(Mark),
-    /// The mark of a run that was stopped, which is this run's now.
+    /// There was the mark of a run that was stopped. It belongs to this run from now on.
     TakenOver(Mark),
-    /// The mark of a run that goes on.
+    /// There is the mark of a run that goes on.
     InUse,
 }
 
@@ -38,12 +38,12 @@ pub(crate) enum Marking {
 enum MarkFile {
     New(File),
     Standing(File),
-    // It was taken away meanwhile.
+    // It was removed meanwhile.
     Gone,
 }
 
 impl Mark {
-    /// Sets the mark at a place. An error where anything but a file stands there.
+    /// Sets the mark at a place. An error if anything but a regular file is there.
     pub(crate) fn set<R: Files<File = File>>(
         files: &R,
         alloc: Global,
@@ -61,7 +61,7 @@ impl Mark {
                 Err(TryLockError::WouldBlock) => break,
                 Err(TryLockError::Error(e)) => return Err(e),
             }
-            // Else the run that had it has ended since, and has taken it away.
+            // Otherwise the run that had it has ended since, and has removed it.
             if is_at(files, &file, place.as_str())? {
                 let mark = Mark { file, place };
                 return Ok(if is_new {
@@ -74,19 +74,19 @@ impl Mark {
         Ok(Marking::InUse)
     }
 
-    /// The byte on which the standard input of the run's children is locked: the same for all runs that this mark is handed on
-    /// to, and hardly ever another's.
+    /// The byte on which the standard input of the run's children is locked. It is the same for all runs to
+    /// which this mark passes, and hardly ever that of another mark.
     pub(crate) fn input_byte(&self) -> io::Result<u64> {
         let held = self.file.metadata()?;
         Ok((held.ino() ^ (held.dev() << 32)) % BYTES)
     }
 
-    /// Whether it stands at its place still.
+    /// Whether it is still at its place.
     pub(crate) fn stands<R: Files<File = File>>(&self, files: &R) -> bool {
         is_at(files, &self.file, self.place.as_str()).is_ok_and(|is_there| is_there)
     }
 
-    /// Takes the mark away: the run has ended by itself.
+    /// Removes the mark, since the run has ended by itself.
     pub(crate) fn remove<R: Files<File = File>>(self, files: &R) {
         if self.stands(files) {
             let _gone = fs::remove_file(files, self.place.as_str());
@@ -107,10 +107,11 @@ fn open<R: Files<File = File>>(files: &R, place: &str) -> io::Result<MarkFile> {
     match standing(files, place)? {
         None => return Ok(MarkFile::Gone),
         Some(found) if found.is_file() => {}
-        // To open a fifo would wait for its reader, and a link may lead out of the folder.
+        // Opening a fifo would wait for its reader (fifo(7)), and a link may lead out of the folder.
         Some(_) => return Err(io::Error::from(ErrorKind::Unsupported)),
     }
-    // To be read too, so that the system waits for no reader of a fifo that is put there in this moment.
+    // It is opened for reading too, so that the system doesn't wait for the reader of a fifo that is put
+    // there in this moment (fifo(7)).
     match OpenOptions::new().read(true).write(true).open(files, place) {
         Ok(file) => Ok(MarkFile::Standing(above_streams(file)?)),
         Err(e) if e.kind() == ErrorKind::NotFound => Ok(MarkFile::Gone),
@@ -118,7 +119,8 @@ fn open<R: Files<File = File>>(files: &R, place: &str) -> io::Result<MarkFile> {
     }
 }
 
-// The file, under a number that is no standard stream's: what is meant for one that was closed must not land in it.
+// The file, under a descriptor that is no standard stream's: output for a stream that was closed must not
+// land in it.
 fn above_streams(file: File) -> io::Result<File> {
     if file.as_raw_fd() <= LAST_STREAM {
         file.try_clone()
@@ -127,7 +129,7 @@ fn above_streams(file: File) -> io::Result<File> {
     }
 }
 
-// Whether the file stands at the place.
+// Whether this file is at the place.
 fn is_at<R: Files<File = File>>(files: &R, file: &File, place: &str) -> io::Result<bool> {
     let held = file.metadata()?;
     match standing(files, place)? {

@@ -1,4 +1,4 @@
-//! The two outputs of a child, read side by side.
+//! The two outputs of a child, read at the same time.
 
 ghost use Rattle.std.specs.Io.{ReadsAtMost};
 
@@ -32,7 +32,7 @@ enum Kept {
 }
 
 impl Outputs {
-    /// Nothing, before the first byte.
+    /// Nothing, before the first byte is read.
     pub(crate) fn new(alloc: Global) -> Outputs {
         Outputs {
             standard_output: Vec::new(alloc),
@@ -41,8 +41,9 @@ impl Outputs {
         }
     }
 
-    /// Reads both pipes to their ends, whichever of them has something. Past the limit, or once memory is refused, what
-    /// comes is dropped: the child can still write, so that its own end is what ends it.
+    /// Reads both pipes to their ends, whichever of them has something. Past the limit, or once memory is
+    /// refused, what comes is dropped. So the child can still write: it isn't ended by `SIGPIPE`, nor does it
+    /// wait for room in a pipe (pipe(7)).
     pub(crate) fn read_from<O: Read + AsRawFd + Drop, E: Read + AsRawFd + Drop>(
         &mut self,
         standard_output: O,
@@ -96,7 +97,8 @@ impl Outputs {
         self.kept = why;
     }
 
-    /// The standard output followed by the standard error. `OutputTooLong` where they are longer than a child may write.
+    /// The standard output followed by the standard error. `OutputTooLong` if they are longer than a child
+    /// may write, and `Stop::OutOfMemory` if memory was refused.
     pub(crate) fn into_bytes(self) -> Result<Bytes, Stop> {
         let Outputs {
             standard_output: mut output,
@@ -114,14 +116,14 @@ impl Outputs {
     }
 }
 
-// One of the two.
+// One of the two outputs.
 #[derive(Clone, Copy, Debug)]
 enum Stream {
     Output,
     Error,
 }
 
-// Reads once. At its end the pipe is closed.
+// Reads once, and closes the pipe at its end.
 fn read_or_close<P: Read + Drop>(pipe: &mut Option<P>, piece: &mut [u8]) -> io::Result<usize>
     ensures { ReadsAtMost result piece.new }
 {
@@ -135,7 +137,7 @@ fn read_or_close<P: Read + Drop>(pipe: &mut Option<P>, piece: &mut [u8]) -> io::
     Ok(count)
 }
 
-// The number of an open pipe. A wait looks at no negative one.
+// The descriptor of an open pipe, or -1, which poll(2) ignores.
 fn number_of<P: AsRawFd>(pipe: &Option<P>) -> i32 {
     match pipe {
         Some(pipe) => pipe.as_raw_fd(),

@@ -1,4 +1,4 @@
-//! The files of the scratch folder, as they are found and opened by their paths.
+//! How the files of the scratch folder are found and opened by their paths.
 
 use crate::held_folder::HeldFolder;
 use crate::place::{place_in, standing};
@@ -9,13 +9,14 @@ use std::fs::{Files, Metadata, OpenFile, OpenOptions};
 use std::io::ErrorKind;
 use std::{fs, io};
 
-// Where the system shows what a process has open.
+// The folder in which the system shows what a process has open (proc(5), "/proc/self").
 const OPEN: &str = "/proc/self/fd";
 
-// How many bytes a folder's path and one in it may have together, that the system takes with a slash between them and a 0 behind.
+// A folder's path and a path in it have fewer bytes than this together. With a slash between and a NUL at the
+// end they are then at most `PATH_MAX` bytes, which the system takes (POSIX.1-2017, limits.h).
 const MOST_LOOKED_AT: usize = libc::PATH_MAX - 1;
 
-// No such device or address: what a socket says that is opened.
+// The error of opening a socket, no such device or address (open(2), ENXIO).
 const ENXIO: i32 = 6;
 
 /// A file that was opened to be read.
@@ -27,9 +28,9 @@ pub(crate) struct Opened<F: Drop> {
     pub stamp: Stamp,
 }
 
-/// The files of the scratch folder, as they are found and opened by their paths: each in its folder, which is held open, so
-/// that nothing is found behind a link, be it put in the folder's place in this moment, and a path may be longer than the
-/// system takes at once. Where the system doesn't show what is held open, the paths alone are left.
+/// The files of the scratch folder, each found and opened in its folder, which is held open. So nothing is
+/// found through a link, even if it is put in the folder's place in this moment. And a path may be longer
+/// than the system takes at once. If the system doesn't show what is held open, the paths alone are used.
 #[derive(Debug, Drop)]
 pub(crate) struct OwnFiles<'a> {
     alloc: Global,
@@ -54,7 +55,7 @@ impl<'a> OwnFiles<'a> {
         }
     }
 
-    /// A result whose error, if it is one, is the trouble at this path of the tree.
+    /// Turns the error of a result into the trouble at this path of the tree.
     pub(crate) fn at<T>(&self, path: &str, ended: io::Result<T>) -> Result<T, Trouble> {
         match ended {
             Ok(value) => Ok(value),
@@ -65,13 +66,13 @@ impl<'a> OwnFiles<'a> {
         }
     }
 
-    /// Where a path of the tree stands, as it is told.
+    /// The place of a path of the tree, as messages show it.
     pub(crate) fn shown(&self, path: &str) -> Result<String, AllocError> {
         place_in(self.alloc, self.folder, path)
     }
 
-    /// Where a path of the tree stands, until the next one is asked for. A folder that may not be listed is found by its path alone.
-    /// An error where a folder on the way to it is a link or isn't there.
+    /// The place of a path of the tree, valid until the next one is asked for. A folder that may not be
+    /// listed is found by its path alone. An error if a folder on the way to it is a link or isn't there.
     pub(crate) fn place(&mut self, path: &str) -> io::Result<String> {
         if !self.holds {
             return Ok(self.shown(path)?);
@@ -87,7 +88,8 @@ impl<'a> OwnFiles<'a> {
         }
     }
 
-    /// Where a path of the tree is looked at: by its path alone, where the system takes it. What is done there goes by `place`.
+    /// Where to look at the metadata of a path of the tree: by its path alone, if the system takes that.
+    /// Whatever is done there uses `place`.
     pub(crate) fn look_place(&mut self, path: &str) -> io::Result<String> {
         if self.folder.len().saturating_add(path.len()) < MOST_LOOKED_AT {
             Ok(self.shown(path)?)
@@ -96,7 +98,7 @@ impl<'a> OwnFiles<'a> {
         }
     }
 
-    /// Where the names of a folder of the tree stand, likewise, without the slash before each.
+    /// Likewise the place of a folder of the tree. A slash and a name lead from there to what is in it.
     pub(crate) fn inside(&mut self, folder: &str) -> io::Result<String> {
         if !self.holds {
             return Ok(self.shown(folder)?);
@@ -105,20 +107,20 @@ impl<'a> OwnFiles<'a> {
         Ok(format!(in self.alloc; "{OPEN}/{number}/.")?)
     }
 
-    /// Where the scratch folder stands, as it is told.
+    /// The place of the scratch folder, as messages show it.
     pub(crate) fn folder(&self) -> &'a str {
         self.folder
     }
 
-    /// Holds the scratch folder, and lets go of what was found in it.
+    /// Holds the scratch folder, and closes the folder in it that was found last.
     pub(crate) fn hold_scratch_alone(&mut self) -> io::Result<()> {
         self.held = None;
         let _scratch = self.scratch()?;
         Ok(())
     }
 
-    // The scratch folder, which is held from the first time on that it is asked for: whatever is put in its place, files are found
-    // in this one.
+    // The scratch folder, which is held from the first time that it is asked for: files are found in this
+    // one, whatever is put in its place.
     fn scratch(&mut self) -> io::Result<&HeldFolder> {
         let scratch = match self.scratch.take() {
             Some(scratch) => scratch,
@@ -127,7 +129,7 @@ impl<'a> OwnFiles<'a> {
         Ok(self.scratch.insert(scratch))
     }
 
-    // Holds a folder of the tree, and answers its number.
+    // Holds a folder of the tree, and returns its descriptor.
     fn hold(&mut self, inner: &str) -> io::Result<i32> {
         if inner.is_empty() {
             return Ok(self.scratch()?.number());
@@ -154,8 +156,9 @@ impl<'a> OwnFiles<'a> {
         self.scratch()?.within(inner)
     }
 
-    /// Opens a file to read it, which was just found at this place. `None` where it isn't there any more, or another is. It is
-    /// opened to be written too, since the system then doesn't wait for the other end of a fifo that was put there.
+    /// Opens a file for reading that was just found at this place. `None` if it is no longer there, or
+    /// another one is. It is opened for writing too, since the system then doesn't wait for the other end of
+    /// a fifo that was put there (fifo(7)).
     pub(crate) fn open<R: Files>(
         &self,
         files: &R,
@@ -177,9 +180,9 @@ impl<'a> OwnFiles<'a> {
         }
     }
 
-    // Opens a file that may not be written. Here the system waits for the other end of a fifo, so what stands at the place first gets
-    // a second name, by which no other process goes, and is looked at there. Where it can't have one, it is opened as it is. A
-    // process that is killed meanwhile leaves the name to be a stray.
+    // Opens a file that may not be written. Here the system would wait for the other end of a fifo. So what
+    // is at the place first gets a second name, which no other process uses, and is looked at there. If it
+    // can't have one, it is opened as it is. A process that is killed meanwhile leaves the name as a stray.
     fn open_to_read<R: Files>(&self, files: &R, place: &str) -> io::Result<R::File> {
         let second = self.second_name()?;
         let second = second.as_str();
@@ -204,7 +207,7 @@ impl<'a> OwnFiles<'a> {
     }
 }
 
-// Whether an error of a second name says that the first isn't there any more, or that the second one is taken.
+// Whether an error of a second name says that the first is no longer there, or that the second one is taken.
 fn is_in_the_way(error: &io::Error) -> bool {
     matches!(error.kind(), ErrorKind::NotFound | ErrorKind::AlreadyExists)
 }
@@ -216,7 +219,7 @@ fn open_file<R: Files>(files: &R, place: &str) -> io::Result<R::File> {
     }
 }
 
-// The part of a path that leads on from a folder, where it leads through that.
+// The part of a path that leads on from a folder, if it leads through that.
 fn rest_below<'p>(folder: &str, path: &'p str) -> Option<&'p str> {
     match path.strip_prefix(folder) {
         Some(rest) if !folder.is_empty() => rest.strip_prefix('/'),
@@ -224,7 +227,7 @@ fn rest_below<'p>(folder: &str, path: &'p str) -> Option<&'p str> {
     }
 }
 
-// Whether an error says that a file may not be written, which says nothing of reading.
+// Whether an error says only that a file may not be written. It may still be readable.
 fn may_be_read(error: &io::Error) -> bool {
     matches!(
         error.kind(),
@@ -232,7 +235,7 @@ fn may_be_read(error: &io::Error) -> bool {
     )
 }
 
-// Whether an error says that there is no file.
+// Whether an error says that there is no file to read: nothing, a folder, a link or a socket.
 fn is_no_file(error: &io::Error) -> bool {
     let kind = error.kind();
     let is_other = matches!(kind, ErrorKind::IsADirectory | ErrorKind::FilesystemLoop);

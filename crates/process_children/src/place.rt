@@ -1,4 +1,4 @@
-//! Where things stand on the disk.
+//! The places of files and folders on the disk.
 
 use std::alloc::{AllocError, Global};
 use std::fs::{Files, Metadata};
@@ -16,7 +16,7 @@ pub(crate) fn place_in(alloc: Global, folder: &str, path: &str) -> Result<String
     Ok(place)
 }
 
-/// What stands at a place, or `None` where nothing does. A link there is told of and not followed.
+/// What is at a place, or `None` if nothing is. Of a link it says that it is one; the link isn't followed.
 pub(crate) fn standing(files: &impl Files, place: &str) -> io::Result<Option<Metadata>> {
     match fs::symlink_metadata(files, place) {
         Ok(found) => Ok(Some(found)),
@@ -26,7 +26,7 @@ pub(crate) fn standing(files: &impl Files, place: &str) -> io::Result<Option<Met
     }
 }
 
-/// An error where a link stands at a place.
+/// An error if a link is at a place.
 pub(crate) fn refuse_link(files: &impl Files, place: &str) -> io::Result<()> {
     match standing(files, place)? {
         Some(found) if found.is_symlink() => Err(link_refused()),
@@ -34,8 +34,8 @@ pub(crate) fn refuse_link(files: &impl Files, place: &str) -> io::Result<()> {
     }
 }
 
-/// What stands at the place of the scratch folder, or `None` where nothing does. An error where that, or the folder that it is to
-/// stand in, is a link.
+/// What is at the place of the scratch folder, or `None` if nothing is. An error if that, or its parent
+/// folder, is a link.
 pub(crate) fn standing_scratch(files: &impl Files, folder: &str) -> io::Result<Option<Metadata>> {
     if let Some(parent) = Path::new(folder).parent() {
         refuse_link(files, parent.path_text())?;

@@ -11,11 +11,11 @@ use hook_base::{OutOfMemory, RepoPath, Text, Tree};
 use std::fs::{File, Files};
 use std::process::{Processes, SystemProcess};
 
-/// Children that are real processes, each started in a scratch folder that holds the files of its tree, the folder `.git`, links to
-/// what is installed ([`link`](ProcessChildren::link)), and nothing else.
+/// Children that are real processes, each started in a scratch folder that holds the files of its tree, the
+/// folder `.git`, links to what is installed ([`link`](ProcessChildren::link)), and nothing else.
 ///
-/// Their folder is taken for the first of them, and left when this value is dropped. Meanwhile a locked file stands beside
-/// it, which other processes go by.
+/// Their folder is taken for the first of them, and left when this value is dropped. Meanwhile a locked file
+/// next to it shows other processes that it is in use.
 pub struct ProcessChildren<R: Files<File = File> + AllocGlobal + Drop> {
     stations: Stations<R>,
     completed: u64,
@@ -26,9 +26,9 @@ pub struct ProcessChildren<R: Files<File = File> + AllocGlobal + Drop> {
 impl<
     R: Files<File = File> + Processes<Started = SystemProcess> + AllocGlobal + Drop,
 > ProcessChildren<R> {
-    /// Children that will run in this folder, which is made for the first of them, with its missing parents. Whatever
-    /// else lies in it is removed. Where other children use it by then they run in one of their own beside it, which is
-    /// removed at their end. None has run yet.
+    /// Children that will run in this folder, which is made for the first of them, with its missing parents.
+    /// Whatever else is in it is removed. If other children use it by then, these run in a folder of their
+    /// own next to it, which is removed at their end. None has run yet.
     pub fn new(runtime: R, folder: String) -> ProcessChildren<R>
         ensures no_calls { ⟦<ProcessChildren<R> as Children>⟧.call_count result ≡ 0 }
         ensures no_faults { ⟦<ProcessChildren<R> as Children>⟧.fault_count result ≡ 0 }
@@ -36,9 +36,9 @@ impl<
         ProcessChildren::watching(runtime, folder, None)
     }
 
-    /// The same, of which each is a fault, `ScratchFailed`, while which the file at the place `calls` got another length. There
-    /// a program writes down that a child has called it which must not be answered from what is remembered. A missing file has
-    /// no bytes.
+    /// The same. A child counts as the fault `ScratchFailed` if the length of the file at `calls` changed
+    /// while it ran. In that file a program records that a child has called it, and that the child's answer
+    /// must not be cached. A missing file counts as empty.
     pub fn watching(runtime: R, folder: String, calls: Option<String>) -> ProcessChildren<R>
         ensures no_calls { ⟦<ProcessChildren<R> as Children>⟧.call_count result ≡ 0 }
         ensures no_faults { ⟦<ProcessChildren<R> as Children>⟧.fault_count result ≡ 0 }
@@ -50,8 +50,8 @@ impl<
         }
     }
 
-    /// Children as [`new`](ProcessChildren::new) makes them, whose folder is removed at their end, and the folder that it stands in
-    /// where that is empty then.
+    /// Children as [`new`](ProcessChildren::new) makes them, whose folder is removed at their end. So is its
+    /// parent folder if that is empty then.
     pub fn removed_at_end(runtime: R, folder: String) -> ProcessChildren<R>
         ensures no_calls { ⟦<ProcessChildren<R> as Children>⟧.call_count result ≡ 0 }
         ensures no_faults { ⟦<ProcessChildren<R> as Children>⟧.fault_count result ≡ 0 }
@@ -63,10 +63,11 @@ impl<
         }
     }
 
-    /// From now on a link to each of these places stands at the top of the scratch folder, under the name that the place ends with. There
-    /// is none where the tree has that name, or where nothing stands at the place. What is behind a link is no file of the tree: it isn't
-    /// followed, read back or removed, whatever a child puts in its place. The places are full paths, or lead there from the scratch
-    /// folder, and their names are different.
+    /// From now on the top of the scratch folder has a link to each of these places, under the last name of
+    /// the place. There is none if the tree has that name, or if nothing is at the place. What a link leads
+    /// to is no file of the tree: it isn't followed, read back or removed, whatever a child puts in its
+    /// place. The places are full paths, or lead there from the scratch folder, and their last names are
+    /// different.
     pub fn link(&mut self, places: Vec<String>)
         ensures calls { ⟦<ProcessChildren<R> as Children>⟧.call_count self.new ≡ ⟦<ProcessChildren<R> as Children>⟧.call_count self.old }
         ensures faults { ⟦<ProcessChildren<R> as Children>⟧.fault_count self.new ≡ ⟦<ProcessChildren<R> as Children>⟧.fault_count self.old }
@@ -74,8 +75,8 @@ impl<
         self.stations.link(places);
     }
 
-    /// From now on a child that has seen the file of this path, which stands for Git's state, finds the variable
-    /// `HOOKHOST_SEES_GIT_STATE` set to 1. Another one doesn't find it.
+    /// From now on a child that has seen the file of this path, which represents Git's state, finds the
+    /// variable `HOOKHOST_SEES_GIT_STATE` set to 1. Any other child doesn't find it.
     pub fn tell_state(&mut self, path: RepoPath)
         ensures calls { ⟦<ProcessChildren<R> as Children>⟧.call_count self.new ≡ ⟦<ProcessChildren<R> as Children>⟧.call_count self.old }
         ensures faults { ⟦<ProcessChildren<R> as Children>⟧.fault_count self.new ≡ ⟦<ProcessChildren<R> as Children>⟧.fault_count self.old }
@@ -83,7 +84,8 @@ impl<
         self.stations.tell_state(path);
     }
 
-    /// Of each child from now on all files are read: none is taken for unchanged by its times. For trials of that.
+    /// From now on all files of each child are read: none counts as unchanged by its times. For trials of
+    /// that.
     pub fn read_everything(&mut self)
         ensures calls { ⟦<ProcessChildren<R> as Children>⟧.call_count self.new ≡ ⟦<ProcessChildren<R> as Children>⟧.call_count self.old }
         ensures faults { ⟦<ProcessChildren<R> as Children>⟧.fault_count self.new ≡ ⟦<ProcessChildren<R> as Children>⟧.fault_count self.old }
@@ -91,7 +93,7 @@ impl<
         self.stations.read_everything();
     }
 
-    /// What kept the files of a child from being laid or read back, the first time that it was told as a fault.
+    /// What kept the files of a child from being laid or read back, the first time that this was a fault.
     pub fn trouble(&self) -> Option<&Trouble> {
         self.stations.troubles().of_files()
     }

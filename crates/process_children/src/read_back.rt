@@ -1,4 +1,4 @@
-//! What a child made of the files of its tree.
+//! What a child did to the files of its tree.
 
 use crate::contents::{begins_with, read_open};
 use crate::folders::{folder_at, shared_bytes};
@@ -13,15 +13,15 @@ use std::fs::{Files, Metadata};
 use std::io;
 use std::io::{ErrorKind, Read, Seek, SeekFrom};
 
-// How often a file is looked at that another takes the place of in this moment.
+// How often a file is looked at if another one takes its place in that moment.
 const MOST_LOOKS: u32 = 1_000;
 
-/// What became of the files of the tree, each looked at in the folder, and read back unless it is known. A missing one is
-/// gone.
+/// What became of the files of the tree. Each is looked at in the folder, and read back unless it is known. A
+/// file that is missing, or whose folder is missing or is no folder, counts as removed.
 ///
-/// The folder, where it was lost: where it doesn't stand at its place any more, or another one does. Else the first file that can't
-/// be read, that has more bytes than a file may, or in the place of which, or of a folder on the way to it, something else stands:
-/// a link too, since none is followed.
+/// The error is the folder if that was lost: it is no longer at its place, or another one is. Otherwise it is
+/// the first file that can't be read, that has more bytes than a file may, or that is no regular file. A link
+/// at its place, or on the way to it, is an error too, since none is followed.
 pub(crate) fn read_back<R: Files>(
     files: &R,
     alloc: Global,
@@ -37,7 +37,7 @@ pub(crate) fn read_back<R: Files>(
     }
 }
 
-// Only what stands at its place is read, and what was read counts only if it still stands there then.
+// The folder is read only if it is at its place, and what was read counts only if it is still there then.
 fn changes_of<R: Files>(
     files: &R,
     alloc: Global,
@@ -70,7 +70,7 @@ struct Reading<'a, 'f, R: Files> {
 }
 
 impl<'a, 'f, R: Files> Reading<'a, 'f, R> {
-    // Each file that changed, and before the first of each folder that folder.
+    // Each file that changed. Before the first one of a folder, that folder is checked for links.
     fn changes(&mut self, tree: &Tree, piece: &mut [u8]) -> Result<Vec<Change>, Trouble> {
         let mut changes = Vec::new(self.alloc);
         let mut before = "";
@@ -101,7 +101,7 @@ impl<'a, 'f, R: Files> Reading<'a, 'f, R> {
         Ok(())
     }
 
-    // What became of a file. An error where it is another one each time that it is opened.
+    // What became of a file. An error if it is another one each time that it is opened.
     fn change_of(&mut self, file: &File, piece: &mut [u8]) -> io::Result<Option<Change>> {
         if self.is_unchanged(file)? {
             return Ok(None);
@@ -125,8 +125,8 @@ impl<'a, 'f, R: Files> Reading<'a, 'f, R> {
         Err(io::Error::from(ErrorKind::ResourceBusy))
     }
 
-    // Whether a file is known and unchanged: then it is what stands at its path, whatever leads there. Of which nothing is known
-    // isn't looked at here.
+    // Whether a file is known and unchanged. Then that very file is at its path, whatever folders lead there.
+    // A file of which nothing is known isn't looked at here.
     fn is_unchanged(&mut self, file: &File) -> io::Result<bool> {
         let path = file.path.as_str();
         if !self.known.has(path) {
@@ -143,7 +143,7 @@ impl<'a, 'f, R: Files> Reading<'a, 'f, R> {
         }
     }
 
-    // What an open file says of the change, which is read.
+    // The change that reading an open file shows, if any.
     fn change_in<F: Read + Seek + Drop>(
         &mut self,
         opened: Opened<F>,
@@ -168,12 +168,12 @@ impl<'a, 'f, R: Files> Reading<'a, 'f, R> {
     }
 }
 
-// Whether an error says that no folder stands where a path leads through it.
+// Whether an error says that nothing is at a path, or that it leads through what is missing or no folder.
 fn is_gone(error: &io::Error) -> bool {
     matches!(error.kind(), ErrorKind::NotFound | ErrorKind::NotADirectory)
 }
 
-// What a look at a file's place says.
+// What a look at a file's place shows.
 #[derive(Drop)]
 enum Look {
     Gone,

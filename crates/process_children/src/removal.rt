@@ -1,4 +1,4 @@
-//! Removing a scratch folder, be there a process in it that goes on to write.
+//! Removes a scratch folder, even if a process goes on writing in it.
 
 use crate::keep::empty;
 use crate::place::standing;
@@ -6,12 +6,13 @@ use std::alloc::Global;
 use std::fs::Files;
 use std::{fs, io};
 
-// How often it is tried: a process that is at work in the folder may put something there just before it is removed.
+// How often it is tried: a process that works in the folder may put something there just before it is
+// removed.
 const MOST_TRIES: u32 = 1_000;
 
-/// Puts away the folder of a run that was stopped, whose child may be at work there still. Under another name it is
-/// emptied and removed, so what such a child writes to where it is isn't in the folder that is made next. An error where
-/// it can't be removed.
+/// Removes the folder of a run that was stopped, whose child may still work there. First the folder gets
+/// another name. So what such a child writes into its working directory doesn't get into the folder that is
+/// made next. An error if it can't be removed.
 pub(crate) fn put_away<R: Files>(files: &R, alloc: Global, folder: &str) -> io::Result<()> {
     let old = format!(in alloc; "{folder}.old")?;
     let old = old.as_str();
@@ -26,7 +27,7 @@ pub(crate) fn put_away<R: Files>(files: &R, alloc: Global, folder: &str) -> io::
     }
 }
 
-/// Removes what stands at a place, a folder with all that is in it. A link is not followed.
+/// Removes what is at a place, a folder with all that is in it. A link is removed itself, and not followed.
 pub(crate) fn remove<R: Files>(files: &R, alloc: Global, place: &str) -> io::Result<()> {
     match standing(files, place)? {
         None => Ok(()),

@@ -16,11 +16,11 @@ use std::{fs, io};
 pub(crate) enum AtEnd {
     /// It stays for the next run.
     FolderStays,
-    /// It is removed, and the folder that it stands in where that is empty then.
+    /// It is removed, and so is its parent folder if that is empty then.
     FolderGoes,
 }
 
-/// The scratch folder of a run. Beside it stands the mark of the run, which says that it is in use.
+/// The scratch folder of a run. Next to it is the mark of the run, which says that it is in use.
 #[derive(Drop)]
 pub(crate) struct ScratchFolder {
     place: String,
@@ -30,8 +30,9 @@ pub(crate) struct ScratchFolder {
 }
 
 impl ScratchFolder {
-    /// Takes a folder for a run. Where another run uses it, or a child that outlived its run, it is one of its own beside it:
-    /// the first that none uses, by their numbers. The folder of a run that was stopped is put away. It isn't made here.
+    /// Takes a folder for a run. If another run uses it, or a child that outlived its run, the run gets one
+    /// next to it: the first, by their numbers, that none uses. The folder of a run that was stopped is
+    /// removed. The folder isn't made here.
     pub(crate) fn take<R: Files<File = File>>(
         files: &R,
         alloc: Global,
@@ -41,7 +42,7 @@ impl ScratchFolder {
         for number in 0..u64::MAX {
             let place = numbered(alloc, folder, number)?;
             if let Some(mark) = mark_of(files, alloc, place.as_str())? {
-                // What other runs left harms none, so it may stay.
+                // What other runs left does no harm, so it may stay.
                 let _removed = remove_left(files, alloc, folder, number.saturating_add(1));
                 let input_byte = at_place(alloc, place.as_str(), mark.input_byte())?;
                 return Ok(ScratchFolder {
@@ -55,7 +56,7 @@ impl ScratchFolder {
         at_place(alloc, folder, Err(io::Error::from(ErrorKind::ResourceBusy)))
     }
 
-    /// Where it stands.
+    /// Its place.
     pub(crate) fn place(&self) -> &str {
         self.place.as_str()
     }
@@ -65,12 +66,13 @@ impl ScratchFolder {
         self.input_byte
     }
 
-    /// Whether its mark still stands beside it: else other runs take the folder for one that none uses.
+    /// Whether its mark is still next to it. Otherwise other runs treat the folder as unused.
     pub(crate) fn is_marked<R: Files<File = File>>(&self, files: &R) -> bool {
         self.mark.stands(files)
     }
 
-    /// Leaves the folder: all children of the run have ended. One of the run's own, beside another's, is removed whatever `at_end` says.
+    /// Leaves the folder, after all children of the run have ended. A folder next to another run's is removed
+    /// whatever `at_end` says.
     pub(crate) fn leave<R: Files<File = File>>(self, files: &R, alloc: Global, at_end: AtEnd) {
         let ScratchFolder {
             place,
@@ -80,7 +82,7 @@ impl ScratchFolder {
         } = self;
         let place = place.as_str();
         let stays = number == 0 && at_end == AtEnd::FolderStays;
-        // Where it can't be removed its mark stays, and a later run puts it away.
+        // If it can't be removed, its mark stays, and a later run removes it.
         if stays || remove_scratch(files, alloc, place).is_ok() {
             mark.remove(files);
         }
@@ -92,7 +94,7 @@ impl ScratchFolder {
     }
 }
 
-// A link is not followed, be it in place of the folder that this one stands in.
+// No link is followed, not even one in place of the parent folder.
 fn remove_scratch<R: Files>(files: &R, alloc: Global, place: &str) -> io::Result<()> {
     match standing_scratch(files, place)? {
         Some(_) => remove(files, alloc, place),
@@ -122,8 +124,8 @@ fn mark_place(alloc: Global, place: &str) -> Result<String, AllocError> {
     format!(in alloc; "{place}.run")
 }
 
-// Sets the mark of a folder, and puts away what a run that was stopped has left there. `None` where another run uses it, or
-// where a child lives on that knows it by its full path.
+// Sets the mark of a folder, and removes what a stopped run has left there. `None` if another run uses it, or
+// if a child is still alive that knows it by its full path.
 fn mark_of<R: Files<File = File>>(
     files: &R,
     alloc: Global,
@@ -144,7 +146,7 @@ fn mark_of<R: Files<File = File>>(
     }
 }
 
-// Removes the folders from this number on that runs which were stopped had taken beside another.
+// Removes the folders from the number `first` on that stopped runs had taken next to another one.
 fn remove_left<R: Files<File = File>>(
     files: &R,
     alloc: Global,

@@ -1,4 +1,4 @@
-//! What belongs in a folder of a tree, found by halving.
+//! What belongs in a folder of a tree, found by binary search.
 
 ghost use Rattle.std.specs.Prelude.{◌≤◌, length};
 
@@ -28,7 +28,7 @@ pub(crate) fn belongs(
     Ok(first_from(tree, path.as_slice()).is_some_and(|found| found.starts_with(path.as_slice())))
 }
 
-// The first path of the tree that doesn't come before these bytes.
+// The first path of the tree that isn't less than these bytes.
 fn first_from<'a>(tree: &'a Tree, bytes: &[u8]) -> Option<&'a [u8]> {
     let mut low = 0;
     let mut high = tree.len();

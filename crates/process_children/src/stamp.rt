@@ -1,9 +1,10 @@
-//! What the system tells of a file, by which the file is known again.
+//! The metadata by which a file is recognized again.
 
 use std::fs::Metadata;
 use std::os::unix::fs::MetadataExt;
 
-// A file system that keeps whole seconds, or whole thousandths of one, has no part below this.
+// A file system that keeps whole seconds, or whole thousandths of one, has no part below this, in
+// nanoseconds.
 const COARSE_NANOSECONDS: i64 = 1_000_000;
 
 /// A moment, by the clock that a file system stamps its files with.
@@ -14,7 +15,8 @@ pub(crate) struct Moment {
 }
 
 impl Moment {
-    /// The moment at which this was changed last: its bytes, its mode, its owner or one of its names.
+    /// The moment at which this was last changed: its bytes, its mode, its owner or one of its names
+    /// (inode(7), ctime).
     pub(crate) fn of_change(found: &Metadata) -> Moment {
         Moment {
             seconds: found.ctime(),
@@ -36,13 +38,15 @@ impl Moment {
             || self.seconds == other.seconds && self.nanoseconds < other.nanoseconds
     }
 
-    /// Whether it is one of few in a second, so that it may come from a file system that keeps no finer ones.
+    /// Whether it is a whole thousandth of a second, so that it may come from a file system that keeps no
+    /// finer ones.
     pub(crate) fn is_coarse(self) -> bool {
         self.nanoseconds % COARSE_NANOSECONDS == 0
     }
 }
 
-/// The device and the number by which the system knows a file or folder as long as it is there or held open.
+/// The device and the inode number by which the system knows a file or folder, as long as it exists or is
+/// held open.
 #[derive(Clone, Copy, Debug, PartialEq, Eq)]
 pub(crate) struct Identity {
     device: u64,
@@ -50,7 +54,7 @@ pub(crate) struct Identity {
 }
 
 impl Identity {
-    /// That of what was found.
+    /// The identity of what was found.
     pub(crate) fn of(found: &Metadata) -> Identity {
         Identity {
             device: found.dev(),
@@ -59,8 +63,8 @@ impl Identity {
     }
 }
 
-/// What the system tells of a file. Who changes its bytes or puts another file in its place changes the stamp too, but for
-/// those cases of which the module `file_ages` speaks.
+/// The metadata of a file. Whoever changes its bytes, or puts another file in its place, changes the stamp
+/// too. The exceptions are in the module `file_ages`.
 #[derive(Clone, Copy, Debug, PartialEq, Eq)]
 pub(crate) struct Stamp {
     identity: Identity,
@@ -91,7 +95,7 @@ impl Stamp {
         }
     }
 
-    /// Whether it is of the file that was found, be that changed since.
+    /// Whether it belongs to the file that was found, even if that was changed since.
     pub(crate) fn is_of(&self, found: &Metadata) -> bool {
         self.identity == Identity::of(found)
     }
@@ -106,7 +110,7 @@ impl Stamp {
         self.length
     }
 
-    /// The moment at which it was changed last.
+    /// The moment at which it was last changed.
     pub(crate) fn changed(&self) -> Moment {
         self.changed
     }

@@ -12,11 +12,13 @@ use std::process::{Child, Command, Processes, Stdio};
 // The variable of a child that has seen the file of Git's state.
 const SEES_STATE: &str = "HOOKHOST_SEES_GIT_STATE";
 
-/// Starts the words in a folder, with empty standard input, which is locked on a byte, and a pipe for each output, in the
-/// environment of this process. Where it is known whether the child has seen Git's state, a variable says so. A program word with a slash that doesn't begin with one is taken within the folder, one without a slash is
-/// looked for along `PATH`. No open file but these three is handed on.
+/// Starts the words in a folder, in the environment of this process. Standard input is empty and locked on a
+/// byte, and each output is a pipe. If it is known whether the child has seen Git's state, a variable says
+/// so. A program word with a slash, but not at the front, is a path from the folder. One without a slash is
+/// looked for along `PATH`, as execvp of exec(3) does. No other open file is passed on.
 ///
-/// The program word and the system's error where it can't be started, or where there is no word.
+/// The error is the program word and the system's error if it can't be started (execve(2)). No word at all is
+/// an error too.
 pub(crate) fn start<R: Files<File = File> + Processes>(
     runtime: &R,
     alloc: Global,

@@ -1,4 +1,4 @@
-//! What a child goes through, from the files that it finds to those that it leaves.
+//! The stations of a child, from the files that it finds to those that it leaves.
 
 use crate::contents::PIECE_BYTES;
 use crate::ending::{Ending, ending_of};
@@ -18,7 +18,7 @@ use std::io::ErrorKind;
 use std::process::{Processes, SystemProcess};
 use std::{fs, io};
 
-/// What a child goes through, and what is known of those before it.
+/// The stations of a child, and what is known of the children before it.
 #[derive(Drop)]
 pub(crate) struct Stations<R: Files<File = File> + AllocGlobal + Drop> {
     runtime: R,
@@ -33,7 +33,7 @@ pub(crate) struct Stations<R: Files<File = File> + AllocGlobal + Drop> {
 }
 
 impl<R: Files<File = File> + AllocGlobal + Drop> Stations<R> {
-    /// What children go through that run in this folder. None has run yet.
+    /// The stations of children that run in this folder. None has run yet.
     pub(crate) fn new(
         runtime: R,
         folder: String,
@@ -65,12 +65,12 @@ impl<R: Files<File = File> + AllocGlobal + Drop> Stations<R> {
         self.links = places;
     }
 
-    /// From now on each child is told whether it has seen the file of this path.
+    /// From now on each child learns whether it has seen the file of this path.
     pub(crate) fn tell_state(&mut self, path: RepoPath) {
         self.state = Some(path);
     }
 
-    // Whether a child that has seen these files has seen that of Git's state, where that is told.
+    // Whether a child that has seen these files has seen that of Git's state, or `None` if no path was given.
     fn sees_state(&self, seen: &Tree) -> Option<bool> {
         match &self.state {
             Some(path) => Some(seen.get(path).is_some()),
@@ -78,12 +78,12 @@ impl<R: Files<File = File> + AllocGlobal + Drop> Stations<R> {
         }
     }
 
-    /// What was in the way first.
+    /// The first troubles.
     pub(crate) fn troubles(&self) -> &FirstTroubles {
         &self.troubles
     }
 
-    /// Leaves the folder: all children have ended.
+    /// Leaves the folder, after all children have ended.
     pub(crate) fn leave(self) {
         let Stations {
             runtime,
@@ -110,7 +110,7 @@ impl<R: Files<File = File> + AllocGlobal + Drop> Stations<R> {
 }
 
 impl<R: Files<File = File> + Processes<Started = SystemProcess> + AllocGlobal + Drop> Stations<R> {
-    /// One child, in the folder that was taken for the first one.
+    /// Runs one child, in the folder that was taken for the first one.
     pub(crate) fn answer(
         &mut self,
         words: &[Text],
@@ -124,7 +124,8 @@ impl<R: Files<File = File> + Processes<Started = SystemProcess> + AllocGlobal + 
         };
         let answer = self.answer_in(&taken, words, tree, sees_state);
         if answer.is_err() && !taken.is_marked(&self.runtime) {
-            // The child has taken the mark away, maybe with all that stands beside it. The next one takes a folder anew.
+            // The child has removed the mark, maybe with all that was next to it. The next one takes a folder
+            // again.
             taken.leave(&self.runtime, self.runtime.alloc(), AtEnd::FolderStays);
         } else {
             self.scratch = Some(taken);
@@ -160,7 +161,8 @@ impl<R: Files<File = File> + Processes<Started = SystemProcess> + AllocGlobal + 
         })
     }
 
-    // Starts a child in a folder, and waits for its end. What is written down while it runs that it called goes before how it ended.
+    // Starts a child in a folder, and waits for its end. If a call is recorded while it runs, that is the
+    // fault, however it ended.
     fn ending_in(
         &mut self,
         folder: &str,
@@ -180,7 +182,7 @@ impl<R: Files<File = File> + Processes<Started = SystemProcess> + AllocGlobal + 
         }
     }
 
-    // How many bytes the file has in which calls are written down.
+    // The length of the file in which calls are recorded.
     fn call_bytes(&mut self) -> Result<u64, Stop> {
         let Some(place) = &self.calls else {
             return Ok(0);
@@ -191,7 +193,7 @@ impl<R: Files<File = File> + Processes<Started = SystemProcess> + AllocGlobal + 
     }
 }
 
-// How long the file at a place is. Nothing where none stands there.
+// The length of the file at a place, 0 if none is there.
 fn length_at<R: Files>(files: &R, place: &str) -> io::Result<u64> {
     match fs::metadata(files, place) {
         Ok(found) => Ok(found.len()),

@@ -15,8 +15,8 @@ pub(crate) enum Stop {
 }
 
 impl Stop {
-    /// The stop that an error is at a station: want of memory, whether the allocator refused it or the system, or else
-    /// the station's fault.
+    /// The stop for an error at a station: want of memory, whether the allocator or the system refused it,
+    /// and otherwise the station's fault.
     pub(crate) fn of(error: &io::Error, fault: Fault) -> Stop {
         if is_want_of_memory(error) {
             Stop::OutOfMemory
@@ -32,8 +32,8 @@ impl From<AllocError> for Stop {
     }
 }
 
-/// Whether memory was refused. The C library takes some of its own while it starts a program, so the system's error for
-/// it counts too.
+/// Whether memory was refused. The C library takes some of its own while it starts a program, so the system's
+/// error for it counts too.
 pub(crate) fn is_want_of_memory(error: &io::Error) -> bool {
     error.kind() == ErrorKind::OutOfMemory
 }

@@ -10,7 +10,7 @@ use std::fs;
 use std::fs::Files;
 use std::io::Read;
 
-/// The folder that makes the scratch folder the top of a working tree of Git, to whoever looks for one.
+/// The folder by which the scratch folder looks like the top of a Git working tree.
 pub(crate) const GIT_FOLDER: &str = ".git";
 
 /// A folder that is to hold what a tree says, and nothing else.
@@ -20,15 +20,15 @@ pub(crate) struct Belonging<'a> {
     pub tree: &'a Tree,
     /// The folder's path in the tree, empty for the tree's own.
     pub folder: &'a str,
-    /// Where its names stand, without the slash before each.
+    /// Its place. A slash and a name lead from there to what is in it.
     pub place: &'a str,
-    /// Where the folder stands, as it is told.
+    /// The folder's place, as messages show it.
     pub shown: &'a str,
-    /// What stands there besides.
+    /// What else may be there.
     pub besides: Besides,
 }
 
-/// What stands in a folder besides the files of a tree.
+/// What may be in a folder in addition to the files of a tree.
 #[derive(Clone, Copy, Debug, PartialEq, Eq)]
 pub(crate) enum Besides {
     /// Nothing.
@@ -49,7 +49,7 @@ impl Besides {
     }
 }
 
-/// Takes away what doesn't belong in a folder, whatever its name is.
+/// Removes what doesn't belong in a folder, whatever its name is.
 pub(crate) fn take_strays<R: Files>(
     files: &R,
     alloc: Global,
@@ -71,7 +71,7 @@ pub(crate) fn take_strays<R: Files>(
     Ok(())
 }
 
-// The names end each in a byte 0.
+// Each name ends with a NUL byte.
 fn take_strays_of(
     alloc: Global,
     trash: &mut Trash,
@@ -97,7 +97,7 @@ fn take_stray(
     match trash.take(joined(alloc, wanted.place, name)?.as_slice()) {
         Ok(()) => Ok(()),
         Err(e) => {
-            // A name that is no text is told by its folder.
+            // A name that isn't UTF-8 is shown by its folder alone.
             let name = str::from_utf8(name).unwrap_or("");
             let shown = place_in(alloc, wanted.shown, name)?;
             Err(Trouble::at(alloc, shown.as_str(), e))
@@ -114,7 +114,8 @@ fn joined(alloc: Global, folder: &str, name: &[u8]) -> Result<Vec<u8>, AllocErro
     Ok(place)
 }
 
-/// Removes the trash with all that was moved there. The folders within a folder are moved beside it before it is removed.
+/// Removes the trash with all that was moved there. The folders within a folder are moved next to it before
+/// it is removed.
 pub(crate) fn empty_trash<R: Files>(
     files: &R,
     alloc: Global,

@@ -1,4 +1,4 @@
-//! Where folders go that don't belong in the scratch folder, until they are emptied.
+//! The trash: where folders go that don't belong in the scratch folder, until they are emptied.
 
 use crate::held_folder::last_error;
 use std::alloc::{AllocError, Global};
@@ -9,15 +9,15 @@ use std::{fs, io};
 /// A folder that was moved into the trash.
 #[derive(Debug, Drop)]
 pub(crate) struct MovedFolder {
-    /// Where it stands.
+    /// Its place.
     pub place: String,
-    /// The same, as it is told.
+    /// The same, as messages show it.
     pub shown: String,
 }
 
-/// A new folder in the scratch folder, into which other folders are moved to be emptied one by one. However deep they
-/// lie within one another, and whatever their names, each then has a short path. Its own name begins with a byte that no
-/// path of a tree has.
+/// A new folder in the scratch folder, into which other folders are moved to be emptied one by one. However
+/// deep they were in one another, and whatever their names, each then has a short path. The name of the trash
+/// begins with a byte that no path of a tree has.
 #[derive(Debug, Drop)]
 pub(crate) struct Trash {
     alloc: Global,
@@ -28,7 +28,7 @@ pub(crate) struct Trash {
 }
 
 impl Trash {
-    /// Makes the folder in the one at `place`, which is told as `shown`, under the first name that isn't taken.
+    /// Makes the trash in the folder at `place`, which messages show as `shown`, under the first free name.
     pub(crate) fn make_in<R: Files>(
         files: &R,
         alloc: Global,
@@ -57,17 +57,17 @@ impl Trash {
         }
     }
 
-    /// Where it stands.
+    /// Its place.
     pub(crate) fn place(&self) -> &str {
         self.place.as_str()
     }
 
-    /// Where it stands, as it is told.
+    /// Its place, as messages show it.
     pub(crate) fn shown(&self) -> &str {
         self.shown.as_str()
     }
 
-    /// Its name in the folder that it stands in.
+    /// Its name in its parent folder.
     pub(crate) fn name(&self) -> &[u8] {
         match self.place.as_str().rsplit_once('/') {
             Some((_, name)) => name.as_bytes(),
@@ -75,12 +75,14 @@ impl Trash {
         }
     }
 
-    /// Removes the folder, where nothing was moved into it. Else it stays, and is a stray of the scratch folder.
+    /// Removes the trash, if nothing was moved into it. Otherwise it stays, and is a stray of the scratch
+    /// folder.
     pub(crate) fn leave<R: Files>(&self, files: &R) {
         let _gone = fs::remove_dir(files, self.place());
     }
 
-    /// Takes away what stands at a place: a folder is moved here, anything else is removed. A link is not followed.
+    /// Takes away what is at a place: a folder, for which unlink(2) gives EISDIR on Linux, is moved here, and
+    /// anything else is removed. A link is not followed.
     pub(crate) fn take(&mut self, place: &[u8]) -> io::Result<()> {
         if os::unlink(place) == 0 {
             return Ok(());
@@ -92,7 +94,7 @@ impl Trash {
         }
     }
 
-    // A folder whose owner may not write can't be moved, and can't be emptied.
+    // A folder that its owner may not write can't be moved (rename(2), EACCES), and can't be emptied.
     fn move_here(&mut self, place: &[u8]) -> io::Result<()> {
         let moved = self.numbered(self.place(), self.moved)?;
         succeeded(os::chmod(place, 0o700))?;
@@ -117,7 +119,7 @@ impl Trash {
     }
 }
 
-// Turns C's -1 into the error that it stands for.
+// Turns C's -1 into the error that errno(3) has.
 fn succeeded(status: i32) -> io::Result<()> {
     if status < 0 {
         Err(last_error())

@@ -3,8 +3,8 @@
 use std::alloc::{AllocError, Global};
 use std::io;
 
-/// What is in the way of a child: what keeps its files from being laid or read back, and where, or the word that can't be started; and
-/// the system's error.
+/// What is in the way of a child, with the system's error: the place at which its files can't be laid or read
+/// back, or the word that can't be started.
 #[derive(Debug, Drop)]
 pub struct Trouble {
     place: Option<String>,
@@ -12,7 +12,7 @@ pub struct Trouble {
 }
 
 impl Trouble {
-    /// The place of the file or folder, or the word. Empty where memory was refused for it.
+    /// The place of the file or folder, or the word. Empty if memory was refused for it.
     pub fn place(&self) -> &str {
         match &self.place {
             Some(place) => place.as_str(),
@@ -25,7 +25,7 @@ impl Trouble {
         &self.error
     }
 
-    /// The trouble that an error at this place is.
+    /// The trouble of an error at this place.
     pub(crate) fn at(alloc: Global, place: &str, error: io::Error) -> Trouble {
         Trouble {
             place: String::from_str(alloc, place).ok(),
@@ -49,7 +49,7 @@ impl From<AllocError> for Trouble {
     }
 }
 
-/// A result whose error, if it is one, is the trouble at this place.
+/// Turns the error of a result into the trouble at this place.
 pub(crate) fn at_place<T>(alloc: Global, place: &str, ended: io::Result<T>) -> Result<T, Trouble> {
     match ended {
         Ok(value) => Ok(value),

@@ -1,4 +1,5 @@
--- Lemmas: which answer is found for words and seen files, and what becomes of that after a use, a new answer or a new limit.
+-- Lemmas: which answer is found for words and seen files, and what a use, an added answer or a changed limit
+-- makes of that.
 use Rattle.std.specs.Prelude.{◌≡◌, ◌↔◌, ◌⊎◌, ℕ, zero, suc, ◌<◌, ◌≤◌, not, true, false, List, [], ◌∷◌, length, Option, None, Some, if◌then◌else◌, IsPermutation, refl}
 use Rattle.std.specs.Cmp.Lexicographic.{bytes_decides, pointwise, pointwise_decides}
 use Rattle.std.specs.List.{AllByRecursion, Contains}
@@ -15,13 +16,13 @@ use Rattle.hook_base.specs.SameFiles.{is_same_file}
 use Rattle.repo_store.specs.Answers.{KeptAnswer, HaveOwnKeys, answer_for, have_one_key, is_for}
 use Rattle.repo_store.specs.UsedAnswers.{in_front, in_front_if_any, used, with_answer_within, within_limit, without_key}
 
--- ---- whether an answer is that of words and seen files
+-- ---- whether an answer has these words and seen files
 
 pub is_for_decides : (words : List (List ℕ)) (seen : List File) (answer : KeptAnswer) → (is_for words seen answer ≡ true) ↔ ((answer.words ≡ words) × (answer.seen ≡ seen))
 is_for_decides words seen answer =
     and_decides (pointwise bytes_eq answer.words words) (pointwise is_same_file answer.seen seen) (pointwise_decides bytes_decides answer.words words) (pointwise_decides same_file_decides answer.seen seen)
 
--- an answer is that of its own words and seen files
+-- an answer has its own words and seen files
 pub is_for_itself : (answer : KeptAnswer) → is_for answer.words answer.seen answer ≡ true
 is_for_itself answer = (is_for_decides answer.words answer.seen answer).1 (refl, refl)
 
@@ -31,14 +32,14 @@ one_key a b h = (is_for_decides b.words b.seen a).0 h
 pub own_key : (a b : KeptAnswer) → a.words ≡ b.words → a.seen ≡ b.seen → have_one_key a b ≡ true
 own_key a b words seen = (is_for_decides b.words b.seen a).1 (words, seen)
 
--- two answers to the same have one key
+-- two answers with the same words and seen files have one key
 pub one_key_for : (words : List (List ℕ)) (seen : List File) (a b : KeptAnswer) → is_for words seen a ≡ true → is_for words seen b ≡ true → have_one_key a b ≡ true
 one_key_for words seen a b one other =
     let here = (is_for_decides words seen a).0 one in
     let there = (is_for_decides words seen b).0 other in
     own_key a b (here.0 ∙ sym there.0) (here.1 ∙ sym there.1)
 
--- an answer has another key than one of the same key
+-- if two answers have the same key, an answer of another key than the first has another key than the second
 pub other_key : (a b c : KeptAnswer) → have_one_key a b ≡ true → have_one_key a c ≡ false → have_one_key b c ≡ false
 other_key a b c one apart =
     let same = one_key a b one in
@@ -68,7 +69,7 @@ contains_later : (other answer : KeptAnswer) (answers : List KeptAnswer) → Con
 contains_later other answer answers there = (suc there.0, let within = there.1 in omega arith, there.2)
 
 module _ (words : List (List ℕ)) (seen : List File) where
-  -- the answer that is found is one of them, and is that of the words and the seen files
+  -- the answer that is found is one of them, and has the words and the seen files
   pub found_among : (answer : KeptAnswer) (answers : List KeptAnswer) → answer_for words seen answers ≡ Some answer → Contains answers answer × (is_for words seen answer ≡ true)
   found_among answer [] found = absurd (let never : ◌≡◌ {A = Option KeptAnswer} None (Some answer) = found in cc)
   found_among answer (other ∷ others) found =
@@ -77,7 +78,7 @@ module _ (words : List (List ℕ)) (seen : List File) where
         | false ↦ λ e later. let rest = found_among answer others later in (contains_later other answer others rest.0, rest.1)
       ] refl found
 
-  -- where none is found, none is that of the words and the seen files
+  -- if none is found, none has the words and the seen files
   pub none_among : (answers : List KeptAnswer) → answer_for words seen answers ≡ None → AllByRecursion (λ answer. is_for words seen answer ≡ false) answers
   none_among [] none = tt
   none_among (other ∷ others) none =
@@ -90,7 +91,7 @@ module _ (words : List (List ℕ)) (seen : List File) where
   finds_none [] none = refl
   finds_none (other ∷ others) none = ap (λ b. if b then Some other else answer_for words seen others) none.0 ∙ finds_none others none.1
 
-  -- of answers with keys of their own, the one that is that of the words and the seen files is found
+  -- of answers with keys of their own, the one that has the words and the seen files is found
   pub finds : (answer : KeptAnswer) (answers : List KeptAnswer) → HaveOwnKeys answers → Contains answers answer → is_for words seen answer ≡ true → answer_for words seen answers ≡ Some answer
   finds answer answers own there is = go answers own there.0 there.1 there.2
     where
@@ -115,7 +116,7 @@ module _ (words : List (List ℕ)) (seen : List File) where
         | Some answer ↦ λ e. let it = found_among answer answers e in finds answer others own (Contains-permutation answers others answer moved it.0) it.1
       ] refl
 
-  -- what is remembered for other words or seen files stays
+  -- what is cached for other words or seen files stays
   others_found : (answer : KeptAnswer) (answers : List KeptAnswer) → is_for words seen answer ≡ false → answer_for words seen (without_key answer.words answer.seen answers) ≡ answer_for words seen answers
   others_found answer [] other = refl
   others_found answer (first ∷ rest) other =
@@ -145,7 +146,7 @@ module _ (words : List (List ℕ)) (seen : List File) where
         | false ↦ answer_for_within limit rest
       ]
 
--- a use, be it of this answer or of another, changes nothing of what is found
+-- a use of this answer or of another changes nothing of what is found
 pub answer_for_used : (words : List (List ℕ)) (seen : List File) (used_words : List (List ℕ)) (used_seen : List File) (answers : List KeptAnswer) → answer_for words seen (used used_words used_seen answers) ≡ answer_for words seen answers
 answer_for_used words seen used_words used_seen answers =
     elim (answer_for used_words used_seen answers) as (λ found. answer_for used_words used_seen answers ≡ found → answer_for words seen (in_front_if_any found answers) ≡ answer_for words seen answers) [
@@ -161,16 +162,16 @@ answer_for_used words seen used_words used_seen answers =
           ] refl
     ] refl
 
--- an answer that comes to the front is found
+-- an answer that is brought to the front is found
 pub answer_for_in_front : (answer : KeptAnswer) (answers : List KeptAnswer) → answer_for answer.words answer.seen (in_front answer answers) ≡ Some answer
 answer_for_in_front answer answers = ap (λ b. if b then Some answer else answer_for answer.words answer.seen (without_key answer.words answer.seen answers)) (is_for_itself answer)
 
--- and so is one that is remembered
+-- and so is one that is cached
 pub answer_for_remembered : (limit : ℕ) (answer : KeptAnswer) (answers : List KeptAnswer) → 1 ≤ limit → answer_for answer.words answer.seen (with_answer_within limit answer answers) ≡ Some answer
 answer_for_remembered zero answer answers some = absurd (omega arith)
 answer_for_remembered (suc limit) answer answers some = ap (λ b. if b then Some answer else answer_for answer.words answer.seen (within_limit limit (without_key answer.words answer.seen answers))) (is_for_itself answer)
 
--- ---- what holds of all answers, after a use, a new answer or a new limit
+-- ---- what holds of all answers after a use, an added answer or a changed limit
 
 module _ (P : KeptAnswer → Type 0) where
   pub all_in_front : (answer : KeptAnswer) (answers : List KeptAnswer) → P answer → AllByRecursion P answers → AllByRecursion P (in_front answer answers)
@@ -200,7 +201,7 @@ others_apart answer (other ∷ others) =
       | false ↦ λ e. (other_key_back other answer e, others_apart answer others)
     ] refl
 
--- the keys stay their own
+-- the keys stay distinct
 pub own_keys_in_front : (answer : KeptAnswer) (answers : List KeptAnswer) → HaveOwnKeys answers → HaveOwnKeys (in_front answer answers)
 own_keys_in_front answer answers own = (others_apart answer answers, ascending-filter (λ (a b : KeptAnswer). have_one_key a b ≡ false) (λ (other : KeptAnswer). not (is_for answer.words answer.seen other)) answers own)
 
@@ -215,7 +216,7 @@ own_keys_within (suc limit) (answer ∷ answers) own = (all_within (λ (other : 
 pub own_keys_with : (limit : ℕ) (answer : KeptAnswer) (answers : List KeptAnswer) → HaveOwnKeys answers → HaveOwnKeys (with_answer_within limit answer answers)
 own_keys_with limit answer answers own = own_keys_within limit (in_front answer answers) (own_keys_in_front answer answers own)
 
--- no more are left than the limit says
+-- no more are left than the limit
 pub few_within : (limit : ℕ) (answers : List KeptAnswer) → length (within_limit limit answers) ≤ limit
 few_within zero answers = omega arith
 few_within (suc limit) [] = omega arith

@@ -1,4 +1,4 @@
--- What is remembered of the answers of children.
+-- The cached answers of children (docs/REFERENCE.md, "Cached results").
 use Rattle.std.specs.Prelude.{◌≡◌, ℕ, Bool, false, ◌&&◌, List, [], ◌∷◌, Option, None, Some, if◌then◌else◌, refl}
 use Rattle.std.specs.Cmp.Lexicographic.{pointwise}
 use Rattle.std.specs.Coded.{Coded, code_by, coded×, coded_ℕ, coded_list}
@@ -10,8 +10,8 @@ use Rattle.hook_base.specs.SameFiles.{is_same_file}
 use Rattle.hook_base.specs.contracts.file.File as file
 use Rattle.hook_base.specs.contracts.change.Change as change
 
--- An answer: what a child was given (the words of its command, and the files that it saw) and what it did (what it wrote, what
--- became of its files, and its exit code), with whole contents.
+-- An answer, with whole contents. A child was given the words of its command and the files that it saw. What
+-- it did is its output, its changes, and its exit code.
 pub record KeptAnswer : Type 0 where
   pub words : List (List ℕ)
   pub seen : List File
@@ -21,24 +21,24 @@ pub record KeptAnswer : Type 0 where
 
 -- ---- its key
 
--- the answer is that of these words and these seen files, with their modes and bytes
+-- the answer has these words and these seen files, with their modes and bytes
 abbrev pub is_for : List (List ℕ) → List File → KeptAnswer → Bool
 is_for words seen answer = pointwise bytes_eq answer.words words && pointwise is_same_file answer.seen seen
 
--- an answer's key is the words of its command and the files that it saw
+-- an answer's key is the words of its command and the files that its child saw
 abbrev pub have_one_key : KeptAnswer → KeptAnswer → Bool
 have_one_key a b = is_for b.words b.seen a
 
--- no two have one key
+-- no two have the same key
 abbrev pub HaveOwnKeys : List KeptAnswer → Type 0
 HaveOwnKeys = IsAscending (λ a b. have_one_key a b ≡ false)
 
--- what is remembered for the words and the seen files
+-- the answer that is cached for the words and the seen files
 abbrev pub answer_for : List (List ℕ) → List File → List KeptAnswer → Option KeptAnswer
 answer_for words seen [] = None
 answer_for words seen (answer ∷ answers) = if is_for words seen answer then Some answer else answer_for words seen answers
 
--- ---- how it is told apart
+-- ---- its code, made of those of its parts
 
 abbrev pub answer_code : Coded KeptAnswer
 answer_code =

@@ -1,4 +1,5 @@
--- What a store holds: a repository, and the remembered answers as a list with a limit, the most recently used first.
+-- What a store holds: a repository, and the cached answers as a list with a limit, the most recently used
+-- first (docs/REFERENCE.md, "The store").
 use Rattle.std.specs.Prelude.{◌≡◌, ◌⊎◌, ℕ, ◌+◌, ◌≤◌, ℤ, pos, List, [], ◌∷◌, length, map, IsPermutation}
 use Rattle.std.specs.List.{AllByRecursion}
 use Rattle.std.specs.Ordering.{match_ordering}
@@ -21,7 +22,8 @@ use Rattle.repo_store.specs.Rows.{first_tables_of, limit_row, tables_of, version
 use Rattle.repo_store.specs.UsedAnswers.{within_limit}
 use Rattle.repo_store.specs.UsesOf.{AreUsesOf, greatest_tick}
 
--- The database has these rows, and its uses tell these answers in their order. The next use gets the tick `next`.
+-- The database has these rows, and its uses give the answers in this order. The next use gets the tick
+-- `next`.
 pub record HoldsListed (next : ℕ) (answers : List KeptAnswer) (db : Database) (t : Tables) : Type 0 where
   pub rows : List UseRow
   pub holds : HoldsRows db t rows
@@ -31,7 +33,7 @@ pub record HoldsListed (next : ℕ) (answers : List KeptAnswer) (db : Database) 
 abbrev pub HoldsNext : ℕ → Database → Kept → Type 0
 HoldsNext next db kept = HoldsListed next kept.answers db (tables_of kept)
 
--- The same with some next tick, which is past the greatest at most.
+-- The same with some next tick, which is at most one past the greatest.
 pub record HoldsStore (db : Database) (kept : Kept) : Type 0 where
   pub next : ℕ
   pub first : 1 ≤ next
@@ -40,7 +42,8 @@ pub record HoldsStore (db : Database) (kept : Kept) : Type 0 where
 
 -- ---- the rules that its rows obey
 
--- The rows of `meta`, in whatever order, say that the store is of version 2, and nothing else but, perhaps, its limit.
+-- The rows of `meta`, in any order, say that the store is of version 2, and nothing else except perhaps its
+-- limit.
 abbrev pub AreVersionRows : List MetaRow → Type 0
 AreVersionRows rows = IsPermutation rows (version_row ∷ []) ⊎ ((limit : ℤ) × IsPermutation rows (version_row ∷ limit_row limit ∷ []))
 
@@ -56,33 +59,33 @@ key_of_answer row = (row.words, row.seen)
 abbrev pub key_of_use : UseRow → Key
 key_of_use row = (row.words, row.seen)
 
--- The rows, and those of the uses, are those of a store.
+-- The rows, with those of the uses, are those of a store.
 pub record AreBoundedRows (t : Tables) (rows : List UseRow) : Type 0 where
   pub store : AreStoreRows t
-  -- there is a limit, within its bounds
+  -- there is a limit within its range
   pub limit : ℕ
   pub limited : IsPermutation t.meta (version_row ∷ limit_row (pos limit) ∷ [])
   pub within : IsLimit limit
-  -- there are no more answers
+  -- there are no more answers than the limit
   pub few : length t.answers ≤ limit
   -- each answer has a use, and each use an answer
   pub keys : IsPermutation (map key_of_use rows) (map key_of_answer t.answers)
-  -- each tick is within its bounds; that no two are equal is a rule of the table
+  -- each tick is in its range; that no two are equal is a rule of the table
   pub ticks : AllByRecursion (λ (row : UseRow). IsTick row.tick) rows
 
--- ---- what becomes of a store of version 1
+-- ---- what becomes of a store of version 1 (docs/REFERENCE.md, "A store of version 1")
 
 abbrev pub key_cmp : Key → Key → Ordering
 key_cmp a b = match_ordering (path_cmp a.0 b.0) Less (path_cmp a.1 b.1) Greater
 
--- Of its answers, the greatest keys come first, and no more than a new store may have.
+-- Of the answers those with the greatest keys come first, and no more are left than a new store may have.
 pub record IsMigrated (answers migrated : List KeptAnswer) : Type 0 where
   pub all : List KeptAnswer
   pub moved : IsPermutation answers all
   pub fall : IsAscending (λ a b. key_cmp (key_of b) (key_of a) ≡ Less) all
   pub first : migrated ≡ within_limit first_limit all
 
--- The database is a store of version 1, which becomes one that keeps this once it is migrated.
+-- The database is a store of version 1, and migrating it makes one that keeps this.
 pub record IsTakenOver (db : Database) (kept : Kept) : Type 0 where
   pub first : Kept
   pub holds : Holds db (first_tables_of first)

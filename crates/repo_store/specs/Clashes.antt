@@ -1,4 +1,4 @@
--- Which paths can't stand beside a path: what is a file is no folder.
+-- Which paths clash with a path: no file can be a folder too (docs/REFERENCE.md, "Refusals", `15 Clash`).
 use Rattle.std.specs.Prelude.{◌≡◌, ◌⊎◌, ℕ, List, ◌∷◌, ◌++◌}
 use Rattle.std.specs.List.{Any}
 use Rattle.hook_base.specs.declared.file.File.{File}
@@ -7,7 +7,7 @@ use Rattle.hook_base.specs.declared.file.File.{File}
 abbrev pub slash : ℕ
 slash = 47
 
--- the path is that of the folder, a slash and more
+-- the path is that of the folder, followed by a slash and more
 pub record IsFolderOf (folder path : List ℕ) : Type 0 where
   pub more : List ℕ
   pub is : path ≡ folder ++ slash ∷ more

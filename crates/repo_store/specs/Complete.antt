@@ -24,7 +24,8 @@ HaveContents contents files = AllByRecursion (λ (file : File). IsAmong contents
 abbrev pub HaveNewContents : List (List ℕ) → List Change → Type 0
 HaveNewContents contents changes = AllByRecursion (λ (change : Change). MatchOption change.now (Unit {0}) (IsAmong contents)) changes
 
--- what is written down of an answer, what it wrote, and the bytes of each file that it saw or changed are among the contents
+-- the records of an answer, its output, and the bytes of each file that its child saw or changed are among
+-- the contents
 pub record HasRecords (contents : List (List ℕ)) (answer : KeptAnswer) : Type 0 where
   pub words : IsAmong contents (written_words answer)
   pub seen : IsAmong contents (written_seen answer)
@@ -36,12 +37,13 @@ pub record HasRecords (contents : List (List ℕ)) (answer : KeptAnswer) : Type 
 abbrev pub HaveRecords : List (List ℕ) → List KeptAnswer → Type 0
 HaveRecords contents answers = AllByRecursion (HasRecords contents) answers
 
--- no two of the contents stand under one digest
+-- no two of the contents have the same digest
 abbrev pub HaveDistinctDigests : List (List ℕ) → Type 0
 HaveDistinctDigests contents = (i j : ℕ) → i < length contents → j < length contents → sha256 (slice_index_or contents i []) ≡ sha256 (slice_index_or contents j []) → i ≡ j
 
--- The repository and each answer are sound, the contents of each file and fix and of each answer are kept, under a digest of
--- their own, no two answers have one key, and there are no more of them than the limit says.
+-- The repository and each answer are sound. The contents of each file, of each fix and of each answer are
+-- kept, under digests of which no two are equal. No two answers have the same key, and there are no more of
+-- them than the limit.
 pub record IsComplete (kept : Kept) : Type 0 where
   pub sound : IsSound kept.repo
   pub staged : HaveContents kept.contents kept.repo.staged

@@ -1,11 +1,11 @@
--- Contents that are kept once each, and which of them stand under a digest.
+-- Contents that are kept once each, and which of them have a digest.
 use Rattle.std.specs.Prelude.{◌≡◌, ◌≢◌, ℕ, ◌<◌, Bool, List, [], ◌∷◌, ◌++◌, if◌then◌else◌, length, slice_index_or, Some, Option, None}
 use Rattle.std.specs.List.{list_any}
 use Rattle.std.specs.Str.{bytes_eq}
 use Rattle.hook_base.specs.declared.change.Change.{Change}
 use Rattle.sha2.specs.Sha256.{sha256}
 
--- some of the contents stand under the digest
+-- some of the contents have the digest
 abbrev pub has_digest : List ℕ → List (List ℕ) → Bool
 has_digest digest contents = list_any (λ bytes. bytes_eq digest (sha256 bytes)) contents
 
@@ -25,7 +25,7 @@ abbrev pub with_changes : List Change → List (List ℕ) → List (List ℕ)
 with_changes [] contents = contents
 with_changes (change ∷ changes) contents = with_changes changes (with_new change.now contents)
 
--- other bytes of these contents stand under the digest
+-- others of these contents have the digest of the bytes
 pub record Collides (bytes : List ℕ) (contents : List (List ℕ)) : Type 0 where
   pub at : ℕ
   pub within : at < length contents

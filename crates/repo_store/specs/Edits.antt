@@ -1,4 +1,5 @@
--- Several changes of the staged files that are asked for together: what they come to, and why one is refused.
+-- Several changes of the staged files that are requested together: their result, and why one is refused
+-- (docs/REFERENCE.md, "The store").
 use Rattle.std.specs.Prelude.{◌≡◌, ℕ, List, [], ◌∷◌, take, slice_get, Option, None, Some, IsSome, option_map, unwrap_or}
 use Rattle.hook_base.specs.declared.file.File.{File}
 use Rattle.hook_base.specs.declared.file.FileEntry.{FileEntry}
@@ -21,12 +22,12 @@ use Rattle.repo_store.specs.Kept.{Kept, staging, unstaging}
 use Rattle.store_faults.specs.Limits.{Fits, IsSmall}
 use Rattle.repo_store.specs.RowRules.{IsPathText}
 
--- the fault that a fault of a path is: want of memory is the store's
+-- the fault for a fault of a path: lack of memory is the store's
 abbrev pub of_path : PathFault → StagingFault
 of_path path.OutOfMemory = Store OutOfMemory
 of_path fault = BadPath fault
 
--- the mode that is asked for, else that of the file that is staged at the path, else plain
+-- the requested mode, otherwise that of the staged file at the path, otherwise plain
 abbrev pub mode_to_stage : Option Mode → Option FileEntry → Mode
 mode_to_stage asked staged = unwrap_or asked (unwrap_or (option_map (λ (entry : FileEntry). entry.mode) staged) Plain)
 
@@ -37,9 +38,9 @@ entry_to_stage path bytes asked staged = record { mode = mode_to_stage asked (en
 abbrev pub tree_to_stage : List ℕ → List ℕ → Option Mode → List File → List File
 tree_to_stage path bytes asked staged = put_file path (entry_to_stage path bytes asked staged) staged
 
--- ---- what they come to
+-- ---- their result
 
--- a file is staged, or a path is staged no more
+-- a file is staged, or a path is removed from the staged files
 abbrev pub edited : StagingEdit → Kept → Kept
 edited (Add path bytes asked) kept = staging path (entry_to_stage path bytes asked kept.repo.staged) kept
 edited (Remove path) kept = unstaging path kept
@@ -51,7 +52,7 @@ all_edited (edit ∷ edits) kept = all_edited edits (edited edit kept)
 
 -- ---- when they are made
 
--- a file that may be staged
+-- a file that can be staged
 pub record IsStageable (path bytes : List ℕ) (asked : Option Mode) (kept : Kept) : Type 0 where
   pub legal : IsPathText path
   pub small : IsSmall bytes
@@ -59,7 +60,7 @@ pub record IsStageable (path bytes : List ℕ) (asked : Option Mode) (kept : Kep
   pub fits : Fits (tree_to_stage path bytes asked kept.repo.staged)
   pub apart : ¬ Collides bytes kept.contents
 
--- a path that may be taken out
+-- a path that can be removed
 pub record IsTakeable (path : List ℕ) (kept : Kept) : Type 0 where
   pub legal : path_fault path ≡ None
   pub staged : IsSome (entry_of path kept.repo.staged)
@@ -68,15 +69,16 @@ abbrev pub IsEditable : StagingEdit → Kept → Type 0
 IsEditable (Add path bytes asked) kept = IsStageable path bytes asked kept
 IsEditable (Remove path) kept = IsTakeable path kept
 
--- each may be made, of what those before it left
+-- each can be made, after those before it
 abbrev pub AreEditable : List StagingEdit → Kept → Type 0
 AreEditable [] kept = Unit {0}
 AreEditable (edit ∷ edits) kept = IsEditable edit kept × AreEditable edits (edited edit kept)
 
 -- ---- when they are refused
 
--- Why a file isn't staged, in this order: its path is no path, it has too many bytes, its path and a staged one clash, the staged
--- files with it break a limit, its contents collide with others. Want of memory comes after a fault of the path.
+-- Why a file isn't staged, in this order: no valid path, too many bytes, a clash with a staged path, a staged
+-- tree over a limit, or a collision of its contents with others. Lack of memory comes after a fault of the
+-- path.
 abbrev pub IsAddFault : List ℕ → List ℕ → Option Mode → Kept → StagingFault → Type 0
 IsAddFault path bytes asked kept (BadPath fault) = path_fault path ≡ Some fault
 IsAddFault path bytes asked kept NotStaged = ⊥
@@ -87,7 +89,7 @@ IsAddFault path bytes asked kept (Store fault) =
     × IsRefusal (¬ IsSmall bytes) (IsSmall bytes × (¬ Clashes path kept.repo.staged) × (¬ Fits (tree_to_stage path bytes asked kept.repo.staged)))
     (IsSmall bytes × (¬ Clashes path kept.repo.staged) × Fits (tree_to_stage path bytes asked kept.repo.staged) × Collides bytes kept.contents) fault
 
--- why a path isn't taken out, in this order: it is no path, it isn't staged
+-- why a path isn't removed, in this order: it is no valid path, it isn't staged
 abbrev pub IsRemoveFault : List ℕ → Kept → StagingFault → Type 0
 IsRemoveFault path kept (BadPath fault) = path_fault path ≡ Some fault
 IsRemoveFault path kept NotStaged = (path_fault path ≡ None) × (¬ IsSome (entry_of path kept.repo.staged))
@@ -106,7 +108,7 @@ pub record IsRefusedAt (edits : List StagingEdit) (kept : Kept) (fault : Staging
   pub is : slice_get edits at ≡ Some edit
   pub why : IsEditFault edit (all_edited (take at edits) kept) fault
 
--- All are refused together: all could be made, and the database refuses, or memory does.
+-- All are refused together: either all could be made and the database refuses, or memory is refused.
 abbrev pub IsRefusedTogether : List StagingEdit → Kept → StagingFault → Type 0
 IsRefusedTogether edits kept (Store (Sql error)) = AreEditable edits kept
 IsRefusedTogether edits kept (Store OutOfMemory) = Unit {0}

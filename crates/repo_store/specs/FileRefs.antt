@@ -1,4 +1,4 @@
--- The file that is shown by reference.
+-- A file that is shown by reference.
 use Rattle.hook_base.specs.declared.file.File.{File}
 use Rattle.repo_store.specs.declared.file_ref.FileRef.{FileRef}
 

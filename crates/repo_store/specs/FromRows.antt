@@ -1,5 +1,5 @@
--- Serves private functions only, those of the modules `from_rows` and `table_rows`: the rows that were read, as tables, and
--- what the files that are added to commits make of them.
+-- For private functions of the modules `from_rows` and `table_rows`: the rows that were read, as tables, and
+-- what added files make of the commits.
 use Rattle.std.specs.Prelude.{◌≡◌, ◌≤◌, ℕ, zero, suc, ℤ, pos, negsuc, true, List, [], ◌∷◌, ◌++◌, length, map, Option, None, Some, IsPermutation}
 use Rattle.std.specs.declared.cmp.Ordering.TheVariants.{Less}
 use Rattle.std.specs.List.{AllByRecursion}
@@ -25,7 +25,7 @@ use Rattle.repo_store.specs.Index.{key_of}
 use Rattle.store_faults.specs.Limits.{IsLimit}
 use Rattle.repo_store.specs.RowRules.{AreStoreRows}
 
--- the tables of a store with these rows, of which `meta` says this
+-- the tables of a store with these rows and these of `meta`
 abbrev pub rows_in : List MetaRow → StoreRows → Tables
 rows_in meta rows = record {
   meta = meta;
@@ -37,7 +37,7 @@ rows_in meta rows = record {
   answers = rows.answers.items;
 }
 
--- all that a database with these tables holds in its trees but its `meta`
+-- all that a database with these tables has in its trees, except `meta`
 pub record AreShown (rows : StoreRows) (trees : Trees) : Type 0 where
   pub blobs : Stored blob_cells (1 ∷ 2 ∷ []) rows.blobs.items (trees 2)
   pub staged : Stored staged_cells (1 ∷ 2 ∷ 3 ∷ []) rows.staged.items (trees 4)
@@ -49,13 +49,13 @@ pub record AreShown (rows : StoreRows) (trees : Trees) : Type 0 where
   pub answers : Stored answer_cells (1 ∷ 2 ∷ 3 ∷ 4 ∷ 5 ∷ []) rows.answers.items (trees 11)
   pub answers_keyed : AreKeyed (trees 11)
 
--- all that it holds in them, with its `meta`
+-- all that it has in them, with `meta`
 pub record AreTablesShown (rows : TableRows) (trees : Trees) : Type 0 where
   pub meta : Stored meta_cells (1 ∷ 2 ∷ []) rows.meta.items (trees 0)
   pub meta_keyed : AreKeyed (trees 0)
   pub store : AreShown rows.store trees
 
--- the tables of what is kept, of which `meta` says this
+-- the tables of what is kept, with these rows of `meta`
 abbrev pub tables_with : List MetaRow → Kept → Tables
 tables_with meta kept = record (tables_of kept) { meta = meta }
 
@@ -63,7 +63,7 @@ tables_with meta kept = record (tables_of kept) { meta = meta }
 abbrev pub AreBare : List Commit → Type 0
 AreBare = AllByRecursion (λ (commit : Commit). commit.tree ≡ [])
 
--- the commits with a file more, the last of the commit at this place
+-- the commits with one file more, as the last of the commit at this index
 abbrev pub with_file : ℕ → File → List Commit → List Commit
 with_file place file [] = []
 with_file zero file (commit ∷ more) = record commit { tree = commit.tree ++ file ∷ [] } ∷ more
@@ -75,7 +75,7 @@ pub record AreEntered (old new : List Commit) (rows : List EntryRow) : Type 0 wh
   pub entries : IsPermutation (entry_rows 1 new) rows
   pub rising : AllByRecursion (λ (commit : Commit). IsRising commit.tree) new
 
--- the same rows in each table, in whatever order
+-- the same rows in each table, in any order
 pub record IsSame (t u : Tables) : Type 0 where
   pub meta : IsPermutation t.meta u.meta
   pub blobs : IsPermutation t.blobs u.blobs
@@ -87,18 +87,18 @@ pub record IsSame (t u : Tables) : Type 0 where
 
 -- ---- the limit, and the uses
 
--- The rows of `meta` tell a limit within its bounds.
+-- The rows of `meta` give a limit within its range.
 pub record HasLimit (rows : List MetaRow) : Type 0 where
   pub limit : ℕ
   pub limited : IsPermutation rows (version_row ∷ limit_row (pos limit) ∷ [])
   pub within : IsLimit limit
 
--- Each use has an answer, and each answer a use, with a tick within its bounds.
+-- Each use has an answer, and each answer a use, with a tick in its range.
 pub record AreUsesFor (rows : List UseRow) (answers : List KeptAnswer) : Type 0 where
   pub keys : IsPermutation (map key_of_use rows) (map key_of answers)
   pub ticks : AllByRecursion (λ (row : UseRow). IsTick row.tick) rows
 
--- the tick that a number is, and 0 for one below
+-- the tick of a number, and 0 for a negative one
 abbrev pub tick_in : ℤ → ℕ
 tick_in (pos n) = n
 tick_in (negsuc n) = 0
@@ -106,11 +106,11 @@ tick_in (negsuc n) = 0
 abbrev pub tick_of : UseRow → ℕ
 tick_of row = tick_in row.tick
 
--- no number is below 0
+-- no tick is negative
 abbrev pub HaveTicks : List UseRow → Type 0
 HaveTicks rows = AllByRecursion (λ (row : UseRow). row.tick ≡ pos (tick_of row)) rows
 
--- There are no more answers than before, and where there are as many, they are the same in some order.
+-- There are no more answers than before. If there are as many, they are the same in some order.
 pub record AreMoved (old new : List KeptAnswer) : Type 0 where
   pub fewer : length new ≤ length old
   pub moved : length new ≡ length old → IsPermutation new old
@@ -128,15 +128,15 @@ FollowsKey (Some last) row = IsKeyBelow last row
 
 -- ---- which rows are refused
 
--- The rows, but for `meta`, are those of a store with such a limit.
+-- The rows, except those of `meta`, are those of a store with this limit.
 pub record AreRowsWithin (limit : ℕ) (rows : StoreRows) (uses : List UseRow) : Type 0 where
   pub store : AreStoreRows (rows_in [] rows)
   pub few : length rows.answers.items ≤ limit
   pub keys : IsPermutation (map key_of_use uses) (map key_of_answer rows.answers.items)
   pub ticks : AllByRecursion (λ (row : UseRow). IsTick row.tick) uses
 
--- A refusal of rows: as `NotAStore` only where they aren't of the version, and as `Damaged` only where they are and break a rule.
--- Nothing is said of when memory or the database refuses.
+-- A refusal of rows. It is `NotAStore` only if they aren't of the version, and `Damaged` only if they are and
+-- break a rule. Nothing is said about when memory or the database refuses.
 abbrev pub AreRefused : Type 0 → Type 0 → StoreFault → Type 0
 AreRefused versioned obeys NotAStore = ¬ versioned
 AreRefused versioned obeys Damaged = versioned × (¬ obeys)

@@ -1,4 +1,4 @@
--- A repository, the contents that are kept for it, and the answers of children that are remembered.
+-- A repository, the contents that are kept for it, and the cached answers of children.
 use Rattle.std.specs.Prelude.{◌≡◌, ℕ, Bool, List, [], Some, MatchOption, slice_get, take, refl}
 use Rattle.std.specs.List.{Any}
 use Rattle.std.specs.Coded.{Coded, code_by, coded×, coded_ℕ, coded_bool, coded_list}
@@ -15,11 +15,11 @@ use Rattle.repo_store.specs.Repository.{Commit, Repository, empty, with_staged, 
 
 pub record Kept : Type 0 where
   pub repo : Repository
-  -- as they came, the oldest first; the tables don't tell this order
+  -- in the order in which they came, the oldest first; the tables don't give this order
   pub contents : List (List ℕ)
   -- the most recently used first
   pub answers : List KeptAnswer
-  -- how many answers are remembered at most
+  -- how many answers are cached at most
   pub limit : ℕ
 
 -- what an empty store keeps
@@ -32,7 +32,7 @@ nothing_kept = record { repo = empty; contents = []; answers = []; limit = first
 abbrev pub staging : List ℕ → FileEntry → Kept → Kept
 staging path entry kept = record kept { repo = with_staged path entry kept.repo; contents = with_content entry.bytes kept.contents }
 
--- a path is staged no more
+-- a path is removed from the staged files
 abbrev pub unstaging : List ℕ → Kept → Kept
 unstaging path kept = record kept { repo = without_staged path kept.repo }
 
@@ -40,7 +40,7 @@ unstaging path kept = record kept { repo = without_staged path kept.repo }
 abbrev pub keeping : List ℕ → Kept → Kept
 keeping bytes kept = record kept { contents = with_content bytes kept.contents }
 
--- one commit more, of the staged files
+-- one more commit, of the staged files
 abbrev pub committing : List ℕ → Kept → Kept
 committing message kept = record kept { repo = with_new_commit message kept.repo }
 
@@ -52,15 +52,16 @@ setting changes kept = record kept { repo = with_fixes changes kept.repo; conten
 abbrev pub accepting : Kept → Kept
 accepting kept = record kept { repo = accepted kept.repo }
 
--- the answers are forgotten; the contents stay
+-- all cached answers are removed; the contents stay
 abbrev pub forgetting : Kept → Kept
 forgetting kept = record kept { answers = [] }
 
--- the answer to the words and the seen files is used, where there is one
+-- the answer to the words and the seen files is used, if there is one
 abbrev pub using : List (List ℕ) → List File → Kept → Kept
 using words seen kept = record kept { answers = used words seen kept.answers }
 
--- so many answers are remembered at most; those that were used least lately go
+-- the limit on cached answers is set, and the least recently used are removed if there are more; the contents
+-- stay
 abbrev pub limiting : ℕ → Kept → Kept
 limiting limit kept = record kept { answers = within_limit limit kept.answers; limit = limit }
 
@@ -75,7 +76,7 @@ pub record FixCollides (fixes : List Change) (contents : List (List ℕ)) : Type
   pub is : slice_get fixes at ≡ Some change
   pub collides : MatchOption change.now ⊥ (λ bytes. Collides bytes (with_changes (take at fixes) contents))
 
--- ---- how it is told apart
+-- ---- their codes, made of those of their parts
 
 abbrev pub commit_code : Coded Commit
 commit_code = code_by (List ℕ × List File) (coded× (coded_list coded_ℕ) (coded_list file.the_row.coded)) (λ c. (c.message, c.tree)) (λ p. record { message = p.0; tree = p.1 }) (λ _. refl)
@@ -90,8 +91,8 @@ kept_code =
     code_by (Repository × (List (List ℕ) × (List KeptAnswer × ℕ))) (coded× repository_code (coded× (coded_list (coded_list coded_ℕ)) (coded× (coded_list answer_code) coded_ℕ))) (λ k. (k.repo, (k.contents, (k.answers, k.limit))))
     (λ p. record { repo = p.0; contents = p.1.0; answers = p.1.1.0; limit = p.1.1.1 }) (λ _. refl)
 
--- What is kept, whether the lists in memory have room for one more staged file and one more commit, and the tick that the next use
--- of an answer had when they were read.
+-- What is kept, and whether the lists in memory have room for one more staged file and one more commit.
+-- `next` is the tick that the next use of an answer had when the lists were read.
 pub record Mirror : Type 0 where
   pub kept : Kept
   pub has_room : Bool

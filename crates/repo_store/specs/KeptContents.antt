@@ -1,5 +1,5 @@
--- Serves private functions only, those of the modules `answer_contents` and `answer_search`: contents that are kept one after
--- another, and contents that are looked for.
+-- For private functions of the modules `answer_contents` and `answer_search`: contents that are kept one
+-- after another, and contents that are looked up.
 use Rattle.std.specs.Prelude.{◌≡◌, ℕ, true, List, length, take}
 use Rattle.std.specs.List.{AllByRecursion}
 use Rattle.sha2.specs.Sha256.{sha256}
@@ -18,31 +18,31 @@ pub record AreAllKept (all old new : List (List ℕ)) : Type 0 where
   pub small : AreSmall all
   pub apart : ¬ SomeCollides all old
 
--- some of these were kept, behind those that were, until one was refused
+-- some of these were kept, after those that were there, until one was refused
 pub record IsStopped (all old new : List (List ℕ)) (fault : StoreFault) : Type 0 where
   pub front : take (length old) new ≡ old
   pub why : IsRefusal (¬ AreSmall all) ⊥ (SomeCollides all old) fault
 
--- the bytes may be a record, and are kept
+-- the bytes can be a record, and are kept
 pub record IsKnownRecord (contents : List (List ℕ)) (bytes : List ℕ) : Type 0 where
   pub storable : IsStorable bytes
   pub among : IsAmong contents bytes
 
--- so may that of the files, whose contents are kept too
+-- so can and is the record of the files, and their contents are kept too
 pub record AreKnownFiles (contents : List (List ℕ)) (files : List File) : Type 0 where
   pub record_known : IsKnownRecord contents (seen_record (seen_of_files files))
   pub contents_known : HaveContents contents files
 
--- the bytes may be a record, and some contents stand under their digest
+-- the bytes can be a record, and some contents have their digest
 pub record IsPlacedRecord (contents : List (List ℕ)) (bytes : List ℕ) : Type 0 where
   pub storable : IsStorable bytes
   pub placed : has_digest (sha256 bytes) contents ≡ true
 
--- some contents stand under the digest of each file's
+-- some contents have the digest of each file's contents
 abbrev pub HavePlaces : List (List ℕ) → List File → Type 0
 HavePlaces contents files = AllByRecursion (λ (file : File). has_digest (sha256 file.entry.bytes) contents ≡ true) files
 
--- so may that of the files, and some stand under the digest of each file's contents too
+-- so can and has the record of the files, and some contents have the digest of each file's contents too
 pub record ArePlacedFiles (contents : List (List ℕ)) (files : List File) : Type 0 where
   pub record_placed : IsPlacedRecord contents (seen_record (seen_of_files files))
   pub contents_placed : HavePlaces contents files

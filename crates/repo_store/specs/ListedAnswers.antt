@@ -1,5 +1,5 @@
--- Serves private functions only, those of the modules `answer_list`, `lists`, `from_rows`, `opening` and `take_over`: the answers in
--- memory, the most recently used first.
+-- For private functions of the modules `answer_list`, `lists`, `from_rows`, `opening` and `take_over`: the
+-- answers in memory, the most recently used first.
 use Rattle.std.specs.Prelude.{◌≡◌, ℕ, ◌+◌, ◌-◌, ◌^◌, ◌≤◌, Bool, not, List, [], ◌∷◌, filter, length, map, slice_get, Option, None, Some, if◌then◌else◌, option_map, refl}
 use Rattle.std.specs.Coded.{Coded, code_by, coded×, coded_ℕ, coded_list}
 use Rattle.std.specs.Map.{values_of}
@@ -19,7 +19,7 @@ pub record ListedAnswers : Type 0 where
 abbrev pub listed_answers_code : Coded ListedAnswers
 listed_answers_code = code_by (List KeptAnswer × (ℕ × ℕ)) (coded× (coded_list answer_code) (coded× coded_ℕ coded_ℕ)) (λ l. (l.answers, (l.limit, l.next))) (λ p. record { answers = p.0; limit = p.1.0; next = p.1.1 }) (λ _. refl)
 
--- a use may get this tick, or there is none left
+-- a use can get this tick, or no tick is left
 pub record IsNextTick (next : ℕ) : Type 0 where
   pub first : 1 ≤ next
   pub last : next ≤ greatest_tick + 1
@@ -38,7 +38,7 @@ of_key key (answer ∷ answers) = if has_key key answer then Some answer else of
 abbrev pub of_other_keys : Key → List KeptAnswer → List KeptAnswer
 of_other_keys key answers = filter (λ answer. not (has_key key answer)) answers
 
--- the answer of the key in front of the others, or all as they are where there is none
+-- the answer of the key in front of the others, or all unchanged if there is none
 abbrev pub brought : Key → List KeptAnswer → List KeptAnswer
 brought key answers = option_map_or (λ answer. answer ∷ of_other_keys key answers) (of_key key answers) answers
 
@@ -48,7 +48,7 @@ first_key answers = option_map key_of (slice_get answers 0)
 abbrev pub last_key : List KeptAnswer → Option Key
 last_key answers = option_map key_of (slice_get answers (length answers - 1))
 
--- there is an answer to the words and the seen files, and this is its key
+-- there is an answer with the words and the seen files, and this is its key
 abbrev pub HaveAnswer : List (List ℕ) → List File → List KeptAnswer → Key → Type 0
 HaveAnswer words seen answers key = (answer : KeptAnswer) × ((answer_for words seen answers ≡ Some answer) × (key_of answer ≡ key))
 

@@ -1,5 +1,5 @@
--- Serves private functions only, those of the modules `lists`, `files`, `look_ups`, `clashes`, `differences`,
--- `fixed_files` and `trees` and of the transactions: what the lists in memory stand for.
+-- For private functions of the modules `lists`, `files`, `look_ups`, `clashes`, `differences`, `fixed_files`
+-- and `trees`, and of the transactions: what the lists in memory mean.
 use Rattle.std.specs.Prelude.{◌≡◌, ℕ, List, map}
 use Rattle.hook_base.specs.declared.file.File.{File}
 use Rattle.hook_base.specs.declared.file.FileEntry.{FileEntry}
@@ -26,7 +26,7 @@ commit_of shared = record { message = shared.message; tree = map file_of shared.
 abbrev pub repository_of : List SharedCommit → List FileParts → List SharedFix → Repository
 repository_of history staged fixes = record { history = map commit_of history; staged = map file_of staged; fixes = map fix_of fixes }
 
--- the lists are those of a sound repository, and the paths of the staged files have so many bytes together
+-- the lists are those of a sound repository, and the paths of the staged files have this many bytes together
 pub record AreKept (history : List SharedCommit) (staged : List FileParts) (fixes : List SharedFix) (staged_bytes : ℕ) : Type 0 where
   pub sound : IsSound (repository_of history staged fixes)
   pub counted : staged_bytes ≡ path_bytes (map file_of staged)

@@ -1,4 +1,4 @@
--- What a store makes of an answer that it is to remember.
+-- What a store makes of an answer that it is to cache.
 use Rattle.std.specs.Prelude.{◌≡◌, ◌⊎◌, ℕ, true, List, [], ◌∷◌}
 use Rattle.std.specs.List.{AllByRecursion, Any}
 use Rattle.sha2.specs.Sha256.{sha256}
@@ -19,11 +19,12 @@ abbrev pub with_contents : List (List ℕ) → List (List ℕ) → List (List �
 with_contents [] contents = contents
 with_contents (bytes ∷ more) contents = with_contents more (with_content bytes contents)
 
--- An answer is remembered, in front of the others, and its contents are kept. The last one goes where the limit is passed.
+-- An answer is cached in front of the others, and its contents are kept. The last answer is removed if there
+-- are more than the limit.
 abbrev pub remembering : KeptAnswer → Kept → Kept
 remembering answer kept = record kept { contents = with_contents (contents_for answer) kept.contents; answers = with_answer_within kept.limit answer kept.answers }
 
--- each of these may be contents
+-- each of these can be contents
 abbrev pub AreSmall : List (List ℕ) → Type 0
 AreSmall all = AllByRecursion IsSmall all
 
@@ -32,11 +33,11 @@ abbrev pub SomeCollides : List (List ℕ) → List (List ℕ) → Type 0
 SomeCollides [] contents = ⊥
 SomeCollides (bytes ∷ more) contents = Collides bytes contents ⊎ SomeCollides more (with_content bytes contents)
 
--- one of these collides with the contents, each for itself
+-- one of these collides with the contents, each taken alone
 abbrev pub AnyCollides : List (List ℕ) → List (List ℕ) → Type 0
 AnyCollides all contents = Any (λ bytes. Collides bytes contents) all
 
--- what is written down of the words and of the seen files may be kept, and some contents stand under each digest of the key
+-- the records of the words and of the seen files can be kept, and some contents have each digest of the key
 pub record HasPlacedKey (contents words : List (List ℕ)) (seen : List File) : Type 0 where
   pub words_fit : IsSmall (words_record words)
   pub seen_fits : IsSmall (seen_record (seen_of_files seen))

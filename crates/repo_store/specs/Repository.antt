@@ -11,7 +11,7 @@ pub record Commit : Type 0 where
   pub message : List ℕ
   pub tree : List File
 
--- The commits are the oldest first, and are numbered from 1.
+-- The commits, the oldest first, are numbered from 1.
 pub record Repository : Type 0 where
   pub history : List Commit
   pub staged : List File
@@ -24,7 +24,7 @@ empty = record { history = []; staged = []; fixes = [] }
 abbrev pub with_staged : List ℕ → FileEntry → Repository → Repository
 with_staged path entry repo = record repo { staged = put_file path entry repo.staged; fixes = [] }
 
--- a path is staged no more, and the fixes are forgotten
+-- a path is removed from the staged files, and the fixes are forgotten
 abbrev pub without_staged : List ℕ → Repository → Repository
 without_staged path repo = record repo { staged = remove_file path repo.staged; fixes = [] }
 
@@ -40,11 +40,11 @@ with_fixes changes repo = record repo { fixes = staged_changes changes repo.stag
 abbrev pub accepted : Repository → Repository
 accepted repo = record repo { staged = apply_changes repo.fixes repo.staged; fixes = [] }
 
--- one commit more, of the staged files, and the fixes are forgotten
+-- one more commit, of the staged files, and the fixes are forgotten
 abbrev pub with_new_commit : List ℕ → Repository → Repository
 with_new_commit message repo = record repo { history = repo.history ++ record { message = message; tree = repo.staged } ∷ []; fixes = [] }
 
--- the files of the last commit, and no files where there is no commit
+-- the files of the last commit, or no files if there is no commit
 abbrev pub last_tree : List Commit → List File
 last_tree [] = []
 last_tree (commit ∷ []) = commit.tree
@@ -54,11 +54,12 @@ abbrev pub commit_at : ℕ → List Commit → Option Commit
 commit_at zero history = None
 commit_at (suc n) history = slice_get history n
 
--- the files of a commit, and no files where no commit has the number
+-- the files of a commit, or no files if no commit has the number
 abbrev pub tree_at : ℕ → List Commit → List File
 tree_at number history = unwrap_or (option_map (λ (commit : Commit). commit.tree) (commit_at number history)) []
 
--- the new contents that the fixes give to a path; none where no fix is of it, and where its fix takes the file away
+-- the new contents that the fixes give to a path, or none if no fix is of the path or its fix removes the
+-- file
 abbrev pub fixed_bytes : List ℕ → List Change → Option (List ℕ)
 fixed_bytes path [] = None
 fixed_bytes path (fix ∷ fixes) = if bytes_eq path fix.path then fix.now else fixed_bytes path fixes

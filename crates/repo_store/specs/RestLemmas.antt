@@ -1,4 +1,4 @@
--- Lemmas on what rests over calls of a store as a book.
+-- Lemmas on what is at rest over calls of a store as a book.
 use Rattle.std.specs.Prelude.{refl}
 use Rattle.std.proofs.Common.{◌∙◌, inl, arith}
 use Rattle.sqlite_trees.specs.declared.store.Store.{Ghosts}

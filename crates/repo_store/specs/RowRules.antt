@@ -1,4 +1,5 @@
--- The rules that the rows of a store obey, whatever their order. What breaks one of them is a damaged store.
+-- The rules that the rows of a store obey, in any order (docs/REFERENCE.md, "The store"). A store that breaks
+-- one of them is damaged.
 use Rattle.std.specs.Prelude.{◌≡◌, ◌⊎◌, ℕ, ◌+◌, ◌≤◌, ℤ, pos, Bool, true, List, [], ◌∷◌, length, map, sum_by, Option, None, Some, IfSome, IsPermutation}
 use Rattle.std.specs.List.{AllByRecursion, Contains, list_any}
 use Rattle.std.specs.Str.{IsUtf8, bytes_eq}
@@ -20,9 +21,9 @@ use Rattle.repo_store.specs.Rows.{first_version_row}
 
 -- ---- single rows
 
--- contents, under their digest
+-- a blob: contents under their digest
 pub record IsBlobRow (row : BlobRow) : Type 0 where
-  -- the digest is the SHA-256 of the bytes
+  -- the digest is the SHA-256 of the bytes (FIPS 180-4)
   pub named : row.digest ≡ sha256 row.bytes
   -- the bytes are at most 16 MiB
   pub small : IsSmall row.bytes
@@ -31,7 +32,7 @@ pub record IsBlobRow (row : BlobRow) : Type 0 where
 abbrev pub is_kept : List BlobRow → List ℕ → Bool
 is_kept blobs digest = list_any (λ (blob : BlobRow). bytes_eq digest blob.digest) blobs
 
--- a text that is a path inside a repository
+-- a text that is a path inside a repository (docs/REFERENCE.md, "Paths")
 pub record IsPathText (path : List ℕ) : Type 0 where
   pub utf8 : IsUtf8 path
   pub legal : path_fault path ≡ None
@@ -52,7 +53,7 @@ IsStagedRow blobs row = IsFileRow blobs row.path row.mode row.digest
 abbrev pub is_staged : List StagedRow → List ℕ → Bool
 is_staged staged path = list_any (λ (row : StagedRow). bytes_eq path row.path) staged
 
--- a file is gone, and has no digest; or it isn't, and its digest is that of kept contents
+-- a file that is gone has no digest; one that isn't has the digest of kept contents
 abbrev pub IsMarked : List BlobRow → ℤ → Option (List ℕ) → Type 0
 IsMarked blobs gone None = gone ≡ pos 1
 IsMarked blobs gone (Some digest) = (gone ≡ pos 0) × (is_kept blobs digest ≡ true)
@@ -61,12 +62,12 @@ IsMarked blobs gone (Some digest) = (gone ≡ pos 0) × (is_kept blobs digest �
 pub record IsFixRow (blobs : List BlobRow) (staged : List StagedRow) (row : FixRow) : Type 0 where
   -- its path is one inside a repository
   pub path_legal : IsPathText row.path
-  -- it says that the file is gone exactly where it has no digest, and its contents are kept
+  -- it has no digest exactly if it says that the file is gone, and otherwise its contents are kept
   pub marked : IsMarked blobs row.gone row.digest
   -- its file is staged
   pub file_staged : is_staged staged row.path ≡ true
 
--- the number of a commit, of which there are so many
+-- the number of one of this many commits
 pub record IsNumbered (commits : ℕ) (number : ℤ) : Type 0 where
   pub at : ℕ
   pub is : number ≡ pos (at + 1)
@@ -74,7 +75,7 @@ pub record IsNumbered (commits : ℕ) (number : ℤ) : Type 0 where
 
 -- a file of a commit
 pub record IsEntryRow (blobs : List BlobRow) (commits : ℕ) (row : EntryRow) : Type 0 where
-  -- its commit is there
+  -- its commit exists
   pub owned : IsNumbered commits row.n
   pub file : IsFileRow blobs row.path row.mode row.digest
 
@@ -84,7 +85,7 @@ pub record IsStatus (number : ℤ) : Type 0 where
   pub is : number ≡ pos code
   pub within : code ≤ most_status
 
--- kept contents under the digest are such
+-- contents with this property are kept under the digest
 pub record HasKept (blobs : List BlobRow) (digest : List ℕ) (AreSuch : List ℕ → Type 0) : Type 0 where
   pub blob : BlobRow
   pub kept : Contains blobs blob
@@ -95,7 +96,7 @@ pub record HasKept (blobs : List BlobRow) (digest : List ℕ) (AreSuch : List �
 abbrev pub HaveKeptContents : List BlobRow → List SeenFile → Type 0
 HaveKeptContents blobs seen = AllByRecursion (λ (file : SeenFile). is_kept blobs file.digest ≡ true) seen
 
--- the new contents of each file that a child changed, where it isn't gone, are kept
+-- the new contents of each file that a child changed and didn't delete are kept
 abbrev pub HaveKeptNewContents : List BlobRow → List ChangedFile → Type 0
 HaveKeptNewContents blobs changed = AllByRecursion (λ (file : ChangedFile). IfSome file.digest (λ digest. is_kept blobs digest ≡ true)) changed
 
@@ -107,18 +108,19 @@ is_seen seen path = list_any (λ (file : SeenFile). bytes_eq path file.path) see
 abbrev pub AreSeen : List ChangedFile → List SeenFile → Type 0
 AreSeen changed seen = AllByRecursion (λ (file : ChangedFile). is_seen seen file.path ≡ true) changed
 
--- a remembered answer
+-- a cached answer
 pub record IsAnswerRow (blobs : List BlobRow) (row : AnswerRow) : Type 0 where
-  -- the record of words is kept
+  -- the record of its words is kept
   pub words : List (List ℕ)
   pub words_kept : HasKept blobs row.words (IsWordsRecord words)
-  -- the record of files that a child saw, whose contents are kept too
+  -- the record of the files that its child saw is kept, and so are their contents
   pub seen : List SeenFile
   pub seen_kept : HasKept blobs row.seen (IsSeenRecord seen)
   pub seen_contents : HaveKeptContents blobs seen
-  -- what it wrote is kept
+  -- its output is kept
   pub output_kept : is_kept blobs row.output ≡ true
-  -- the record of files that it changed, each of which it saw, whose new contents are kept too
+  -- the record of the files that its child changed is kept; the child saw each of them, and their new
+  -- contents are kept
   pub changed : List ChangedFile
   pub changes_kept : HasKept blobs row.changes (IsChangesRecord changed)
   pub new_contents : HaveKeptNewContents blobs changed
@@ -127,7 +129,7 @@ pub record IsAnswerRow (blobs : List BlobRow) (row : AnswerRow) : Type 0 where
 
 -- ---- the tables
 
--- the numbers from one on, so many of them
+-- the numbers from this one on, one for each row
 abbrev pub numbers_from : ℕ → List CommitRow → List ℤ
 numbers_from n [] = []
 numbers_from n (row ∷ rows) = pos n ∷ numbers_from (n + 1) rows
@@ -135,14 +137,14 @@ numbers_from n (row ∷ rows) = pos n ∷ numbers_from (n + 1) rows
 abbrev pub number_in : CommitRow → ℤ
 number_in row = row.n
 
--- the bytes of the paths together
+-- the bytes of all paths together
 abbrev pub staged_path_bytes : List StagedRow → ℕ
 staged_path_bytes rows = sum_by (λ (row : StagedRow). length row.path) rows
 
 pub record AreStagedRows (blobs : List BlobRow) (rows : List StagedRow) : Type 0 where
   -- each is a file
   pub files : AllByRecursion (IsStagedRow blobs) rows
-  -- they are no more than a staged tree may have
+  -- there are no more than a staged tree may have
   pub files_fit : length rows ≤ most_files
   pub paths_fit : staged_path_bytes rows ≤ most_tree_path_bytes
 
@@ -153,9 +155,10 @@ pub record AreCommitRows (rows : List CommitRow) : Type 0 where
   -- the message of each is within its limit
   pub messages_small : AllByRecursion (λ (row : CommitRow). IsSmall row.message) rows
 
--- The rows are those of a store of version 1, but for what it says of itself, and those of version 2 obey the same rules.
+-- The rows are those of a store of version 1, except those of `meta`. The rows of version 2 obey the same
+-- rules.
 pub record AreStoreRows (t : Tables) : Type 0 where
-  -- each content stands under its own digest
+  -- each blob is under its own digest
   pub blobs : AllByRecursion IsBlobRow t.blobs
   -- the staged files are files, and within the limits
   pub staged : AreStagedRows t.blobs t.staged
@@ -168,6 +171,6 @@ pub record AreStoreRows (t : Tables) : Type 0 where
   -- each answer is one of a child
   pub answers : AllByRecursion (IsAnswerRow t.blobs) t.answers
 
--- The rows of `meta`, in whatever order, say that the store is of version 1, and nothing else of it.
+-- The rows of `meta`, in any order, say that the store is of version 1, and nothing else.
 abbrev pub AreFirstVersionRows : List MetaRow → Type 0
 AreFirstVersionRows rows = IsPermutation rows (first_version_row ∷ [])

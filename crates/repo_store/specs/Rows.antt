@@ -1,5 +1,5 @@
--- How a repository and the answers that are remembered stand in the tables of a store: each content once, under the SHA-256 of
--- its bytes.
+-- How a repository and the cached answers are kept in the tables of a store: each content once, under the
+-- SHA-256 of its bytes (docs/REFERENCE.md, "The store").
 use Rattle.std.specs.Prelude.{ℕ, ◌+◌, ℤ, pos, List, [], ◌∷◌, ◌++◌, map, codes, Option, None, Some}
 use Rattle.sha2.specs.Sha256.{sha256}
 use Rattle.hook_base.specs.declared.file.File.{File}
@@ -70,7 +70,7 @@ answer_row answer = record {
   status = pos answer.status;
 }
 
--- the tables of a store that keeps this, but for the uses, which tell the order of the answers
+-- the tables of a store that keeps this, except the uses, which give the order of the answers
 abbrev pub tables_of : Kept → Tables
 tables_of kept = record {
   meta = version_row ∷ limit_row (pos kept.limit) ∷ [];
@@ -86,7 +86,7 @@ tables_of kept = record {
 abbrev pub first_tables_of : Kept → Tables
 first_tables_of kept = record (tables_of kept) { meta = first_version_row ∷ [] }
 
--- contents more, which the table lacks
+-- more contents, which the table lacks
 abbrev pub with_blobs : List (List ℕ) → Tables → Tables
 with_blobs news t = record t { blobs = map blob_row news ++ t.blobs }
 

@@ -1,4 +1,4 @@
--- Serves private functions only: a file of the lists by its parts, and how it is told apart.
+-- For private functions only: a file of the lists by its parts, and its code.
 use Rattle.std.specs.Prelude.{ℕ, List, refl}
 use Rattle.std.specs.Coded.{Coded, code_by, coded×, coded_ℕ, coded_list}
 use Rattle.hook_base.specs.declared.file.File.{File}

@@ -1,5 +1,5 @@
--- Serves private functions only, those of the modules `edits` and `lists::staging`: changes of the staged files as they are made,
--- in memory and in the rows.
+-- For private functions of the modules `edits` and `lists::staging`: changes of the staged files as they are
+-- made, in memory and in the rows.
 use Rattle.std.specs.Prelude.{◌≡◌, ℕ, not, List, [], ◌∷◌, filter, length, take, map, Option, None, Some, option_map}
 use Rattle.std.specs.Str.{bytes_eq}
 use Rattle.hook_base.specs.declared.file.FileEntry.{FileEntry}
@@ -14,7 +14,7 @@ use Rattle.repo_store.specs.Kept.{Kept}
 use Rattle.store_faults.specs.Limits.{path_bytes}
 use Rattle.repo_store.specs.Lists.{entry_in, file_of, fix_of}
 
--- what a path has from now on, or that it has nothing
+-- what a path has from then on, or that it has nothing
 pub record PathEdit : Type 0 where
   pub path : List ℕ
   pub entry : Option FileEntry
@@ -22,7 +22,7 @@ pub record PathEdit : Type 0 where
 abbrev pub edit_of : SharedEdit → PathEdit
 edit_of shared = record { path = shared.path; entry = option_map entry_in shared.file }
 
--- what an edit that is asked for gives to its path
+-- what a requested edit gives to its path
 abbrev pub made_edit : StagingEdit → Kept → PathEdit
 made_edit (Add path bytes asked) kept = record { path = path; entry = Some (entry_to_stage path bytes asked kept.repo.staged) }
 made_edit (Remove path) kept = record { path = path; entry = None }
@@ -43,14 +43,14 @@ all_rows (edit ∷ edits) rows = all_rows edits (edited_rows edit rows)
 
 -- ---- in memory
 
--- what was kept is a part of what is kept, but for the staged files and the fixes
+-- what was kept is a part of what is kept, except the staged files and the fixes
 pub record IsLonger (old new : Kept) : Type 0 where
   pub history : new.repo.history ≡ old.repo.history
   pub answers : new.answers ≡ old.answers
   pub limit : new.limit ≡ old.limit
   pub front : take (length old.contents) new.contents ≡ old.contents
 
--- what is put back where an edit is refused
+-- what is restored if an edit is refused
 pub record IsBefore (kept : Kept) (before : Before) : Type 0 where
   pub staged : map file_of before.staged.items ≡ kept.repo.staged
   pub bytes : before.staged_bytes ≡ path_bytes kept.repo.staged

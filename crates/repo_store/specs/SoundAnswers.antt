@@ -18,16 +18,17 @@ KeepToSeen changes seen = AllByRecursion (λ (change : Change). is_some (entry_o
 pub record IsSoundAnswer (answer : KeptAnswer) : Type 0 where
   -- its words are texts
   pub words_utf8 : AllByRecursion IsUtf8 answer.words
-  -- the paths of the files that it saw are those of files in trees, the message's among them, and rise
+  -- the files that it saw have paths of files in trees, or the path of the message, and are in the order of
+  -- their paths
   pub seen_legal : AllByRecursion (λ (file : File). IsTreePath file.path) answer.seen
   pub seen_rise : IsRising answer.seen
-  -- so are and do those of the files that it changed, each of which it saw
+  -- so have and are the files that it changed, each of which it saw
   pub changes_legal : AllByRecursion (λ (change : Change). IsTreePath change.path) answer.changes
   pub changes_rise : IsRisingChanges answer.changes
   pub keeps_to_seen : KeepToSeen answer.changes answer.seen
-  -- its exit code is one of a child that ended by itself
+  -- its exit code is one of a child that exited by itself
   pub status_known : answer.status ≤ most_status
-  -- what is written down of it is within the limit of records
+  -- its records are within the limit of records
   pub words_fit : IsStorable (written_words answer)
   pub seen_fits : IsStorable (written_seen answer)
   pub changes_fit : IsStorable (written_changes answer)

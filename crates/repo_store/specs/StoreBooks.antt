@@ -1,4 +1,4 @@
--- A store as a book: what it remembers, what rests over a call, what a crash leaves, and by what it refuses.
+-- A store as a book: what it caches, what rests over a call, what a crash leaves, and the refusals.
 use Rattle.std.specs.Prelude.{◌≡◌, ℕ, List, map}
 use Rattle.child_port.specs.declared.answer.Answer.{Answer}
 use Rattle.sqlite_trees.specs.declared.store.Store.{Ghosts}
@@ -19,42 +19,42 @@ use Rattle.result_book.specs.declared.book_fault.BookFault.TheVariants.{OutOfMem
 use Rattle.result_book.specs.declared.book_row.BookRow.{BookRow}
 use Rattle.result_book.specs.Contents.{Contents, with_rows}
 
--- ---- what it remembers
+-- ---- what it caches
 
--- what a store gives of an answer, as that of a child
+-- a copy of a store's cached answer, as an answer of a child
 abbrev pub answer_in : StoredAnswer → Answer
 answer_in answer = record { status = answer.status; output = answer.output; changes = answer.changes }
 
--- the answer that is handed over by reference
+-- an answer that is given by reference
 abbrev pub answer_by : AnswerRef → Answer
 answer_by answer = record { status = answer.status; output = answer.output.now; changes = answer.changes.now }
 
--- a remembered answer without its key
+-- a cached answer without its key
 abbrev pub given_answer : KeptAnswer → Answer
 given_answer answer = record { status = answer.status; output = answer.output; changes = answer.changes }
 
 abbrev pub row_of : KeptAnswer → BookRow
 row_of answer = record { words = answer.words; seen = answer.seen; answer = given_answer answer }
 
--- the remembered answers of a store in their order, as those of a book of its limit
+-- the cached answers of a store in their order, as those of a book with its limit
 abbrev pub remembered_by : Kept → Contents
 remembered_by kept = with_rows kept.limit (map row_of kept.answers)
 
 -- ---- what a crash leaves
 
--- opened again, the trees are a store of this repository, whatever it remembers
+-- the trees, opened again, are a store of this repository, with any cached answers
 pub record LeavesRepository (repo : Repository) (trees : Trees) : Type 0 where
   pub kept : Kept
   pub leaves : Leaves kept trees
   pub same : kept.repo ≡ repo
 
--- a crash may leave a store of this repository, whatever it remembers
+-- a crash may leave a store of this repository, with any cached answers
 pub record MayLeave {S : Type 0} (g : Ghosts S) (shown : Shown S) (repo : Repository) : Type 0 where
   pub trees : Trees
   pub may : (state g shown.conn).may_leave trees
   pub left : LeavesRepository repo trees
 
--- a store that a crash may leave remembers this, once it is opened again
+-- a store that a crash may leave caches this, once it is opened again
 pub record MayRemember {S : Type 0} (g : Ghosts S) (shown : Shown S) (left : Contents) : Type 0 where
   pub clean : HasCleanDisk (state g shown.conn)
   pub trees : Trees
@@ -65,9 +65,9 @@ pub record MayRemember {S : Type 0} (g : Ghosts S) (shown : Shown S) (left : Con
 
 -- ---- what rests
 
--- The repository is the same, and stands in the tables if it did, and no contents are gone. A crash leaves what it could leave
--- before, or a store of this repository; and where the repository stood in the tables, of no repository that it couldn't leave
--- before.
+-- The repository is the same, and the tables hold it if they did before, and no contents are gone. A crash
+-- leaves what it could leave before, or a store of this repository. If the tables held the repository, a
+-- crash leaves no other repository that it couldn't leave before.
 pub record IsAtRest {S : Type 0} (g : Ghosts S) (before after : Shown S) : Type 0 where
   pub repo : after.kept.repo ≡ before.kept.repo
   pub contents : (bytes : List ℕ) → IsAmong before.kept.contents bytes → IsAmong after.kept.contents bytes
@@ -75,9 +75,9 @@ pub record IsAtRest {S : Type 0} (g : Ghosts S) (before after : Shown S) : Type 
   pub survives : Survives (state g before.conn) (state g after.conn) (LeavesRepository before.kept.repo)
   pub left : HasCleanDisk (state g after.conn) → Stands g before.conn before.kept → (repo : Repository) → MayLeave g after repo → MayLeave g before repo
 
--- ---- by what it refuses
+-- ---- the refusals
 
--- the database refuses, contents are too large, or others stand under their digest
+-- the database refuses, contents are too large, or others have their digest
 abbrev pub IsOfAnswers : StoreFault → Type 0
 IsOfAnswers (store.Sql error) = Unit {0}
 IsOfAnswers store.TooLarge = Unit {0}

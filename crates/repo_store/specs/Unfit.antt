@@ -1,4 +1,5 @@
--- Why a database isn't opened as a store: what it lacks or breaks is shown, so that no other database is refused so.
+-- Why a database isn't opened as a store. What it lacks or breaks is shown, so that no other database is
+-- refused for this reason.
 use Rattle.std.specs.Prelude.{◌≡◌, ◌≢◌, ◌⊎◌, List, [], ◌∷◌}
 use Rattle.sqlite.specs.Effect.{Database}
 use Rattle.sqlite_schema.specs.declared.schema.Schema.{Schema}
@@ -34,9 +35,9 @@ pub record IsDamaged (db : Database) : Type 0 where
   pub versioned : AreVersionRows tables.meta
   pub broken : ¬ AreBoundedRows tables rows
 
--- A refusal of a database: as `NotAStore` only where it hasn't exactly the tables of a store of version 1 or 2, or where `meta`
--- doesn't say that they are of that version, and as `Damaged` only where it holds a store whose rows break a rule. Nothing is
--- said of when memory or the database refuses.
+-- A refusal of a database. It is `NotAStore` only if its tables aren't exactly those of a store of version 1
+-- or 2, or if `meta` doesn't say that they are of that version. It is `Damaged` only if the database holds a
+-- store whose rows break a rule. Nothing is said about when memory or the database refuses.
 abbrev pub IsUnfit : Database → StoreFault → Type 0
 IsUnfit db NotAStore = ((db.schema ≢ store_schema) × (db.schema ≢ schema_with_uses)) ⊎ (IsOfNoVersion store_schema AreFirstVersionRows db ⊎ IsOfNoVersion schema_with_uses AreVersionRows db)
 IsUnfit db Damaged = IsFirstDamaged db ⊎ IsDamaged db

@@ -1,4 +1,4 @@
-//! The tables when the fixes are accepted: one transaction, in which the rows of the fixed files alone are written.
+//! Accepting the fixes in the tables: one transaction, which writes only the rows of the fixed files.
 
 ghost use Rattle.std.specs.Prelude.{◌≡◌, ℕ, List, false, map};
 ghost use Rattle.hook_base.specs.Trees.{IsRising};
@@ -18,7 +18,7 @@ use hook_base::RepoPath;
 use sqlite::{Alter, Connection, Error, Transaction};
 use store_tables::{clear_fixes, put_staged, take_staged};
 
-// Puts the file that the files have at a path, if any, in place of the one that stands there.
+// Removes the row at a path, and adds the file that `files` has there, if any.
 fn rewrite<S: Alter>(
     tx: &mut Transaction<'_, S>,
     path: &RepoPath,
@@ -56,8 +56,8 @@ fn accept_in<S: Alter>(
     Ok(())
 }
 
-/// Puts those of the files that are at the paths of the fixes in place of the staged ones there, and forgets the fixes, in
-/// one transaction.
+/// Replaces the rows at the paths of the fixes by those of the files there, and forgets the fixes, in one
+/// transaction. A path without a file in `files` has no row afterwards.
 pub(crate) fn accept_rows<S: Alter>(
     conn: &mut Connection<S>,
     fixes: &[SharedFix],

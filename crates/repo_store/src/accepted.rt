@@ -1,4 +1,5 @@
-//! What the fixes make of the staged files: made before the tables change, so that nothing can fail after.
+//! The staged files with the fixes applied. They are made before the tables change, so that nothing can fail
+//! after that.
 
 ghost use Rattle.std.specs.Prelude.{◌≡◌, map, IfOk};
 ghost use Rattle.hook_base.specs.Trees.{IsRising, IsRisingChanges, apply_changes};
@@ -13,22 +14,22 @@ use crate::shared::{ListedFile, SharedFix};
 use hook_base::OutOfMemory;
 use std::alloc::Global;
 
-// For so many files to a fix it is quicker to look up the file of each fix than to walk over all files.
+// From this many files to one fix, looking up the file of each fix is quicker than a walk over all files.
 const FILES_TO_A_FIX: usize = 64;
 
-// So many files at most are taken out one by one, since each time those behind move.
+// At most this many files are removed one by one, since each removal moves all files after it.
 const MOST_TAKEN_OUT: usize = 8;
 
 /// What the fixes make of the staged files.
 #[derive(Drop)]
 pub(crate) enum Accepted {
-    /// The files that have one of few fixes, but for those that are gone.
+    /// If there are few fixes: the files at their paths, with the fixes applied.
     Few(Vec<ListedFile>),
     /// All files.
     All(Vec<ListedFile>),
 }
 
-// Whether it is quicker to put the fixes in place one by one. Both ways come to the same files.
+// Whether it is quicker to apply the fixes one by one. Both ways give the same files.
 fn are_few(files: &[ListedFile], fixes: &[SharedFix]) -> bool {
     let mut gone = 0;
     'fixes: for fix in fixes {
@@ -68,7 +69,8 @@ impl Accepted {
         }
     }
 
-    /// Applies the fixes to the files, whose paths have so many bytes together. Answers the bytes that they have then.
+    /// Applies the fixes to the files, whose paths have `path_bytes` bytes together. Returns that sum for the
+    /// new files.
     pub(crate) fn put_into(
         self,
         files: &mut Vec<ListedFile>,

@@ -1,5 +1,5 @@
-//! The contents of an answer that is to be remembered: those of the files that its child saw and changed, and behind them what
-//! is written down of it.
+//! The contents of an answer that is to be cached: those of the files that its child saw and changed, and
+//! then the answer's records and its output.
 
 ghost use Rattle.std.specs.Prelude.{◌≡◌, ◌∷◌, [], map, option_to_list, IfOk, IfErr, OnOk, OnErr};
 ghost use Rattle.std.specs.Option.{option_map};
@@ -24,7 +24,7 @@ use answer_records::{ChangedFile, SeenFile, changes_record, seen_record, words_r
 use hook_base::{Change, Content, OutOfMemory, SharedFile, Text, Tree, copy_texts};
 use std::alloc::Global;
 
-// What is written down of an answer, and what its child wrote.
+// The records of an answer, and its output.
 #[derive(Drop)]
 struct Written {
     output: Content,
@@ -61,7 +61,7 @@ fn keep_files(
     Ok(files)
 }
 
-// Keeps the new contents of a change.
+// Keeps the new contents of a change, if it has any.
 fn keep_change(contents: &mut Contents, change: &Change) -> Result<SharedFix, StoreFault>
     ensures change { IfOk result (λ made. fix_of made ≡ change.entry.now) }
     ensures kept { OnOk result (AreAllKept (option_to_list change.entry.now.now) contents.old contents.new) }
@@ -108,7 +108,7 @@ fn keep_words(alloc: Global, contents: &mut Contents, words: &[Text]) -> Result<
     contents.keep(record.as_slice())
 }
 
-// The files as a record names them.
+// The files as a record names them (docs/REFERENCE.md, "The store").
 fn named_files(alloc: Global, files: &[ListedFile]) -> Result<Vec<SeenFile>, OutOfMemory>
     ensures { IfOk result (λ named. named.items ≡ seen_of_files (map file_of files.now)) }
 {
@@ -139,7 +139,7 @@ fn keep_seen(
     contents.keep(record.as_slice())
 }
 
-// The digest of the new contents of a change, where its file isn't gone.
+// The digest of the new contents of a change, if its file isn't gone.
 fn digest_now(change: &SharedFix) -> Option<[u8; 32]>
     ensures { result ≡ option_map sha256 change.entry.now.now }
 {
@@ -149,7 +149,7 @@ fn digest_now(change: &SharedFix) -> Option<[u8; 32]>
     }
 }
 
-// The changes as a record names them.
+// The changes as a record names them (docs/REFERENCE.md, "The store").
 fn named_changes(alloc: Global, changes: &[SharedFix]) -> Result<Vec<ChangedFile>, OutOfMemory>
     ensures { IfOk result (λ named. named.items ≡ changed_of_changes (map fix_of changes.now)) }
 {
@@ -163,7 +163,7 @@ fn named_changes(alloc: Global, changes: &[SharedFix]) -> Result<Vec<ChangedFile
     Ok(named)
 }
 
-// Keeps the record of what became of the files that a child saw.
+// Keeps the record of a child's changes.
 fn keep_changed(
     alloc: Global,
     contents: &mut Contents,
@@ -179,7 +179,7 @@ fn keep_changed(
     contents.keep(record.as_slice())
 }
 
-// Keeps what is written down of an answer, and what its child wrote.
+// Keeps the records of an answer, and its output.
 fn keep_written(
     alloc: Global,
     contents: &mut Contents,
@@ -209,7 +209,7 @@ fn keep_written(
     Ok(Written { output, records })
 }
 
-// Keeps the contents of an answer; at a refusal some of them are kept.
+// Keeps the contents of an answer. After a refusal some of them are kept.
 fn keep_parts(
     alloc: Global,
     contents: &mut Contents,
@@ -244,7 +244,7 @@ fn keep_parts(
     ))
 }
 
-/// An answer to be remembered, whose contents are kept. A refusal leaves all as it was.
+/// An answer to be cached, whose contents are kept. A refusal leaves everything as it was.
 pub(crate) fn keep_answer(
     alloc: Global,
     contents: &mut Contents,

@@ -1,4 +1,4 @@
-//! The answers that are remembered as a list with a limit, the most recently used first.
+//! The cached answers as a list with a limit, the most recently used first.
 
 ghost use Rattle.std.specs.Prelude.{◌≡◌, ◌≢◌, slice_get, ◌↔◌, ℕ, ◌+◌, ◌-◌, ◌<◌, ◌≤◌, ◌^◌, List, ◌∷◌, [], Some, IsTrue, length, take, drop, map, reverse, IfErr, IfNone, IfOk, IfSome, OnErr, OnOk};
 ghost use Rattle.std.specs.List.{AllByRecursion, Any, Contains};
@@ -20,11 +20,12 @@ use sqlite::Error;
 use std::alloc::Global;
 use std::marker::Model;
 
-/// The answers that are remembered, the most recently used first, each found by the digests of what it was given. Contracts see
-/// the list, how many there may be, and the tick that the next use gets.
+/// The cached answers, the most recently used first, each found by the digests of its key. Contracts see the
+/// list, how many there may be, and the tick that the next use gets.
 #[derive(Drop)]
 pub(crate) struct AnswerList {
-    // It has no bound of its own: its owner keeps the limit, and may put one answer more for as long as a transaction runs.
+    // It has no bound of its own. Its owner keeps the limit, and may add one answer more while a transaction
+    // runs.
     cache: LruCache<([u8; 32], [u8; 32]), SharedAnswer>,
     limit: u32,
     next: u64,
@@ -44,7 +45,7 @@ impl Model for AnswerList {
 }
 
 impl AnswerList {
-    /// No answers yet, and the first tick.
+    /// No answers yet; the next use gets the first tick.
     pub(crate) fn new(alloc: Global, limit: u32) -> Result<AnswerList, OutOfMemory>
         requires { IsLimit limit }
         ensures { IfOk result (λ list. list ≡ record { answers = []; limit = limit; next = 1 }) }
@@ -100,7 +101,7 @@ impl AnswerList {
         }
     }
 
-    /// The key of the last answer.
+    /// The key of the last answer, if there is one.
     pub(crate) fn last_key(&self) -> Option<([u8; 32], [u8; 32])>
         ensures { result ≡ listed.last_key self.now.answers }
     {
@@ -118,53 +119,53 @@ impl AnswerList {
         self.cache.peek_mru().unwrap().1
     }
 
-    /// Puts an answer, whose key none has, in front of the others.
+    /// Puts an answer, whose key no other has, in front of the others.
     pub(crate) fn add(&mut self, answer: SharedAnswer) -> Result<(), OutOfMemory>
         requires { AllByRecursion (λ (other : KeptAnswer). ¬ (spec.key_of other ≡ spec.key_of answer)) self.old.answers }
         ensures added { OnOk result (self.new ≡ record self.old { answers = answer ∷ self.old.answers }) }
         ensures same { OnErr result (self.new ≡ self.old) }
     {
-        // The length of a cache without a bound is below the most that it takes, so none goes.
+        // The length of a cache without a bound is less than the most that it takes, so no entry is dropped.
         let _length = self.cache.len();
         self.cache.put(key_of(&answer), answer)?;
         Ok(())
     }
 
-    /// Takes the first answer out again.
+    /// Removes the first answer again.
     pub(crate) fn take_back(&mut self)
         ensures { self.new ≡ record self.old { answers = drop 1 self.old.answers } }
     {
         let _first = self.cache.pop_mru();
     }
 
-    /// Puts an answer in place of the one of its key, in front of the others.
+    /// Replaces the answer of the same key, and puts the new one in front of the others.
     pub(crate) fn replace(&mut self, answer: SharedAnswer)
         requires there { Any (λ (other : KeptAnswer). spec.key_of other ≡ spec.key_of answer) self.old.answers }
         requires told { AllByRecursion (TellsKey answer) self.old.answers }
         ensures { self.new ≡ record self.old { answers = in_front answer self.old.answers } }
     {
-        // What a cache says with its length: each key stands in it once.
+        // The contract of `len` says that each key is in the cache once.
         let _length = self.cache.len();
         let _before = self.cache.put(key_of(&answer), answer);
     }
 
-    /// Brings the answer whose key has these digests to the front. Where there is none, all stays as it is.
+    /// Brings the answer whose key has these digests to the front. If there is none, nothing changes.
     pub(crate) fn bring(&mut self, words: [u8; 32], seen: [u8; 32])
         ensures { self.new ≡ record self.old { answers = brought (words, seen) self.old.answers } }
     {
-        // What a cache says with its length: each key stands in it once.
+        // The contract of `len` says that each key is in the cache once.
         let _length = self.cache.len();
         let _there = self.cache.promote(&(words, seen));
     }
 
-    /// Takes the last answer out.
+    /// Removes the last answer.
     pub(crate) fn drop_last(&mut self)
         ensures { self.new ≡ record self.old { answers = take (length self.old.answers - 1) self.old.answers } }
     {
         let _last = self.cache.pop_lru();
     }
 
-    /// Sets how many there may be, and takes the last ones out where there are more.
+    /// Sets how many there may be, and removes the last ones if there are more.
     pub(crate) fn keep(&mut self, limit: u32)
         requires { IsLimit limit }
         ensures { self.new ≡ record self.old { answers = take limit self.old.answers; limit = limit } }
@@ -175,7 +176,7 @@ impl AnswerList {
         self.limit = limit;
     }
 
-    /// Takes all out.
+    /// Removes all answers.
     pub(crate) fn clear(&mut self)
         ensures { self.new ≡ record self.old { answers = [] } }
     {
@@ -198,7 +199,8 @@ impl AnswerList {
         self.next = next;
     }
 
-    /// Takes in an answer in front of the others. One whose key another has is `Sql`, since a table excludes it.
+    /// Adds an answer in front of the others. If another has its key, that is `Sql`, since a table excludes
+    /// it.
     pub(crate) fn admit(&mut self, answer: SharedAnswer) -> Result<(), StoreFault>
         ensures kept { OnOk result (self.new ≡ record self.old { answers = answer ∷ self.old.answers }) }
         ensures keys { OnOk result (HaveOwnKeys self.new.answers) }
@@ -210,7 +212,7 @@ impl AnswerList {
             return Err(StoreFault::Sql(Error::InvalidQuery));
         }
         self.add(answer)?;
-        // It says that each key stands in the list once.
+        // The contract of `len` says that each key is in the list once.
         let _length = self.len();
         Ok(())
     }
@@ -228,7 +230,7 @@ impl AnswerList {
     }
 }
 
-// The digests of what an answer was given.
+// The digests of an answer's key: of the record of its words and of that of its seen files.
 fn key_of(answer: &SharedAnswer) -> ([u8; 32], [u8; 32])
     ensures { result ≡ spec.key_of answer.now }
 {

@@ -1,4 +1,4 @@
-//! An answer of a child, without a copy.
+//! An answer of a child, by reference.
 
 use hook_base::Changes;
 
@@ -7,8 +7,8 @@ use hook_base::Changes;
 pub struct AnswerRef<'a> {
     /// Its exit code, from 0 to 255.
     pub status: u8,
-    /// What it wrote.
+    /// Its output.
     pub output: &'a [u8],
-    /// What became of the files that it saw.
+    /// Its changes of the files that it saw.
     pub changes: &'a Changes,
 }

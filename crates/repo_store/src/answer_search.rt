@@ -1,4 +1,4 @@
-//! The key of an answer that is looked for: whether it is kept, by digests and bytes, and a copy of what is found.
+//! Looks for an answer's key: whether it is kept, by digests and bytes, and a copy of what is found.
 
 ghost use Rattle.std.specs.Prelude.{◌≡◌, ◌∷◌, false, map, IfOk, IfErr, IfSome, IfNone};
 ghost use Rattle.sha2.specs.Sha256.{sha256};
@@ -22,7 +22,7 @@ use hook_base::{Bytes, Changes, File, OutOfMemory, Text, Tree};
 use sha2::{Digest as _, Sha256};
 use std::alloc::Global;
 
-/// A copy of an answer that was looked for, with the digests of its key.
+/// A copy of an answer that was looked up, with the digests of its key.
 #[derive(Drop)]
 pub(crate) struct FoundAnswer {
     pub(crate) answer: StoredAnswer,
@@ -45,7 +45,7 @@ fn known_digest(contents: &Contents, bytes: &[u8]) -> Result<Option<[u8; 32]>, S
     }
 }
 
-/// The digest of the record of these words, if it is kept. One that is too large is kept nowhere.
+/// The digest of the record of these words, if it is kept. A record that is too large is never kept.
 pub(crate) fn known_words(
     alloc: Global,
     contents: &Contents,
@@ -104,7 +104,7 @@ fn known_files(
     Ok(Some(named))
 }
 
-/// The digest of the record of these files, if it is kept, and so are the contents of all of them.
+/// The digest of the record of these files, if it is kept and so are the contents of all of them.
 pub(crate) fn known_seen(
     alloc: Global,
     contents: &Contents,

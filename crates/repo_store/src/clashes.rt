@@ -1,4 +1,4 @@
-//! Whether a path can stand beside files.
+//! Whether a path clashes with files: whether one of both would have to be a file and a folder.
 
 ghost use Rattle.std.specs.Prelude.{◌≡◌, ◌↔◌, ◌++◌, [], ◌∷◌, length, map, take, IsTrue};
 ghost use Rattle.std.specs.List.{Any};
@@ -12,14 +12,14 @@ use crate::shared::ListedFile;
 use hook_base::RepoPath;
 use std::cmp::Ordering;
 
-// On which side of a text a file's path stands.
+// How a file's path compares to a text.
 fn side_of(file: &ListedFile, text: &[u8]) -> Ordering
     ensures { result ≡ path_cmp file.now.path text.now }
 {
     file.path().as_str().as_bytes().cmp(text)
 }
 
-// On which side of a slash the first byte stands. A text that ends comes before any that goes on.
+// How the first byte of a text compares to a slash. An empty text is less.
 fn side_of_slash(text: &[u8]) -> Ordering
     ensures { result ≡ path_cmp (take 1 text.now) (slash ∷ []) }
 {
@@ -29,8 +29,8 @@ fn side_of_slash(text: &[u8]) -> Ordering
     }
 }
 
-// On which side of all that lies below a folder a file's path stands: `Equal` where it lies below. The folder's path and
-// its slash are compared one after the other, so that nothing is allocated.
+// How a file's path compares to the paths below a folder: `Equal` if it lies below. The folder's path and its
+// slash are compared one after the other, so that nothing is allocated.
 fn side_of_folder(file: &ListedFile, folder: &[u8]) -> Ordering
     ensures { let below = folder.now ++ (slash ∷ []) in result ≡ path_cmp (take (length below) file.now.path) below }
 {
@@ -49,7 +49,8 @@ fn has_file_at(files: &[ListedFile], path: &[u8]) -> bool
     files.binary_search_by(|file| side_of(file, path)).is_ok()
 }
 
-// Whether a file lies below a folder. Those that do stand side by side in files that rise, so a search by halves meets one.
+// Whether a file lies below a folder. Such files lie next to each other in sorted files, so a binary search
+// finds one.
 fn has_file_below(files: &[ListedFile], folder: &[u8]) -> bool
     requires { IsRising (map file_of files.now) }
     ensures { IsTrue result ↔ Any (λ (file : File). IsFolderOf folder.now file.path) (map file_of files.now) }
@@ -59,7 +60,7 @@ fn has_file_below(files: &[ListedFile], folder: &[u8]) -> bool
         .is_ok()
 }
 
-// Whether a file's path is a folder of the path. Its folders are the texts before its slashes.
+// Whether a file's path is a folder of the path. The folders of a path are the texts before its slashes.
 fn lies_below_file(files: &[ListedFile], path: &[u8]) -> bool
     requires { IsRising (map file_of files.now) }
     ensures { IsTrue result ↔ Any (λ (file : File). IsFolderOf file.path path.now) (map file_of files.now) }

@@ -1,4 +1,4 @@
-//! All contents that are kept, found by their digests.
+//! All blobs that are kept, found by their digests.
 
 ghost use Rattle.std.specs.Prelude.{◌≡◌, ◌≢◌, ◌+◌, ◌-◌, ◌<◌, ◌≤◌, [], ◌∷◌, ◌++◌, false, length, take, drop, IfOk, IfErr, IfNone, IfSome, OnOk, OnErr};
 ghost use Rattle.std.specs.List.{Any};
@@ -18,7 +18,7 @@ use std::marker::Model;
 use store_faults::MOST_CONTENT_BYTES;
 use store_tables::BlobRow;
 
-/// Contents, each kept once and found by its digest. Contracts see the list of them, the oldest first.
+/// Blobs, each kept once and found by its digest. Contracts see the list of them, the oldest first.
 #[derive(Drop)]
 pub(crate) struct Contents {
     items: Vec<Content>,
@@ -37,7 +37,7 @@ impl Model for Contents {
 }
 
 impl Contents {
-    /// No contents.
+    /// No blobs.
     pub(crate) fn new(alloc: Global) -> Contents
         ensures { result ≡ [] }
     {
@@ -54,7 +54,7 @@ impl Contents {
         self.items.len()
     }
 
-    /// Those from a place on.
+    /// Those from an index on.
     pub(crate) fn since(&self, place: usize) -> &[Content]
         requires { place ≤ length self.now }
         ensures { result.now ≡ drop place self.now }
@@ -62,7 +62,7 @@ impl Contents {
         &self.items[place..]
     }
 
-    /// Those that stand under a digest.
+    /// The blob under a digest, if there is one.
     pub(crate) fn find(&self, digest: &[u8; 32]) -> Option<&Content>
         ensures absent { IfNone result (has_digest digest.now self.now ≡ false) }
         ensures found { IfSome result (λ content. Any (λ bytes. bytes ≡ content.now) self.now) }
@@ -75,7 +75,7 @@ impl Contents {
         }
     }
 
-    /// Keeps contents whose digest is that of none. A refusal leaves them as they were.
+    /// Adds a blob whose digest no other has. A refusal leaves the blobs as they were.
     pub(crate) fn push(&mut self, content: Content) -> Result<(), OutOfMemory>
         requires { has_digest (sha256 content) self.old ≡ false }
         ensures kept { OnOk result (self.new ≡ self.old ++ content ∷ []) }
@@ -91,7 +91,7 @@ impl Contents {
         Ok(())
     }
 
-    /// The bytes as contents, kept anew where they aren't there yet. A refusal leaves all as it was.
+    /// The blob of these bytes, which is added if there is none yet. A refusal leaves the blobs as they were.
     pub(crate) fn keep(&mut self, bytes: &[u8]) -> Result<Content, StoreFault>
         ensures content { IfOk result (λ content. content ≡ bytes.now) }
         ensures kept { OnOk result (self.new ≡ with_content bytes.now self.old) }
@@ -106,8 +106,8 @@ impl Contents {
         self.keep_under(Sha256::digest(bytes), bytes)
     }
 
-    /// The bytes, which stand under the digest, as contents, kept anew where they aren't there yet. A refusal leaves all as it
-    /// was.
+    /// The blob of these bytes, whose digest is the given one; it is added if there is none yet. A refusal
+    /// leaves the blobs as they were.
     pub(crate) fn keep_under(
         &mut self,
         digest: [u8; 32],
@@ -127,7 +127,8 @@ impl Contents {
         Ok(content)
     }
 
-    /// Whether the bytes, which stand under the digest, are kept.
+    /// Whether these bytes, whose digest is the given one, are kept. Other bytes under the digest are a
+    /// `Collision`.
     pub(crate) fn has(&self, digest: &[u8; 32], bytes: &[u8]) -> Result<bool, StoreFault>
         requires { digest.now ≡ sha256 bytes.now }
         ensures known { IfOk result (λ known. known ≡ has_content bytes.now self.now) }
@@ -141,7 +142,8 @@ impl Contents {
         }
     }
 
-    /// Takes in contents that stand under their own digest, without a copy of the bytes.
+    /// Adds the blob of a row, without a copy of its bytes. One of more than 16 MiB, or under another digest
+    /// than its own, is `Damaged`; a digest that is there already is `Sql`, since the table excludes it.
     pub(crate) fn admit(&mut self, row: BlobRow) -> Result<(), StoreFault>
         ensures kept { OnOk result (self.new ≡ self.old ++ row.bytes ∷ []) }
         ensures obeys { OnOk result (IsBlobRow row) }
@@ -176,7 +178,7 @@ impl Contents {
         Ok(content)
     }
 
-    /// The contents, shared, kept anew where they aren't there yet. A refusal leaves all as it was.
+    /// This blob, shared; it is added if there is none yet. A refusal leaves the blobs as they were.
     pub(crate) fn keep_shared(&mut self, content: &Content) -> Result<Content, StoreFault>
         ensures content { IfOk result (λ kept. kept ≡ content.now) }
         ensures kept { OnOk result (self.new ≡ with_content content.now self.old) }
@@ -216,7 +218,7 @@ impl Contents {
         Ok(kept)
     }
 
-    /// Takes the last out.
+    /// Removes the last blob.
     pub(crate) fn pop(&mut self)
         ensures { self.new ≡ take (length self.old - 1) self.old }
     {
@@ -225,7 +227,7 @@ impl Contents {
         }
     }
 
-    /// Takes those from a place on out.
+    /// Removes the blobs from an index on.
     pub(crate) fn truncate(&mut self, place: usize)
         ensures { self.new ≡ take place self.old }
     {
@@ -235,7 +237,7 @@ impl Contents {
     }
 }
 
-// The contents again, if they are these bytes.
+// The blob again, if it has these bytes.
 fn shared(content: &Content, bytes: &[u8]) -> Result<Content, StoreFault>
     ensures same { IfOk result (λ made. (made ≡ bytes.now) × (content.now ≡ bytes.now)) }
     ensures differs { IfErr result (IsRefusal ⊥ ⊥ (content.now ≢ bytes.now)) }

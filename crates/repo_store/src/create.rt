@@ -1,4 +1,4 @@
-//! The tables of an empty store: one transaction.
+//! The tables of an empty store of version 2, made in one transaction (docs/REFERENCE.md, "The store").
 
 ghost use Rattle.std.specs.Prelude.{◌≡◌, [], false, IsTrue};
 ghost use Rattle.store_tables.specs.Schema.{no_schema};

@@ -1,5 +1,5 @@
-//! Whether files are the same. Contents are told apart by their digests, so that none of them is read: within a store no two
-//! contents have the same.
+//! Whether files are the same. Contents are compared by their digests without reading any, since no two blobs
+//! of a store have the same digest.
 
 ghost use Rattle.std.specs.Prelude.{◌≡◌, ◌≢◌, ◌↔◌, List, ℕ, map, IsTrue};
 ghost use Rattle.sha2.specs.Sha256.{sha256};
@@ -12,21 +12,21 @@ use crate::look_ups::file_at;
 use crate::shared::ListedFile;
 use hook_base::RepoPath;
 
-// Whether two files have the same mode, and contents of the same digest.
+// Whether two files have the same mode and the same digest.
 fn is_same_entry(file: &ListedFile, other: &ListedFile) -> bool
     ensures { IsTrue result ↔ ((file.now.mode ≡ other.now.mode) × (sha256 file.now.content ≡ sha256 other.now.content)) }
 {
     file.mode() == other.mode() && file.content().digest() == other.content().digest()
 }
 
-// Whether two files have the same path and mode, and contents of the same digest.
+// Whether two files have the same path, mode and digest.
 fn is_same_row(file: &ListedFile, other: &ListedFile) -> bool
     ensures { IsTrue result ↔ (staged_row (file_of file.now) ≡ staged_row (file_of other.now)) }
 {
     file.path() == other.path() && is_same_entry(file, other)
 }
 
-/// Whether there are as many files here as there, and each is the same as that of its index.
+/// Whether both have as many files, and the files at each index are the same.
 pub(crate) fn are_same_rows(files: &[ListedFile], others: &[ListedFile]) -> bool
     ensures { IsTrue result ↔ (map staged_row (map file_of files.now) ≡ map staged_row (map file_of others.now)) }
 {
@@ -41,8 +41,8 @@ pub(crate) fn are_same_rows(files: &[ListedFile], others: &[ListedFile]) -> bool
     true
 }
 
-/// Whether one path has other entries here and there, or an entry in one of both alone. This holds where all contents are
-/// among some that are told apart by their digests.
+/// Whether a path has different entries in the two, or an entry in only one of them. All contents must be
+/// among some of which no two have the same digest.
 pub(crate) fn differ_at(files: &[ListedFile], others: &[ListedFile], path: &RepoPath) -> bool
     requires rising { IsRising (map file_of files.now) }
     requires others { IsRising (map file_of others.now) }

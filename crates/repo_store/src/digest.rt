@@ -1,4 +1,4 @@
-//! What a digest is to the callers.
+//! A digest as callers see it.
 
 /// The SHA-256 of contents (FIPS 180-4).
 #[derive(Clone, Copy, Debug, PartialEq, Eq)]

@@ -16,7 +16,7 @@ use hook_base::Content;
 use sqlite::{Alter, Connection, Error, Transaction};
 use store_tables::{clear_fixes, put_staged, take_staged};
 
-// Puts the file of one edit, if any, in place of the one that stands at its path.
+// Removes the row at the path of an edit, and adds the edit's file, if any.
 fn edit_row<S: Alter>(tx: &mut Transaction<'_, S>, edit: &SharedEdit) -> Result<(), Error>
     ensures same_reference { tx.new.conn.ghost_name ≡ tx.old.conn.ghost_name }
     ensures step { IsStep S.Store tx.old.conn.now tx.new.conn.now result (λ t. with_staged_rows (edited_rows (edit_of edit.now) t.staged) t) }
@@ -49,7 +49,8 @@ fn edit_in<S: Alter>(
     Ok(())
 }
 
-/// Makes the edits one after another, keeps the contents that the table lacks, and forgets the fixes, in one transaction.
+/// Makes the edits one after another, keeps the blobs that the table lacks, and forgets the fixes, in one
+/// transaction.
 pub(crate) fn edit_rows<S: Alter>(
     conn: &mut Connection<S>,
     news: &[Content],

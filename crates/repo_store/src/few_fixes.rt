@@ -1,4 +1,4 @@
-//! Few fixes: the files that have one, and how each is put in place or taken out, so that the others aren't walked over.
+//! Applies few fixes: each fixed file is replaced or removed by itself, without a walk over all files.
 
 ghost use Rattle.std.specs.Prelude.{◌≡◌, ◌++◌, ◌+◌, ◌<◌, ◌^◌, map, is_some, IfOk, OnOk, IsTrue};
 ghost use Rattle.hook_base.specs.Trees.{IsRising, IsRisingChanges, apply_change, apply_changes, entry_of, put_row, remove_file};
@@ -11,7 +11,7 @@ use crate::shared::{ListedFile, SharedFix};
 use hook_base::{OutOfMemory, RepoPath};
 use std::alloc::Global;
 
-// Adds the file of a path, if it has one.
+// Adds the file of a path, if there is one.
 fn push_at(
     found: &mut Vec<ListedFile>,
     files: &[ListedFile],
@@ -42,7 +42,7 @@ pub(crate) fn files_with_fix(
     Ok(found)
 }
 
-// Puts a file in place of the one at its path.
+// Replaces the file at the path of this one.
 fn replace(files: &mut Vec<ListedFile>, file: ListedFile)
     requires rising { IsRising (map file_of files.old.items) }
     requires there { IsTrue (is_some (entry_of file.path (map file_of files.old.items))) }
@@ -54,8 +54,8 @@ fn replace(files: &mut Vec<ListedFile>, file: ListedFile)
     }
 }
 
-// Moves the file that the fixed ones have at the path of the fix in place of the one there; where they have none, takes that
-// out. Answers the bytes that the paths have less then.
+// Replaces the file at the path of a fix by the one that `fixed` has there, or removes it if `fixed` has
+// none. Returns by how many bytes the paths become shorter.
 fn settle(files: &mut Vec<ListedFile>, fixed: &mut Vec<ListedFile>, fix: &SharedFix) -> usize
     requires files_rise { IsRising (map file_of files.old.items) }
     requires fixed_rise { IsRising (map file_of fixed.old.items) }
@@ -73,7 +73,8 @@ fn settle(files: &mut Vec<ListedFile>, fixed: &mut Vec<ListedFile>, fix: &Shared
     }
 }
 
-/// Applies the fixes to the files, whose fixed ones are made already. Answers the bytes that the paths have less then.
+/// Applies the fixes to the files; `fixed` has the files at their paths with the fixes applied. Returns by
+/// how many bytes the paths become shorter.
 pub(crate) fn settle_all(
     files: &mut Vec<ListedFile>,
     fixed: Vec<ListedFile>,

@@ -1,14 +1,14 @@
-//! A file as the callers see it, without a copy.
+//! A file as callers see it, by reference.
 
 use hook_base::{Mode, RepoPath};
 
-/// A file of a store: its path and what stands there.
+/// A file of a store: its path, its mode and its contents.
 #[derive(Clone, Copy, Debug)]
 pub struct FileRef<'a> {
-    /// Where it stands.
+    /// Its path in the repository.
     pub path: &'a RepoPath,
-    /// Whether it is to be run as a program.
+    /// Whether it is executable.
     pub mode: Mode,
-    /// What it contains.
+    /// Its contents.
     pub bytes: &'a [u8],
 }

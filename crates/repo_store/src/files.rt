@@ -1,4 +1,4 @@
-//! A tree as a list of files that share their contents: looking up, putting, taking out.
+//! A tree as a sorted list of files that share their contents: look-ups, insertions and removals.
 
 ghost use Rattle.std.specs.Prelude.{◌≡◌, ◌↔◌, ◌+◌, ◌<◌, ◌^◌, map, is_some, IfOk, OnOk, MatchResult, IsTrue, vec_len, vec_capacity};
 ghost use Rattle.std.specs.Str.{IsUtf8};
@@ -13,7 +13,7 @@ use crate::shared::{ListedFile, SharedCommit};
 use hook_base::{Bytes, OutOfMemory, RepoPath};
 use store_faults::{MOST_FILES, MOST_TREE_PATH_BYTES};
 
-/// Where a path stands in files that rise: at the file of an index, or before it.
+/// The index of the file of a path in sorted files, or the index at which it would be inserted.
 pub(crate) fn place_of(files: &[ListedFile], path: &RepoPath) -> Result<usize, usize>
     requires { IsRising (map file_of files.now) }
     ensures { MatchResult result (IsAt path.now (map file_of files.now)) (IsGap path.now (map file_of files.now)) }
@@ -29,7 +29,7 @@ pub(crate) fn has_path(files: &[ListedFile], path: &RepoPath) -> bool
     place_of(files, path).is_ok()
 }
 
-/// The bytes of the paths together.
+/// The bytes of all paths together.
 pub(crate) fn count_path_bytes(files: &[ListedFile]) -> usize
     requires { path_bytes_of (map file_of files.now) < 2 ^ 64 }
     ensures { result ≡ path_bytes_of (map file_of files.now) }
@@ -37,7 +37,7 @@ pub(crate) fn count_path_bytes(files: &[ListedFile]) -> usize
     files.iter().map(|file| file.path().as_str().len()).sum()
 }
 
-/// Whether the files are within the limits of a staged tree.
+/// Whether the files are within the limits of a staged tree (docs/REFERENCE.md, "Limits").
 pub(crate) fn fit(files: &[ListedFile]) -> bool
     ensures { IsTrue result ↔ Fits (map file_of files.now) }
 {
@@ -55,7 +55,7 @@ pub(crate) fn fit(files: &[ListedFile]) -> bool
     true
 }
 
-/// Whether the files, whose paths have so many bytes, still fit when a file stands at the path too.
+/// Whether the files, whose paths have `path_bytes` bytes, still fit with a file at the path too.
 pub(crate) fn may_put(files: &[ListedFile], path_bytes: usize, path: &RepoPath) -> bool
     requires counted { path_bytes ≡ path_bytes_of (map file_of files.now) }
     requires rising { IsRising (map file_of files.now) }
@@ -74,8 +74,8 @@ pub(crate) fn may_put(files: &[ListedFile], path_bytes: usize, path: &RepoPath) 
     }
 }
 
-/// Puts a file, for which there is room, in place of the one at its path, or adds it. Answers the bytes that the paths have
-/// more then.
+/// Puts a file, for which there is room, in place of the one at its path, or adds it. Returns by how many
+/// bytes the paths become longer.
 pub(crate) fn put_file(files: &mut Vec<ListedFile>, file: ListedFile) -> usize
     requires rising { IsRising (map file_of files.old.items) }
     requires room { vec_len files.old < vec_capacity files.old }
@@ -95,7 +95,7 @@ pub(crate) fn put_file(files: &mut Vec<ListedFile>, file: ListedFile) -> usize
     }
 }
 
-/// Takes the file of a path out, if there is one. Answers the bytes that the paths have less then.
+/// Removes the file of a path, if there is one. Returns by how many bytes the paths become shorter.
 pub(crate) fn take_out(files: &mut Vec<ListedFile>, path: &RepoPath) -> usize
     requires { IsRising (map file_of files.old.items) }
     ensures files { map file_of files.new.items ≡ remove_file path.now (map file_of files.old.items) }

@@ -1,4 +1,4 @@
-//! The files with the fixes applied, in one walk over both: files and fixes stand in the order of their paths.
+//! The files with the fixes applied, in one walk over both, which are in the order of their paths.
 
 ghost use Rattle.std.specs.Prelude.{◌≡◌, ◌++◌, ◌∷◌, [], ℕ, List, map, IfNone, IfSome, IfOk, OnOk};
 ghost use Rattle.hook_base.specs.declared.file.File.{File};
@@ -12,7 +12,7 @@ use hook_base::{Content, OutOfMemory, RepoPath};
 use std::alloc::Global;
 use std::cmp::Ordering;
 
-// The fixes without those of earlier paths, which are of no file from the path on.
+// The fixes without those of earlier paths: these are of no file from the path on.
 fn from_path<'a>(fixes: &'a [SharedFix], path: &RepoPath) -> &'a [SharedFix]
     requires { IsRisingChanges (map fix_of fixes.now) }
     ensures rising { IsRisingChanges (map fix_of result.now) }
@@ -29,7 +29,7 @@ fn from_path<'a>(fixes: &'a [SharedFix], path: &RepoPath) -> &'a [SharedFix]
     left
 }
 
-// The first of the fixes, if it is of the path. None of the others is.
+// The first of the fixes, if it is of the path. No other can be.
 fn first_at<'a>(fixes: &'a [SharedFix], path: &RepoPath) -> Option<&'a SharedFix>
     requires rising { IsRisingChanges (map fix_of fixes.now) }
     requires reached { HasReached path.now (map fix_of fixes.now) }
@@ -61,7 +61,7 @@ fn with_content(
     ListedFile::of(alloc, path, file.mode(), content)
 }
 
-// Adds a file as the fixes leave it, of which none is of an earlier path.
+// Adds a file as the fixes leave it. None of the fixes is of an earlier path.
 fn push_fixed(
     alloc: Global,
     made: &mut Vec<ListedFile>,

@@ -51,8 +51,8 @@ fn set_in<S: Alter>(
     put_fixes(tx, fixes)
 }
 
-/// Sets the fixes, and keeps the contents that the table lacks, in one transaction. Where there were none and there are none,
-/// the table of fixes isn't touched, so that nothing is written and the disk isn't waited for.
+/// Sets the fixes, and keeps the blobs that the table lacks, in one transaction. If there were no fixes and
+/// there are none, the table of fixes isn't touched: nothing is written, and there is no wait for the disk.
 pub(crate) fn set_rows<S: Alter>(
     conn: &mut Connection<S>,
     news: &[Content],
@@ -68,7 +68,7 @@ pub(crate) fn set_rows<S: Alter>(
     replace_rows(conn, news, fixes)
 }
 
-// Sets the fixes in place of those that were there, and keeps the contents that the table lacks, in one transaction.
+// Replaces the fixes, and keeps the blobs that the table lacks, in one transaction.
 fn replace_rows<S: Alter>(
     conn: &mut Connection<S>,
     news: &[Content],

@@ -1,4 +1,4 @@
-//! All remembered answers taken out of the tables: one transaction.
+//! Removing all cached answers from the tables: one transaction.
 
 ghost use Rattle.std.specs.Prelude.{◌≡◌, ℕ, List, [], false};
 ghost use Rattle.store_tables.specs.Steps.{IsMade};
@@ -20,7 +20,7 @@ fn forget_in<S: Alter>(tx: &mut Transaction<'_, S>) -> Result<(), Error>
     clear_uses(tx)
 }
 
-/// Takes out all remembered answers and their uses, in one transaction.
+/// Removes all cached answers and their uses, in one transaction.
 pub(crate) fn forget_rows<S: Alter>(conn: &mut Connection<S>) -> Result<(), Error>
     requires { conn.old.in_transaction ≡ false }
     ensures { (t : Tables) (next : ℕ) (answers : List KeptAnswer) → IsCall S.Store conn.old conn.new result (λ db. HoldsListed next answers db t) (λ db. HoldsListed next [] db (without_answers t)) }

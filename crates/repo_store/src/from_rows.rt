@@ -1,5 +1,6 @@
-//! The lists that the rows of all tables stand for, and which rows are damage: one file a table, the columns that several
-//! tables have, and the parts of an answer that stand in records.
+//! Reads the lists from the rows of all tables, and finds which rows are damaged (docs/REFERENCE.md, "The
+//! store"). There is one file for each table, one for columns that several tables have, and one for each
+//! record of an answer.
 
 mod answers;
 mod blobs;
@@ -47,7 +48,7 @@ use store_faults::FIRST_LIMIT;
 use store_tables::UseRow;
 pub(crate) use uses::follow_uses;
 
-/// The lists that these rows stand for, but for how lately the answers were used: the last row gives the first one.
+/// The lists that these rows hold, except for the order of the answers: that of the last row comes first.
 fn lists_of(alloc: Global, limit: u32, rows: StoreRows) -> Result<Lists, StoreFault>
     requires { IsLimit limit }
     ensures same { IfOk result (λ lists. (meta : List MetaRow) → IsSame (rows_in meta rows) (tables_with meta lists.kept)) }
@@ -75,7 +76,8 @@ fn lists_of(alloc: Global, limit: u32, rows: StoreRows) -> Result<Lists, StoreFa
     Ok(Lists::of(contents, history, staged, fixes, answers))
 }
 
-// The lists that these rows stand for, no more answers than the limit, in the order of their uses.
+// The lists that these rows hold, with the answers in the order of their uses. More answers than the limit
+// are damage.
 fn lists_within(
     alloc: Global,
     limit: u32,
@@ -99,7 +101,8 @@ fn lists_within(
     Ok(lists)
 }
 
-/// The lists of a store of version 2. Its rows come in the order of their keys, and the uses in that of their ticks.
+/// The lists of a store of version 2. Its rows come in the order of their keys, and the uses in that of their
+/// ticks.
 pub(crate) fn second_lists_of(
     alloc: Global,
     tables: TableRows,
@@ -122,8 +125,8 @@ pub(crate) fn second_lists_of(
     }
 }
 
-/// The lists of a store of version 1, whose answers stand in the order that a migration gives them. Its rows come in the order of
-/// their keys: others are `Sql`.
+/// The lists of a store of version 1, with the answers in the order that a migration gives them. The answers
+/// must come in the order of their keys: any other order is `Sql`.
 pub(crate) fn first_lists_of(alloc: Global, tables: TableRows) -> Result<Lists, StoreFault>
     ensures same { IfOk result (λ lists. IsSame (rows_in tables.meta.items tables.store) (first_tables_of lists.kept)) }
     ensures fall { IfOk result (λ lists. IsAscending (λ a b. key_cmp (key_of b) (key_of a) ≡ Less) lists.kept.answers) }

@@ -1,4 +1,4 @@
-//! Digests that are known of the contents at a path, so that what is staged already isn't hashed anew.
+//! Digests that are known from a file or a fix at the same path, so that staged contents aren't hashed again.
 
 ghost use Rattle.std.specs.Prelude.{◌≡◌, IfSome};
 ghost use Rattle.sha2.specs.Sha256.{sha256};
@@ -7,7 +7,8 @@ use crate::shared::{ListedFile, SharedFix};
 use hook_base::{Content, RepoPath};
 use sha2::{Digest as _, Sha256};
 
-/// The SHA-256 of contents at a path. Where a file or a fix has the same at that path, it is known.
+/// The SHA-256 of contents at a path (FIPS 180-4). It isn't computed if a file or a fix has the same contents
+/// at that path.
 pub(crate) fn digest_of(
     files: &[ListedFile],
     fixes: &[SharedFix],
@@ -25,7 +26,7 @@ pub(crate) fn digest_of(
     Sha256::digest(bytes)
 }
 
-// The digest of contents, where the files have the same at the path.
+// The digest of contents, if the files have the same contents at the path.
 fn digest_in_files(files: &[ListedFile], path: &RepoPath, bytes: &[u8]) -> Option<[u8; 32]>
     ensures { IfSome result (λ digest. digest ≡ sha256 bytes.now) }
 {
@@ -35,7 +36,7 @@ fn digest_in_files(files: &[ListedFile], path: &RepoPath, bytes: &[u8]) -> Optio
     }
 }
 
-// The digest of contents, where the fixes give the same to the path.
+// The digest of contents, if the fixes give the same contents to the path.
 fn digest_in_fixes(fixes: &[SharedFix], path: &RepoPath, bytes: &[u8]) -> Option<[u8; 32]>
     ensures { IfSome result (λ digest. digest ≡ sha256 bytes.now) }
 {

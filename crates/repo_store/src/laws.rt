@@ -1,5 +1,5 @@
-//! Laws of the definitions that the contracts cite. Each is a function that gives nothing: what it ensures is a theorem
-//! over the definitions alone.
+//! Laws of the definitions that the contracts cite. Each is a function without a result: what it ensures is a
+//! theorem over the definitions alone.
 
 ghost use Rattle.std.specs.Prelude.{◌≡◌};
 ghost use Rattle.sqlite.specs.Effect.{Database};
@@ -19,28 +19,30 @@ ghost use Rattle.repo_store.specs.RowRules.{AreStoreRows};
 
 use crate::limits::GREATEST_TICK;
 
-/// A database holds one complete repository at most: if two stand in its tables, they have the same commits, staged files and
-/// fixes, the same remembered answers in one order, with one limit, and the same contents in some order. So trees that a crash
-/// leaves as a store with one of them (`trees`) are no store with another.
+/// A database holds at most one complete repository. If its tables hold two, these have the same commits,
+/// staged files and fixes. They also have the same cached answers in one order, with one limit, and the same
+/// contents in some order. So trees that a crash leaves as a store with one of them (`trees`) are no store
+/// with another.
 pub fn a_database_holds_one_repository()
     ensures tables { (db : Database) (a b : Kept) → IsComplete a → IsComplete b → HoldsStore db a → HoldsStore db b → AreAlike a b }
     ensures trees { (trees : Trees) (a b : Kept) → Leaves a trees → Leaves b trees → AreAlike a b }
 {}
 
-/// What the calls and a crash leave is a store: trees that keep a repository are neither a damaged store nor no store. So
-/// `open` refuses a database that holds a complete one (`tables`) only where memory or the database refuses.
+/// What the calls and a crash leave is a store: trees that keep a repository are neither a damaged store nor
+/// no store. So `open` refuses a database that holds a complete one (`tables`) only if memory or the database
+/// refuses.
 pub fn what_is_left_is_a_store()
     ensures tables { (db : Database) (kept : Kept) (fault : StoreFault) → HoldsStore db kept → IsComplete kept → AreStoreRows (tables_of kept) → IsUnfit db fault → IsRefusal ⊥ ⊥ ⊥ fault }
     ensures undamaged { (trees : Trees) (kept : Kept) → Leaves kept trees → ¬ IsUnfit (as_store trees) Damaged }
     ensures versioned { (trees : Trees) (kept : Kept) → Leaves kept trees → ¬ IsUnfit (as_store trees) NotAStore }
 {}
 
-/// Not every two stores are alike: none is like the empty one but itself.
+/// Not all stores are alike: only the empty store is like the empty one.
 pub fn only_the_empty_store_is_like_it()
     ensures { (kept : Kept) → AreAlike nothing_kept kept → kept ≡ nothing_kept }
 {}
 
-/// The greatest tick of the program is that which the contracts name.
+/// The greatest tick in the code is the one that the contracts name.
 pub fn the_greatest_tick_is_that_of_the_contracts()
     ensures { GREATEST_TICK ≡ greatest_tick }
 {}

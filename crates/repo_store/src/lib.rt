@@ -1,26 +1,51 @@
-//! A repository that is kept in SQL: its commits, the staged files and the fixes, and the answers of children that are
-//! remembered, each change one transaction. The public types are `Store`, `StoreFault`, `Digest` (of contents), `LogEntry` (a
-//! commit in the log), `StagingEdit` and `StagingRefusal` (changes of the staged files that are asked for together, and which of them is
-//! refused), `FileRef` (a file without a copy), `AnswerRef` (an answer without a copy) and `StoredAnswer` (a copy of
-//! one that is remembered), and the constants are the limits.
+//! A repository that is kept in SQL: its commits, the staged files, the fixes and the cached answers of
+//! children. Each change is one transaction. A cached answer is what docs/REFERENCE.md, "Cached results",
+//! calls a cached result; "The store" there has the format.
 //!
-//! Contracts cite `specs/Repository` and `specs/Log` (the repository as plain lists), `specs/Answers` (the answers of children,
-//! and which one is remembered for words and seen files), `specs/WrittenAnswers` (how an answer is written down, and which
-//! contents are kept for it, in which order), `specs/UsedAnswers` (the remembered answers as a list with a limit, and what a use, a
-//! new answer and a new limit make of it), `specs/Kept`, `specs/AllOrNothing` and `specs/Contents` (what each call makes of
-//! the repository, of the answers and of the contents, and which collide), `specs/Edits` (what several changes of the staged files come to), `specs/Clashes` (which paths can't stand beside one another),
-//! `specs/FileRefs` (the file that is shown by reference), `specs/AnswerRefs` and `specs/Remembering` (an answer that is handed
-//! over by reference or given as a copy, and what a store makes of one that it is to remember), `specs/Limits`, `specs/Faults`
-//! (the refusals, and when each may come), `specs/Rows` (the tables of a repository), `specs/RowRules` (the rules of their rows),
-//! `specs/Bounded` and `specs/UsesOf` (what a store holds, the rules of a store with a limit, how its uses tell the order of the
-//! answers, and what becomes of a store of version 1),
-//! `specs/Sound` and `specs/SoundAnswers` (a repository in order and within the limits, and such an answer), `specs/Complete` (a
-//! complete one, with its contents), `specs/Calls` and `specs/Shown` (what is seen of a store, and what a refusal or a crash
-//! leaves), and `specs/Unfit` (why a database isn't opened). `specs/Lists`, `specs/Accepted`, `specs/FromRows`, `specs/Index`,
-//! `specs/KeptContents`, `specs/ListedAnswers`, `specs/Remembered`, `specs/Shared`, `specs/SharedAnswers`, `specs/SharedEdits`,
-//! `specs/Opening`, `specs/Standing` and `specs/Transactions` serve private functions only. `specs/AnswerLemmas` has the lemmas on remembered answers that callers need: which is found, and
-//! what remembering one makes of that. [`laws`] says that a database holds one complete repository at most, and that what the
-//! calls and a crash leave is never taken for a damaged store or for none.
+//! The public types are:
+//! - `Store`;
+//! - `StoreFault`, why a call is refused;
+//! - `Digest`, of contents;
+//! - `LogEntry`, a commit in the log;
+//! - `StagingEdit`, a requested change of the staged files;
+//! - `StagingRefusal`, which of several changes is refused, and why;
+//! - `FileRef`, a file by reference;
+//! - `AnswerRef`, an answer by reference;
+//! - `StoredAnswer`, a copy of a cached answer;
+//! - `StoreBook`, a store as a book.
+//!
+//! The constants are the limits.
+//!
+//! Contracts cite these definitions:
+//! - `specs/Repository` and `specs/Log`: the repository as plain lists;
+//! - `specs/Answers`: the answers of children, and which one is cached for words and seen files;
+//! - `specs/WrittenAnswers`: an answer's records, and which contents are kept for it, in which order;
+//! - `specs/UsedAnswers`: the cached answers as a list with a limit, and what a use, an added answer and a
+//!   changed limit make of it;
+//! - `specs/Kept`, `specs/AllOrNothing` and `specs/Contents`: what each call makes of the repository, of the
+//!   answers and of the contents, and which contents collide;
+//! - `specs/Edits`: what several changes of the staged files make of them;
+//! - `specs/Clashes`: which paths can't be in one tree;
+//! - `specs/FileRefs`: a file that is shown by reference;
+//! - `specs/AnswerRefs` and `specs/Remembering`: an answer that is given by reference or returned as a copy,
+//!   and what a store makes of one that it is to cache;
+//! - `specs/Limits` and `specs/Faults` of `store_faults`: the limits, and the refusals with when each may
+//!   come;
+//! - `specs/Rows` and `specs/RowRules`: the tables of a repository, and the rules of their rows;
+//! - `specs/Bounded` and `specs/UsesOf`: what a store holds, the rules of a store with a limit, how its uses
+//!   give the order of the answers, and how version 1 is migrated;
+//! - `specs/Sound` and `specs/SoundAnswers`: a repository in order and within the limits, and such an answer;
+//! - `specs/Complete`: a complete repository, with its contents;
+//! - `specs/Calls` and `specs/Shown`: what is seen of a store, and what a refusal or a crash leaves;
+//! - `specs/StoreBooks`: a store as a book;
+//! - `specs/Unfit`: why a database isn't opened;
+//! - `specs/AnswerLemmas` and `specs/RestLemmas`: lemmas that callers need. They say which cached answer is
+//!   found, what caching one changes of that, and what rests over calls of a store as a book.
+//!
+//! The other files of `specs` serve private functions only.
+//!
+//! [`laws`] says that a database holds at most one complete repository. It also says that what the calls and
+//! a crash leave is never taken for a damaged store or for none.
 #![tactic(auto)]
 
 mod accept;

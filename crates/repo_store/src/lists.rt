@@ -58,13 +58,13 @@ mod staging;
 
 pub(crate) use staging::Edited;
 
-/// A repository in memory, with the contents that are kept and the answers that are remembered.
+/// A repository in memory, with the blobs that are kept and the cached answers.
 #[derive(Drop)]
 pub(crate) struct Lists {
     contents: Contents,
     history: Vec<SharedCommit>,
     staged: Vec<ListedFile>,
-    // The bytes of the staged paths together.
+    // The bytes of all staged paths together.
     staged_bytes: usize,
     fixes: Vec<SharedFix>,
     answers: AnswerList,
@@ -156,14 +156,14 @@ impl Lists {
         Ok(())
     }
 
-    /// How many contents are kept.
+    /// How many blobs are kept.
     pub(crate) fn count(&self) -> usize
         ensures { result ≡ length self.now.kept.contents }
     {
         self.contents.len()
     }
 
-    /// The contents from a place on.
+    /// The blobs from an index on.
     pub(crate) fn since(&self, place: usize) -> &[Content]
         requires { place ≤ length self.now.kept.contents }
         ensures { result.now ≡ drop place self.now.kept.contents }
@@ -171,7 +171,7 @@ impl Lists {
         self.contents.since(place)
     }
 
-    /// The bytes as contents, kept anew where they aren't there yet. A refusal leaves all as it was.
+    /// The blob of these bytes, which is added if there is none yet. A refusal leaves everything as it was.
     pub(crate) fn keep(&mut self, bytes: &[u8]) -> Result<Content, StoreFault>
         ensures content { IfOk result (λ content. content ≡ bytes.now) }
         ensures kept { OnOk result (self.new ≡ record self.old { kept = keeping bytes.now self.old.kept }) }
@@ -183,7 +183,7 @@ impl Lists {
         self.contents.keep(bytes)
     }
 
-    // The bytes as contents, as `keep` gives them. They stand at a path, where their digest may be known.
+    // As `keep`, for bytes at a path: their digest may be known there.
     fn keep_at(&mut self, path: &RepoPath, bytes: &[u8]) -> Result<Content, StoreFault>
         ensures content { IfOk result (λ content. content ≡ bytes.now) }
         ensures kept { OnOk result (self.new ≡ record self.old { kept = keeping bytes.now self.old.kept }) }
@@ -199,14 +199,15 @@ impl Lists {
         self.contents.keep_under(digest, bytes)
     }
 
-    /// Forgets the contents from a place on.
+    /// Forgets the blobs from an index on.
     pub(crate) fn forget_since(&mut self, place: usize)
         ensures { self.new ≡ record self.old { kept = record self.old.kept { contents = take place self.old.kept.contents } } }
     {
         self.contents.truncate(place);
     }
 
-    /// A file that may be staged, with room for it, whose contents are kept. A refusal leaves all as it was.
+    /// A file that can be staged, with room for it, whose contents are kept. A refusal leaves everything as
+    /// it was.
     pub(crate) fn prepare(
         &mut self,
         path: &RepoPath,
@@ -224,7 +225,7 @@ impl Lists {
         ensures path { IsRepoPath path.now }
         ensures utf8 { IsUtf8 path.now }
     {
-        // The size of the contents goes before the number of the files.
+        // The size of the contents is tested before the number of the files.
         let fits = may_put(self.staged.as_slice(), self.staged_bytes, path);
         if bytes.len() > MOST_CONTENT_BYTES {
             return Err(StoreFault::TooLarge);
@@ -263,7 +264,7 @@ impl Lists {
         self.history.len() as u32
     }
 
-    /// The next commit, of the staged files, with room for it. A refusal leaves all as it was.
+    /// The next commit, of the staged files, with room for it. A refusal leaves everything as it was.
     pub(crate) fn prepare_commit(&mut self, message: &[u8]) -> Result<SharedCommit, StoreFault>
         ensures commit { IfOk result (λ commit. commit_of commit ≡ record { message = message.now; tree = self.old.kept.repo.staged }) }
         ensures room { OnOk result (self.new.has_room ≡ true) }
@@ -293,7 +294,7 @@ impl Lists {
         self.fixes.clear();
     }
 
-    // A fix, whose contents are kept. A refusal leaves all as it was.
+    // A fix, whose contents are kept. A refusal leaves everything as it was.
     fn share_fix(&mut self, change: &Change) -> Result<SharedFix, StoreFault>
         ensures fix { IfOk result (λ fix. fix_of fix ≡ change.entry.now) }
         ensures kept { OnOk result (self.new.kept ≡ record self.old.kept { contents = with_new change.entry.now.now self.old.kept.contents }) }
@@ -322,7 +323,7 @@ impl Lists {
         has_path(self.staged.as_slice(), path)
     }
 
-    // The changes of staged files, whose contents are kept; at a refusal those of some of them are.
+    // The changes of staged files, whose contents are kept. After a refusal those of some changes are kept.
     fn share_fixes(&mut self, changes: &[Change]) -> Result<Vec<SharedFix>, StoreFault>
         ensures fixes { IfOk result (λ fixes. map fix_of fixes.items ≡ staged_changes changes.now self.old.kept.repo.staged) }
         ensures kept { OnOk result (self.new.kept.contents ≡ with_changes (staged_changes changes.now self.old.kept.repo.staged) self.old.kept.contents) }
@@ -351,7 +352,7 @@ impl Lists {
         Ok(fixes)
     }
 
-    /// The changes of staged files, whose contents are kept. A refusal leaves all as it was.
+    /// The changes of staged files, whose contents are kept. A refusal leaves everything as it was.
     pub(crate) fn prepare_fixes(&mut self, changes: &[Change]) -> Result<Vec<SharedFix>, StoreFault>
         requires { IsRisingChanges changes.now }
         ensures fixes { IfOk result (λ fixes. map fix_of fixes.items ≡ staged_changes changes.now self.old.kept.repo.staged) }
@@ -389,7 +390,7 @@ impl Lists {
         tree_of(*self.staged.allocator(), self.staged.as_slice())
     }
 
-    // The files of the last commit, and none where there is no commit.
+    // The files of the last commit, or none if there is no commit.
     fn head_files(&self) -> &[ListedFile]
         ensures files { map file_of result.now ≡ last_tree self.now.kept.repo.history }
         ensures rising { IsRising (map file_of result.now) }
@@ -400,7 +401,7 @@ impl Lists {
         }
     }
 
-    /// The files of the last commit, which the tree shares, and none where there is no commit.
+    /// The files of the last commit, which the tree shares, or none if there is no commit.
     pub(crate) fn head(&self) -> Result<Tree, OutOfMemory>
         ensures { IfOk result (λ tree. tree ≡ last_tree self.now.kept.repo.history) }
     {
@@ -432,7 +433,7 @@ impl Lists {
         self.history.get(number as usize - 1)
     }
 
-    // The files of a commit, and none where no commit has the number.
+    // The files of a commit, or none if no commit has the number.
     fn files_at(&self, number: u32) -> &[ListedFile]
         ensures { map file_of result.now ≡ tree_at number self.now.kept.repo.history }
     {
@@ -442,7 +443,7 @@ impl Lists {
         }
     }
 
-    /// The files of a commit, or none where there is no commit of this number.
+    /// The files of a commit, or `None` if no commit has this number.
     pub(crate) fn tree_of(&self, number: u32) -> Result<Option<Tree>, OutOfMemory>
         ensures { IfOk result (λ tree. tree ≡ option_map (λ (commit : Commit). commit.tree) (commit_at number self.now.kept.repo.history)) }
     {
@@ -455,7 +456,7 @@ impl Lists {
         }
     }
 
-    /// The message of a commit, or none where there is no commit of this number.
+    /// The message of a commit, or `None` if no commit has this number.
     pub(crate) fn message_of(&self, number: u32) -> Option<&[u8]>
         ensures { option_copied result ≡ option_map (λ (commit : Commit). commit.message) (commit_at number self.now.kept.repo.history) }
     {
@@ -465,7 +466,7 @@ impl Lists {
         }
     }
 
-    /// The mode of a staged file, or none where the path isn't staged.
+    /// The mode of a staged file, or `None` if the path isn't staged.
     pub(crate) fn staged_mode(&self, path: &RepoPath) -> Option<Mode>
         ensures { result ≡ option_map (λ (entry : FileEntry). entry.mode) (entry_of path.now self.now.kept.repo.staged) }
     {
@@ -475,21 +476,22 @@ impl Lists {
         }
     }
 
-    /// The contents of a staged file, or none where the path isn't staged.
+    /// The contents of a staged file, or `None` if the path isn't staged.
     pub(crate) fn staged_bytes(&self, path: &RepoPath) -> Option<&[u8]>
         ensures { option_copied result ≡ option_map (λ (entry : FileEntry). entry.bytes) (entry_of path.now self.now.kept.repo.staged) }
     {
         bytes_at(self.staged.as_slice(), path)
     }
 
-    /// The new contents that the fixes give to a path, or none where they give it none.
+    /// The new contents that the fixes give to a path, or `None` if they give it none.
     pub(crate) fn fixed_bytes(&self, path: &RepoPath) -> Option<&[u8]>
         ensures { option_copied result ≡ fixed_bytes path.now self.now.kept.repo.fixes }
     {
         fixed_at(self.fixes.as_slice(), path)
     }
 
-    /// The contents of a commit's file, or none where no commit has the number and where the commit has no file at the path.
+    /// The contents of a commit's file, or `None` if no commit has the number or the commit has no file at
+    /// the path.
     pub(crate) fn committed_bytes(&self, number: u32, path: &RepoPath) -> Option<&[u8]>
         ensures { option_copied result ≡ option_map (λ (entry : FileEntry). entry.bytes) (entry_of path.now (tree_at number self.now.kept.repo.history)) }
     {
@@ -499,28 +501,28 @@ impl Lists {
         }
     }
 
-    /// Whether a path can't stand beside the staged files.
+    /// Whether a path clashes with the staged files.
     pub(crate) fn clashes(&self, path: &RepoPath) -> bool
         ensures { IsTrue result ↔ Clashes path.now self.now.kept.repo.staged }
     {
         clashes(self.staged.as_slice(), path)
     }
 
-    /// The staged file of an index, without a copy.
+    /// The staged file at an index, by reference.
     pub(crate) fn staged_file(&self, index: usize) -> Option<FileRef<'_>>
         ensures { option_map copied_file result ≡ slice_get self.now.kept.repo.staged index }
     {
         shown_at(self.staged.as_slice(), index)
     }
 
-    /// The file of an index in the last commit, without a copy.
+    /// The file at an index of the last commit, by reference.
     pub(crate) fn head_file(&self, index: usize) -> Option<FileRef<'_>>
         ensures { option_map copied_file result ≡ slice_get (last_tree self.now.kept.repo.history) index }
     {
         shown_at(self.head_files(), index)
     }
 
-    /// The file of an index in a commit, without a copy.
+    /// The file at an index of a commit, by reference.
     pub(crate) fn commit_file(&self, number: u32, index: usize) -> Option<FileRef<'_>>
         ensures { option_map copied_file result ≡ slice_get (tree_at number self.now.kept.repo.history) index }
     {
@@ -534,28 +536,28 @@ impl Lists {
         has_path(self.head_files(), path)
     }
 
-    /// Whether the staged files are others than those of the last commit.
+    /// Whether the staged files differ from those of the last commit.
     pub(crate) fn differs_from_head(&self) -> bool
         ensures { IsComplete self.now.kept → IsTrue result ↔ (self.now.kept.repo.staged ≢ last_tree self.now.kept.repo.history) }
     {
         !are_same_rows(self.staged.as_slice(), self.head_files())
     }
 
-    /// Whether what is staged at a path is another than what the last commit has there.
+    /// Whether what is staged at a path differs from what the last commit has there.
     pub(crate) fn differs_from_head_at(&self, path: &RepoPath) -> bool
         ensures { IsComplete self.now.kept → IsTrue result ↔ (entry_of path.now self.now.kept.repo.staged ≢ entry_of path.now (last_tree self.now.kept.repo.history)) }
     {
         differ_at(self.staged.as_slice(), self.head_files(), path)
     }
 
-    /// How many answers are remembered.
+    /// How many answers are cached.
     pub(crate) fn count_answers(&self) -> u64
         ensures { result ≡ length self.now.kept.answers }
     {
         self.answers.len() as u64
     }
 
-    /// An answer to be remembered, whose contents are kept. A refusal leaves all as it was.
+    /// An answer to be cached, whose contents are kept. A refusal leaves everything as it was.
     pub(crate) fn prepare_answer(
         &mut self,
         words: &[Text],
@@ -574,7 +576,8 @@ impl Lists {
         keep_answer(alloc, &mut self.contents, words, seen, answer)
     }
 
-    /// What is remembered for the words and the seen files, as a copy with its key, or none where nothing is.
+    /// A copy of the answer that is cached for the words and the seen files, with its key, or `None` if there
+    /// is none.
     pub(crate) fn find_answer(
         &self,
         words: &[Text],
@@ -606,7 +609,7 @@ impl Lists {
         }
     }
 
-    /// How many answers are remembered at most.
+    /// How many answers are cached at most.
     pub(crate) fn answer_limit(&self) -> u32
         ensures is { result ≡ self.now.kept.limit }
         ensures within { IsLimit result }
@@ -614,14 +617,14 @@ impl Lists {
         self.answers.limit()
     }
 
-    /// The tick that the next use of an answer had when they were read.
+    /// The tick that the next use of an answer had when the lists were read.
     pub(crate) fn next(&self) -> u64
         ensures { result ≡ self.now.next }
     {
         self.answers.next()
     }
 
-    /// Notes the tick that the next use of an answer gets.
+    /// Sets the tick that the next use of an answer gets.
     pub(crate) fn set_next(&mut self, next: u64)
         requires { IsNextTick next }
         ensures kept { self.new.kept ≡ self.old.kept }
@@ -630,14 +633,14 @@ impl Lists {
         self.answers.set_next(next);
     }
 
-    /// Whether the key of the answer that was used last has these digests.
+    /// Whether the key of the most recently used answer has these digests.
     pub(crate) fn is_first_answer(&self, words: [u8; 32], seen: [u8; 32]) -> bool
         ensures { IsTrue result ↔ (first_key self.now.kept.answers ≡ Some (words, seen)) }
     {
         self.answers.is_first(words, seen)
     }
 
-    /// Whether an answer of this one's key is remembered.
+    /// Whether an answer with the key of this one is cached.
     pub(crate) fn has_key_of(&self, answer: &SharedAnswer) -> bool
         ensures there { IsTrue result → Any (λ (other : KeptAnswer). key_of other ≡ key_of answer.now) self.now.kept.answers }
         ensures absent { result ≡ false → AllByRecursion (λ (other : KeptAnswer). ¬ (key_of other ≡ key_of answer.now)) self.now.kept.answers }
@@ -647,7 +650,7 @@ impl Lists {
         self.answers.find(words, seen).is_some()
     }
 
-    /// The answer that was used last. There must be one.
+    /// The most recently used answer. There must be one.
     pub(crate) fn newest_answer(&self) -> &SharedAnswer
         requires { self.now.kept.answers ≢ [] }
         ensures { slice_get self.now.kept.answers 0 ≡ Some result.now }
@@ -655,7 +658,7 @@ impl Lists {
         self.answers.newest()
     }
 
-    /// The key of the last answer, where there is one more than there may be.
+    /// The key of the last answer, if there is one more than there may be.
     pub(crate) fn surplus(&self) -> Option<([u8; 32], [u8; 32])>
         ensures over { IfSome result (λ key. (self.now.kept.limit < length self.now.kept.answers) × (last_key self.now.kept.answers ≡ Some key)) }
         ensures within { IfNone result (length self.now.kept.answers ≤ self.now.kept.limit) }
@@ -674,7 +677,7 @@ impl Lists {
         self.answers.keys(alloc)
     }
 
-    /// Puts an answer, whose key none has, in front of the others. There may be one too many then.
+    /// Puts an answer, whose key no other has, in front of the others. There may be one too many then.
     pub(crate) fn add_answer(&mut self, answer: SharedAnswer) -> Result<(), OutOfMemory>
         requires { AllByRecursion (λ (other : KeptAnswer). ¬ (key_of other ≡ key_of answer)) self.old.kept.answers }
         ensures added { OnOk result (self.new.kept ≡ record self.old.kept { answers = answer ∷ self.old.kept.answers }) }
@@ -683,14 +686,14 @@ impl Lists {
         self.answers.add(answer)
     }
 
-    /// Takes the first answer out again.
+    /// Removes the first answer again.
     pub(crate) fn take_answer_back(&mut self)
         ensures { self.new.kept ≡ record self.old.kept { answers = drop 1 self.old.kept.answers } }
     {
         self.answers.take_back();
     }
 
-    /// Puts an answer in place of the one of its key, in front of the others.
+    /// Replaces the answer of the same key, and puts the new one in front of the others.
     pub(crate) fn replace_answer(&mut self, answer: SharedAnswer)
         requires there { Any (λ (other : KeptAnswer). key_of other ≡ key_of answer) self.old.kept.answers }
         requires told { AllByRecursion (TellsKey answer) self.old.kept.answers }
@@ -706,7 +709,7 @@ impl Lists {
         self.answers.bring(words, seen);
     }
 
-    /// So many answers are remembered at most, and those that were used least lately go.
+    /// Sets how many answers are cached at most, and removes the least recently used if there are more.
     pub(crate) fn limit_answers(&mut self, limit: u32)
         requires { IsLimit limit }
         ensures { self.new.kept ≡ limiting limit self.old.kept }
@@ -763,7 +766,7 @@ impl Lists {
         self.fixes.clear();
     }
 
-    /// Takes a path out of the staged files, and forgets the fixes.
+    /// Removes a path from the staged files, and forgets the fixes.
     pub(crate) fn unstage(&mut self, path: &RepoPath)
         ensures { self.new.kept ≡ unstaging path.now self.old.kept }
     {

@@ -1,4 +1,4 @@
-//! Single files, found among others and shown without a copy, and the digests of their contents.
+//! Single files, looked up among others and shown by reference, and the contents of files and fixes.
 
 ghost use Rattle.std.specs.Prelude.{◌≡◌, map, option_map, slice_get};
 ghost use Rattle.std.specs.Option.{option_copied};
@@ -13,7 +13,7 @@ use crate::files::place_of;
 use crate::shared::{ListedFile, SharedFix};
 use hook_base::RepoPath;
 
-/// The file of a path, if it has one.
+/// The file of a path, if there is one.
 pub(crate) fn file_at<'a>(files: &'a [ListedFile], path: &RepoPath) -> Option<&'a ListedFile>
     requires { IsRising (map file_of files.now) }
     ensures { option_map entry_in (option_copied result) ≡ entry_of path.now (map file_of files.now) }
@@ -24,7 +24,7 @@ pub(crate) fn file_at<'a>(files: &'a [ListedFile], path: &RepoPath) -> Option<&'
     }
 }
 
-/// The contents of the file of a path, if it has one.
+/// The contents of the file of a path, if there is one.
 pub(crate) fn bytes_at<'a>(files: &'a [ListedFile], path: &RepoPath) -> Option<&'a [u8]>
     requires { IsRising (map file_of files.now) }
     ensures { option_copied result ≡ option_map (λ (entry : FileEntry). entry.bytes) (entry_of path.now (map file_of files.now)) }
@@ -35,7 +35,7 @@ pub(crate) fn bytes_at<'a>(files: &'a [ListedFile], path: &RepoPath) -> Option<&
     }
 }
 
-/// The new contents that the fixes give to a path, if one does.
+/// The new contents that the fixes give to a path, if any.
 pub(crate) fn fixed_at<'a>(fixes: &'a [SharedFix], path: &RepoPath) -> Option<&'a [u8]>
     ensures { option_copied result ≡ fixed_bytes path.now (map fix_of fixes.now) }
 {
@@ -57,7 +57,7 @@ fn new_bytes(fix: &SharedFix) -> Option<&[u8]>
     }
 }
 
-/// The file without a copy.
+/// The file by reference.
 pub(crate) fn shown(file: &ListedFile) -> FileRef<'_>
     ensures { copied_file result ≡ file_of file.now }
 {
@@ -68,7 +68,7 @@ pub(crate) fn shown(file: &ListedFile) -> FileRef<'_>
     }
 }
 
-/// The file of an index, without a copy, if there is one.
+/// The file at an index, by reference, if there is one.
 pub(crate) fn shown_at(files: &[ListedFile], index: usize) -> Option<FileRef<'_>>
     ensures { option_map copied_file result ≡ slice_get (map file_of files.now) index }
 {

@@ -1,4 +1,4 @@
-//! A store of version 1 made one of version 2, inside a transaction.
+//! The migration of a store from version 1 to version 2 (docs/REFERENCE.md, "A store of version 1").
 
 ghost use Rattle.std.specs.Prelude.{◌≡◌, false, ℕ, ◌+◌, ◌≤◌, List, [], ◌++◌, pos, length, map, reverse, take, OnOk};
 ghost use Rattle.store_tables.specs.Steps.{IsMade};
@@ -17,7 +17,8 @@ use sqlite::{Alter, Connection, Error, Transaction};
 use store_faults::FIRST_LIMIT;
 use store_tables::{make_uses, put_meta, replace_meta};
 
-// Makes the table of uses, numbers those of all keys, and takes out the answers under the first of these.
+// Makes the table of uses, numbers the uses of all keys, and removes the answers under the first `dropped`
+// keys.
 fn list_in<S: Alter>(
     tx: &mut Transaction<'_, S>,
     keys: &[([u8; 32], [u8; 32])],
@@ -33,7 +34,7 @@ fn list_in<S: Alter>(
     drop_all_in(tx, &keys[..dropped])
 }
 
-// The same, and writes the limit and the version down.
+// The same, and writes the limit and the version.
 fn mark_in<S: Alter>(
     tx: &mut Transaction<'_, S>,
     keys: &[([u8; 32], [u8; 32])],
@@ -49,8 +50,8 @@ fn mark_in<S: Alter>(
     replace_meta(tx, "version", 2)
 }
 
-// The same, told of the answers: the keys are those of all, the last one first, and the first of them, so many, those of the
-// answers that are taken out.
+// The same, as a contract on the answers: the keys are those of all answers, the last one first. The first
+// `dropped` of them are those of the answers that are removed.
 fn migrate_in<S: Alter>(
     tx: &mut Transaction<'_, S>,
     keys: &[([u8; 32], [u8; 32])],
@@ -64,9 +65,9 @@ fn migrate_in<S: Alter>(
     mark_in(tx, keys, dropped)
 }
 
-/// Makes a store of version 2 of one of version 1, in one transaction. The keys are those of all its answers, the last one first,
-/// and the first of the keys, so many, are those of the answers that are taken out. `TooBig` comes where there are more answers
-/// than ticks.
+/// Migrates a store from version 1 to version 2, in one transaction. The keys are those of all its answers,
+/// the last one first. The first `dropped` of them are those of the answers that are removed. `TooBig` comes
+/// if there are more answers than ticks.
 pub(crate) fn migrate_rows<S: Alter>(
     conn: &mut Connection<S>,
     keys: &[([u8; 32], [u8; 32])],

@@ -5,7 +5,7 @@ ghost use Rattle.repo_store.specs.Rows.{mode_number};
 
 use hook_base::Mode;
 
-/// The number that stands for a mode in the tables.
+/// The number of a mode in the tables (docs/REFERENCE.md, "The store").
 pub(crate) fn number_of(mode: Mode) -> u32
     ensures { result ≡ mode_number mode }
 {

@@ -1,4 +1,5 @@
-//! A store out of a database: whether its tables are there, of which version they are, and all that they hold.
+//! Reads a store from a database: whether its tables are there, of which version they are, and what they
+//! hold.
 
 ghost use Rattle.std.specs.Prelude.{◌≡◌, ◌↔◌, ℕ, false, IsTrue, IfOk};
 ghost use Rattle.sqlite.specs.Effect.{IsDatabase};
@@ -23,8 +24,8 @@ use std::alloc::Global;
 use store_faults::fault_of;
 use store_tables::{has_store_tables, has_uses_tables, read_uses_by_tick};
 
-/// Reads a store of version 1 inside a transaction, and changes nothing. All answers are in the lists, be they more than the limit
-/// or not.
+/// Reads a store of version 1 inside a transaction, and changes nothing. The lists have all its answers, even
+/// if they are more than the limit.
 pub(crate) fn read_first_in<S: Alter>(
     alloc: Global,
     tx: &mut Transaction<'_, S>,
@@ -63,7 +64,7 @@ pub(crate) fn read_second_in<S: Alter>(
     }
 }
 
-/// Whether the database, outside a transaction, has the tables of version 1, and no others.
+/// Whether the database, outside a transaction, has exactly the tables of version 1.
 pub(crate) fn has_first_tables<S: Alter>(conn: &Connection<S>) -> bool
     requires { conn.now.in_transaction ≡ false }
     ensures ours { IsTrue result ↔ ((state S.Store conn.now).now.schema ≡ store_schema) }
@@ -74,7 +75,7 @@ pub(crate) fn has_first_tables<S: Alter>(conn: &Connection<S>) -> bool
     has_store_tables(conn)
 }
 
-/// Whether the database, outside a transaction, has the tables of a store, and no others.
+/// Whether the database, outside a transaction, has exactly the tables of version 2.
 pub(crate) fn has_tables<S: Alter>(conn: &Connection<S>) -> bool
     requires { conn.now.in_transaction ≡ false }
     ensures ours { IsTrue result ↔ ((state S.Store conn.now).now.schema ≡ schema_with_uses) }
@@ -85,7 +86,7 @@ pub(crate) fn has_tables<S: Alter>(conn: &Connection<S>) -> bool
     has_uses_tables(conn)
 }
 
-/// Reads all tables of a store in one transaction, which changes nothing.
+/// Reads all tables of a store of version 2 in one transaction, which changes nothing.
 pub(crate) fn read_store<S: Alter>(
     alloc: Global,
     conn: &mut Connection<S>,
@@ -100,8 +101,8 @@ pub(crate) fn read_store<S: Alter>(
     read_second_in(alloc, &mut tx)
 }
 
-/// Reads all tables of a store of version 1 in one transaction, which changes nothing. All answers are in the lists, be they more
-/// than the limit or not.
+/// Reads all tables of a store of version 1 in one transaction, which changes nothing. The lists have all its
+/// answers, even if they are more than the limit.
 pub(crate) fn read_first<S: Alter>(
     alloc: Global,
     conn: &mut Connection<S>,

@@ -1,4 +1,4 @@
-//! An answer that is put: in the tables, and in memory.
+//! Caching an answer: in the tables and in memory.
 
 ghost use Rattle.std.specs.Prelude.{◌≡◌, ◌≢◌, ◌+◌, ◌≤◌, ◌∷◌, [], false, drop, length, take, IfErr, List, OnErr, OnOk};
 ghost use Rattle.std.specs.List.{AllByRecursion, Any};
@@ -22,7 +22,7 @@ use crate::shared_answer::SharedAnswer;
 use sqlite::{Alter, Connection, Error};
 use store_faults::fault_of;
 
-// Puts an answer in place of the one of its key.
+// Replaces the answer of the same key.
 fn put_again<S: Alter>(
     conn: &mut Connection<S>,
     lists: &mut Lists,
@@ -49,7 +49,8 @@ fn put_again<S: Alter>(
     }
 }
 
-// Puts the newest answer, which stands in memory already, into the tables; the last one goes where there are too many.
+// Puts the newest answer, which is in memory already, into the tables. The last answer is removed if there
+// are too many.
 fn put_newest_rows<S: Alter>(
     conn: &mut Connection<S>,
     lists: &Lists,
@@ -71,7 +72,7 @@ fn put_newest_rows<S: Alter>(
     }
 }
 
-// The same, and then the last one goes in memory too. A refusal takes the newest one out again.
+// The same, and then removes the last answer in memory too. A refusal removes the newest one again.
 fn put_newest<S: Alter>(
     conn: &mut Connection<S>,
     lists: &mut Lists,
@@ -100,8 +101,8 @@ fn put_newest<S: Alter>(
     }
 }
 
-/// Puts an answer, whose contents are kept in memory since a place, in the tables with these contents, and then in memory, in
-/// front of the others. A refusal leaves the answers as they were.
+/// Puts an answer into the tables, with the blobs that are in memory from index `before` on, and in front of
+/// the others in memory. A refusal leaves the answers as they were.
 pub(crate) fn put_prepared<S: Alter>(
     conn: &mut Connection<S>,
     lists: &mut Lists,

@@ -1,4 +1,4 @@
-//! An answer in the tables, in place of the one of its key, with its use: one transaction.
+//! Caching an answer in the tables, with its use: one transaction.
 
 ghost use Rattle.std.specs.Prelude.{◌≡◌, ℕ, ◌+◌, ◌≤◌, List, [], ◌∷◌, ◌++◌, pos, false};
 ghost use Rattle.std.specs.List.{AllByRecursion};
@@ -23,7 +23,7 @@ use hook_base::Content;
 use sqlite::{Alter, Connection, Error, Transaction};
 use store_tables::{put_answer, take_answer};
 
-// Puts an answer, whose key has these digests, in place of the one of its key, and keeps the contents that the table lacks.
+// Replaces the answer under the key with these digests, if any, and keeps the blobs that the table lacks.
 fn put_in_place<S: Alter>(
     tx: &mut Transaction<'_, S>,
     news: &[Content],
@@ -60,8 +60,8 @@ fn remember_in<S: Alter>(
     use_in(tx, &words, &seen, tick)
 }
 
-/// Puts an answer in place of the one of its key, with the next tick, and keeps the contents that the table lacks, in one
-/// transaction.
+/// Puts an answer in place of the one of its key, if any, with this tick, and keeps the blobs that the table
+/// lacks, in one transaction.
 pub(crate) fn remember_rows<S: Alter>(
     conn: &mut Connection<S>,
     news: &[Content],
@@ -77,7 +77,7 @@ pub(crate) fn remember_rows<S: Alter>(
     tx.commit()
 }
 
-// Puts an answer, with the next tick, and takes out the one under a key.
+// Puts an answer with this tick, and removes the one under a key.
 fn remember_in_place_in<S: Alter>(
     tx: &mut Transaction<'_, S>,
     news: &[Content],
@@ -94,8 +94,8 @@ fn remember_in_place_in<S: Alter>(
     drop_in(tx, words, seen)
 }
 
-/// Puts an answer whose key none has, with the next tick, keeps the contents that the table lacks, and takes out the answer that
-/// was used least lately, which has this key, in one transaction.
+/// Puts an answer, whose key no other has, with this tick, and keeps the blobs that the table lacks. Removes
+/// the least recently used answer, which has this key. All of it is one transaction.
 pub(crate) fn remember_in_place_rows<S: Alter>(
     conn: &mut Connection<S>,
     news: &[Content],

@@ -83,7 +83,7 @@ impl Clone for ListedFile {
     }
 }
 
-/// A fix: the new contents, or none where the file is gone.
+/// A fix: the new contents, or `None` if the file is gone.
 #[derive(Drop)]
 pub(crate) struct SharedFix {
     pub(crate) path: RepoPath,

@@ -1,4 +1,4 @@
-//! A remembered answer in memory.
+//! A cached answer in memory.
 
 ghost use Rattle.std.specs.Prelude.{◌≡◌, map};
 ghost use Rattle.repo_store.specs.Lists.{file_of, fix_of};
@@ -9,18 +9,18 @@ use crate::shared::{ListedFile, SharedFix};
 use hook_base::{Content, Items, Text};
 use std::marker::Model;
 
-/// What is written down of an answer.
+/// The records of an answer (docs/REFERENCE.md, "The store").
 #[derive(Drop)]
 pub(crate) struct AnswerRecords {
-    /// The words of its command.
+    /// Of the words of its command.
     pub(crate) words: Content,
-    /// The files that its child saw.
+    /// Of the files that its child saw.
     pub(crate) seen: Content,
-    /// What became of its files.
+    /// Of the child's changes.
     pub(crate) changes: Content,
 }
 
-/// A remembered answer, with what is written down of it. Contracts see the answer.
+/// A cached answer, with its records. Contracts see the answer.
 #[derive(Drop)]
 pub(crate) struct SharedAnswer {
     words: Items<Text>,
@@ -46,7 +46,7 @@ impl Model for SharedAnswer {
 }
 
 impl SharedAnswer {
-    /// The answer of these parts, which is written down so.
+    /// The answer of these parts and records.
     pub(crate) fn of(
         words: Items<Text>,
         seen: Vec<ListedFile>,
@@ -82,21 +82,21 @@ impl SharedAnswer {
         &self.records.seen
     }
 
-    /// The record of what became of its files.
+    /// The record of its child's changes.
     pub(crate) fn changes_record(&self) -> &Content
         ensures { result.now ≡ written_changes self.now }
     {
         &self.records.changes
     }
 
-    /// What its child wrote.
+    /// Its child's output.
     pub(crate) fn output(&self) -> &Content
         ensures { result.now ≡ self.now.output }
     {
         &self.output
     }
 
-    /// What became of its files.
+    /// Its child's changes.
     pub(crate) fn changes(&self) -> &[SharedFix]
         ensures { map fix_of result.now ≡ self.now.changes }
     {

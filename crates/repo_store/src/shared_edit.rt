@@ -3,7 +3,7 @@
 use crate::shared::ListedFile;
 use hook_base::RepoPath;
 
-/// The file that is staged at a path from now on, or none where the path is staged no more.
+/// The file that is staged at a path from then on, or `None` if the path is no longer staged.
 #[derive(Drop)]
 pub(crate) struct SharedEdit {
     pub(crate) path: RepoPath,

@@ -35,7 +35,7 @@ fn stage_in<S: Alter>(
     )
 }
 
-/// Stages a file, keeps the contents that the table lacks, and forgets the fixes, in one transaction.
+/// Stages a file, keeps the blobs that the table lacks, and forgets the fixes, in one transaction.
 pub(crate) fn stage_rows<S: Alter>(
     conn: &mut Connection<S>,
     news: &[Content],

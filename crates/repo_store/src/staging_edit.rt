@@ -1,22 +1,22 @@
-//! What is asked of the staged files.
+//! What is requested of the staged files.
 
 use hook_base::{Bytes, Mode, Text};
 
-/// A change of the staged files that is asked for.
+/// A requested change of the staged files.
 #[derive(Debug, Drop)]
 pub enum StagingEdit {
     /// A file is staged, in place of the one at its path.
     Add {
-        /// The path, as a text that needn't be one.
+        /// The path, as a text that may be no valid path.
         path: Text,
         /// The file's bytes.
         bytes: Bytes,
-        /// The mode, or `None` for that of the staged file, and plain where none is staged.
+        /// The mode. With `None` it is that of the staged file at the path, or plain if there is none.
         mode: Option<Mode>,
     },
-    /// A path is taken out of the staged files.
+    /// A path is removed from the staged files.
     Remove {
-        /// The path, as a text that needn't be one.
+        /// The path, as a text that may be no valid path.
         path: Text,
     },
 }

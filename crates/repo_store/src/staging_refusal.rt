@@ -1,4 +1,4 @@
-//! Why changes of the staged files are refused, and at which of them.
+//! Why changes of the staged files are refused, and which of them.
 
 ghost use Rattle.std.specs.Prelude.{◌≡◌};
 ghost use Rattle.store_faults.specs.declared.fault.StoreFault.TheVariants.{OutOfMemory as Wanting};
@@ -12,25 +12,25 @@ use thiserror::Error;
 /// Why a change of the staged files is refused.
 #[derive(Clone, Copy, Debug, PartialEq, Eq, Error)]
 pub enum StagingFault {
-    /// The text is no path inside a repository.
+    /// The text is no valid path inside a repository.
     #[error("{0}")]
     BadPath(PathFault),
-    /// The path that is to be taken out isn't staged.
+    /// The path to remove isn't staged.
     #[error("the path is not staged")]
     NotStaged,
     /// The path is a folder of a staged one, or a staged one is a folder of it.
     #[error("a staged file stands at a folder of the path, or the path is a folder of one")]
     Clash,
-    /// The store refuses: contents of more than 16 MiB, more files or bytes of paths than a staged tree has, contents whose
-    /// digest is that of others, or want of memory, or the database.
+    /// The store refuses: contents of more than 16 MiB, more files or bytes of paths than a staged tree has,
+    /// or contents with the digest of others. Or lack of memory, or the database.
     #[error("{0}")]
     Store(StoreFault),
 }
 
-/// A refusal, and which of the changes it is of.
+/// A refusal, and which of the changes it is about.
 #[derive(Clone, Copy, Debug, PartialEq, Eq)]
 pub struct StagingRefusal {
-    /// The index of the change that is refused, counted from 0, or `None` where the database refuses all of them.
+    /// The index of the refused change, counted from 0, or `None` if all of them are refused together.
     pub at: Option<usize>,
     /// Why it is refused.
     pub fault: StagingFault,
@@ -73,7 +73,7 @@ impl From<PathFault> for StagingFault {
 
     ghost from_gives = { λ fault made. made ≡ of_path fault };
 
-    /// Want of memory is the store's, and every other fault `BadPath`.
+    /// Lack of memory becomes the store's `OutOfMemory`, and every other fault becomes `BadPath`.
     fn from(fault: PathFault) -> Self {
         match fault {
             PathFault::OutOfMemory => StagingFault::Store(StoreFault::OutOfMemory),

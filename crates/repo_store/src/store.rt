@@ -1,4 +1,5 @@
-//! The calls on a store. Each prepares in memory what can be refused there, then changes the tables, then the memory.
+//! The calls on a store. Each first prepares in memory what may be refused there, then changes the tables,
+//! and then the memory.
 
 ghost use Rattle.std.specs.List.{Any};
 ghost use Rattle.std.specs.Prelude.{◌≡◌, ◌≢◌, ◌↔◌, ◌⊎◌, ◌+◌, ◌<◌, ◌≤◌, [], false, length, is_some, option_map, slice_get, IfOk, IfErr, IfSome, OnOk, MatchResult, IsTrue};
@@ -58,11 +59,12 @@ use std::alloc::Global;
 use std::marker::Model;
 use store_faults::fault_of;
 
-/// A repository in a database: its commits, the staged files and the fixes, and the answers of children that are remembered, the
-/// most recently used first and no more than a limit.
-/// Each call that changes it is one transaction:
-/// it is done as a whole or not at all, whatever stops it. `StoreFault` says what a refused one leaves in the tables. The calls
-/// that read are answered from memory; a look-up of an answer notes that it was used.
+/// A repository in a database: its commits, the staged files, the fixes and the cached answers of children.
+/// There are no more answers than a limit, the most recently used first.
+///
+/// Each call that changes it is one transaction: it is done as a whole or not at all, whatever stops it.
+/// `StoreFault` says what a refused call leaves in the tables. The calls that read use only the memory, but a
+/// look-up of an answer notes that it was used.
 pub struct Store<S: Alter> {
     conn: Connection<S>,
     lists: Lists,
@@ -70,7 +72,7 @@ pub struct Store<S: Alter> {
     next: u64,
 }
 
-// It is written out, so that a caller doesn't prove again how each part is dropped.
+// Written out, so that a caller doesn't prove again how each part is dropped.
 impl<S: Alter + Drop> Drop for Store<S> {
     fn drop(self) {
         let Store {
@@ -95,9 +97,11 @@ impl<S: Alter> Model for Store<S> {
 }
 
 impl<S: Alter> Store<S> {
-    /// Makes an empty store in a database that has no tables. A database that has tables, indexes or views is refused as
-    /// `Sql`, as SQL's `NameTaken`, and given back as it was. Any refusal gives the connection back, with the tables as before where it is still
-    /// open. The connection must be outside a transaction.
+    /// Makes an empty store of version 2 in a database that has no tables (docs/REFERENCE.md, "The store").
+    /// The connection must be outside a transaction.
+    ///
+    /// A database that has tables, indexes or views is refused as `Sql` with the error code `NameTaken`, and
+    /// returned as it was. Any refusal returns the connection, with the tables as before if it is still open.
     pub fn create(
         alloc: Global,
         conn: Connection<S>,
@@ -132,14 +136,20 @@ impl<S: Alter> Store<S> {
         }
     }
 
-    /// Opens the store that a database holds. One of version 2 is read, and nothing is changed; one of version 1 becomes one of
-    /// version 2, in one transaction: its limit is 10,000, its answers count as used in the order of their keys, the greatest
-    /// last, and where there are more than the limit the first go. After a crash it is the repository that the crash left, and never
-    /// `NotAStore` or `Damaged`. Refused are a database that hasn't exactly the tables of a store of a version that is known, or
-    /// whose `meta` doesn't say that it is of that version (`NotAStore`), and tables whose rows break a rule of a store (`Damaged`).
-    /// `Sql` is also a store with a row that has the greatest rowid, as SQL's `NoRowid`, since none could be put in after it; only
-    /// another program writes one. A refusal gives the connection back, with the tables as before where it is still open. The
-    /// connection must be outside a transaction.
+    /// Opens the store that a database holds. The connection must be outside a transaction.
+    ///
+    /// A store of version 2 is read, and nothing is changed. One of version 1 is migrated to version 2 in one
+    /// transaction (docs/REFERENCE.md, "A store of version 1"). Its limit is then 10,000, and its answers
+    /// count as used in the order of their keys, the greatest last. If there are more than the limit, those
+    /// with the smallest keys are removed.
+    ///
+    /// `NotAStore` is a database that hasn't exactly the tables of a store of a known version, or whose
+    /// `meta` doesn't say that it is of that version. `Damaged` are tables whose rows break a rule of a
+    /// store. What a crash left of a store is never `NotAStore` or `Damaged`.
+    ///
+    /// `Sql` also comes with the error code `NoRowid`, if a row has the greatest rowid, since no row could be
+    /// added after it; only another program writes such a row. A refusal returns the connection, with the
+    /// tables as before if it is still open.
     pub fn open(alloc: Global, conn: Connection<S>) -> Result<Store<S>, (StoreFault, Connection<S>)>
         requires { conn.in_transaction ≡ false }
         ensures stands { IfOk result (λ store. Stands S.Store store.conn store.kept) }
@@ -164,10 +174,15 @@ impl<S: Alter> Store<S> {
         }
     }
 
-    /// Stages a file, in place of the one at its path, and forgets the fixes. The path must not be that of the commit's
-    /// message. Refused are, in this order, contents of more than 16 MiB (`TooLarge`), a staged tree of more than 100,000
-    /// files or 8 MiB of paths (`TooMany`), and contents whose digest is that of others (`Collision`); a refusal leaves
-    /// what the store shows as it was.
+    /// Stages a file, in place of the one at its path, and forgets the fixes. The path must not be that of
+    /// the commit's message.
+    ///
+    /// Refused are, in this order:
+    /// - `TooLarge`: contents of more than 16 MiB;
+    /// - `TooMany`: a staged tree of more than 100,000 files or 8 MiB of paths;
+    /// - `Collision`: contents whose digest is that of others.
+    ///
+    /// A refusal leaves what the store shows as it was.
     pub fn stage(&mut self, path: &RepoPath, mode: Mode, bytes: &[u8]) -> Result<(), StoreFault>
         requires { path.now ≢ message_path }
         ensures change { IsAllOrNothing self.old.kept self.new.kept result (staging path.now (record { mode = mode; bytes = bytes.now }) self.old.kept) }
@@ -186,8 +201,8 @@ impl<S: Alter> Store<S> {
         Ok(())
     }
 
-    /// Takes a path out of the staged files, if it is there, and forgets the fixes. A refusal leaves what the store shows
-    /// as it was.
+    /// Removes a path from the staged files, if it is there, and forgets the fixes. A refusal leaves what the
+    /// store shows as it was.
     pub fn unstage(&mut self, path: &RepoPath) -> Result<(), StoreFault>
         ensures change { IsAllOrNothing self.old.kept self.new.kept result (unstaging path.now self.old.kept) }
         ensures transaction { IsOneTransaction S.Store self.old self.new result (unstaging path.now self.old.kept) }
@@ -200,13 +215,19 @@ impl<S: Alter> Store<S> {
         Ok(())
     }
 
-    /// Makes several changes of the staged files, each of what those before it left, and forgets the fixes: all of them in one
-    /// transaction, or none. There must be one at least. A file without a mode keeps that of the one that is staged at its path, and
-    /// is plain where none is. The refusal is that of the first change that is refused. Of a file that is added they are, in this
-    /// order, a text that is no path (`BadPath`), contents of more than 16 MiB (`TooLarge`), a path and a staged one of which one is
-    /// a folder of the other (`Clash`), a staged tree of more than 100,000 files or 8 MiB of paths (`TooMany`), and contents whose
-    /// digest is that of others (`Collision`); of a path that is taken out, a text that is no path and a path that isn't staged
-    /// (`NotStaged`). Memory may refuse at one of them or all together, and the database all together. A refusal leaves what the store
+    /// Makes several changes of the staged files, each of what those before it left, and forgets the fixes.
+    /// All are made in one transaction, or none is. There must be at least one. A file without a mode keeps
+    /// that of the staged file at its path, and is plain if there is none.
+    ///
+    /// The refusal is that of the first change that is refused. For an added file it is, in this order:
+    /// - `BadPath`: the text is no valid path;
+    /// - `TooLarge`: its contents have more than 16 MiB;
+    /// - `Clash`: its path is a folder of a staged one, or a staged one is a folder of it;
+    /// - `TooMany`: the staged tree would have more than 100,000 files or 8 MiB of paths;
+    /// - `Collision`: the digest of its contents is that of others.
+    ///
+    /// For a removed path it is `BadPath`, or `NotStaged` if the path isn't staged. Memory may be refused at
+    /// one change or for all together, and the database refuses all together. A refusal leaves what the store
     /// shows as it was.
     pub fn stage_all(&mut self, edits: &[StagingEdit]) -> Result<(), StagingRefusal>
         requires { edits.now ≢ [] }
@@ -228,9 +249,10 @@ impl<S: Alter> Store<S> {
         Ok(())
     }
 
-    /// Sets the fixes to those of the changes that are of staged files; the others are dropped unread. The paths of the
-    /// changes must rise. Refused are fixes with contents of more than 16 MiB (`TooLarge`), and those whose digest is that of
-    /// others (`Collision`); a refusal leaves what the store shows as it was.
+    /// Sets the fixes to those of the changes that are of staged files; the others are dropped unread. The
+    /// changes must be in the order of their paths, without duplicates. Refused are fixes with contents of
+    /// more than 16 MiB (`TooLarge`), and those whose digest is that of others (`Collision`). A refusal
+    /// leaves what the store shows as it was.
     pub fn set_fixes(&mut self, changes: &[Change]) -> Result<(), StoreFault>
         requires { IsRisingChanges changes.now }
         ensures change { IsAllOrNothing self.old.kept self.new.kept result (setting changes.now self.old.kept) }
@@ -251,8 +273,8 @@ impl<S: Alter> Store<S> {
         Ok(())
     }
 
-    /// Applies the fixes to the staged files, forgets them, and answers how many there were. A refusal leaves what the
-    /// store shows as it was.
+    /// Applies the fixes to the staged files, forgets them, and returns how many there were. A refusal leaves
+    /// what the store shows as it was.
     pub fn accept(&mut self) -> Result<u32, StoreFault>
         ensures change { IsAllOrNothing self.old.kept self.new.kept result (accepting self.old.kept) }
         ensures transaction { IsOneTransaction S.Store self.old self.new result (accepting self.old.kept) }
@@ -269,9 +291,9 @@ impl<S: Alter> Store<S> {
         Ok(number)
     }
 
-    /// Adds a commit of the staged files, forgets the fixes, and answers the commit's number, from 1 on. Refused are a
-    /// message of more than 16 MiB (`TooLarge`), and else more than 100,000 commits (`TooMany`); a refusal leaves what the
-    /// store shows as it was.
+    /// Adds a commit of the staged files, forgets the fixes, and returns the commit's number, from 1 on.
+    /// Refused are, in this order, a message of more than 16 MiB (`TooLarge`), and a commit beyond 100,000
+    /// (`TooMany`). A refusal leaves what the store shows as it was.
     pub fn commit(&mut self, message: &[u8]) -> Result<u32, StoreFault>
         ensures change { IsAllOrNothing self.old.kept self.new.kept result (committing message.now self.old.kept) }
         ensures transaction { IsOneTransaction S.Store self.old self.new result (committing message.now self.old.kept) }
@@ -288,8 +310,8 @@ impl<S: Alter> Store<S> {
         Ok(number)
     }
 
-    /// Keeps contents, and answers their digest. Refused are contents of more than 16 MiB (`TooLarge`), and those whose
-    /// digest is that of others (`Collision`); a refusal leaves what the store shows as it was.
+    /// Keeps contents, and returns their digest. Refused are contents of more than 16 MiB (`TooLarge`), and
+    /// those whose digest is that of others (`Collision`). A refusal leaves what the store shows as it was.
     pub fn blob_put(&mut self, bytes: &[u8]) -> Result<Digest, StoreFault>
         ensures change { IsAllOrNothing self.old.kept self.new.kept result (keeping bytes.now self.old.kept) }
         ensures transaction { IsOneTransaction S.Store self.old self.new result (keeping bytes.now self.old.kept) }
@@ -309,11 +331,14 @@ impl<S: Alter> Store<S> {
         })
     }
 
-    /// Remembers an answer to the words of a command and the files that its child saw, in front of the others and in place of
-    /// the one to the same, and keeps its contents: those of the seen files, the new ones of the changes, and then, as they are
-    /// written down, its words and its seen files, what it wrote, and its changes as they are written down. Where there are more
-    /// than the limit then, the last one goes. Each change must be of a seen file. Refused are contents or records of more than
-    /// 16 MiB (`TooLarge`), and those whose digest is that of others (`Collision`); a refusal leaves what the store shows as it was.
+    /// Caches an answer to the words of a command and the files that its child saw. It is put in front of the
+    /// others, and replaces the one of the same key, if any. If there are then more than the limit, the last
+    /// one is removed. Each change must be of a seen file.
+    ///
+    /// The contents are kept in this order: those of the seen files, the new ones of the changes, the records
+    /// of the words and of the seen files, the output, and the record of the changes. Refused are contents or
+    /// records of more than 16 MiB (`TooLarge`), and those whose digest is that of others (`Collision`). A
+    /// refusal leaves what the store shows as it was.
     pub fn answer_put(
         &mut self,
         words: &[Text],
@@ -331,7 +356,7 @@ impl<S: Alter> Store<S> {
         self.put_answer(words, seen, answer)
     }
 
-    // The same, where a tick is left.
+    // The same, if a tick is left.
     fn put_answer(
         &mut self,
         words: &[Text],
@@ -362,7 +387,7 @@ impl<S: Alter> Store<S> {
         Ok(())
     }
 
-    // Numbers the uses anew where no tick is left for one more.
+    // Renumbers the uses if no tick is left for one more (docs/REFERENCE.md, "The store").
     fn leave_a_tick(&mut self) -> Result<(), StoreFault>
         ensures same { self.new.kept ≡ self.old.kept }
         ensures left { OnOk result (self.new.next ≤ greatest_tick) }
@@ -381,13 +406,17 @@ impl<S: Alter> Store<S> {
         Ok(())
     }
 
-    /// What is remembered for the words of a command and the files that its child saw, with their modes and bytes, as a copy,
-    /// or `None` where nothing is. It comes to the front of what is remembered: that is a transaction, unless it is there
-    /// already. Bytes are compared, not digests alone; the contents bring theirs, so that none is hashed
-    /// anew. Where other bytes stand under a digest of the key (that of a seen file's contents, or of what is written
-    /// down of the words or of the seen files), it is refused as `Collision`; under such a digest nothing may stand instead, and then
-    /// nothing is remembered, whatever stands under the others. Else memory or the database refuses; a refusal leaves what the
-    /// store shows as it was.
+    /// A copy of the answer that is cached for the words of a command and the files that its child saw, with
+    /// their modes and bytes. It is `None` if there is none. The answer is brought to the front: that is a
+    /// transaction, unless it is there already.
+    ///
+    /// Bytes are compared, not only digests. The contents have their digests already, so none is hashed
+    /// again. If other bytes are kept under a digest of the key, the call is refused as `Collision`. These
+    /// digests are those of the seen files' contents and of the records of the words and of the seen files.
+    /// If nothing is kept under one of them, no answer is cached: then the result may be `None`, whatever is
+    /// kept under the others.
+    ///
+    /// Otherwise memory or the database may refuse. A refusal leaves what the store shows as it was.
     pub fn answer_find(
         &mut self,
         words: &[Text],
@@ -410,7 +439,7 @@ impl<S: Alter> Store<S> {
         Ok(Some(found.answer))
     }
 
-    // Brings the answer of a key, which there must be, to the front. A tick must be left.
+    // Brings the answer of a key to the front. There must be one, and a tick must be left.
     fn use_answer(&mut self, words: [u8; 32], seen: [u8; 32]) -> Result<(), StoreFault>
         requires there { Any (λ (answer : KeptAnswer). key_of answer ≡ (words, seen)) self.old.kept.answers }
         requires left { self.old.next ≤ greatest_tick }
@@ -426,7 +455,7 @@ impl<S: Alter> Store<S> {
         Ok(())
     }
 
-    /// How many answers are remembered at most: from 1 to 100,000. It takes no memory.
+    /// How many answers are cached at most: from 1 to 100,000. It takes no memory.
     pub fn answer_limit(&self) -> u32
         ensures limit { result ≡ self.now.kept.limit }
         ensures within { IsLimit self.now.kept.limit }
@@ -435,8 +464,8 @@ impl<S: Alter> Store<S> {
         self.lists.answer_limit()
     }
 
-    /// Sets how many answers are remembered at most, which must be from 1 to 100,000. Where more are remembered, those that were
-    /// used least lately go; their contents stay. A refusal leaves what the store shows as it was.
+    /// Sets how many answers are cached at most, which must be from 1 to 100,000. If there are more, the
+    /// least recently used are removed; their contents stay. A refusal leaves what the store shows as it was.
     pub fn set_answer_limit(&mut self, limit: u32) -> Result<(), StoreFault>
         requires { IsLimit limit }
         ensures change { IsAllOrNothing self.old.kept self.new.kept result (limiting limit self.old.kept) }
@@ -452,8 +481,8 @@ impl<S: Alter> Store<S> {
         Ok(())
     }
 
-    /// Forgets all remembered answers, and answers how many there were. Their contents stay, and the limit. A refusal leaves what the store
-    /// shows as it was.
+    /// Removes all cached answers, and returns how many there were. Their contents and the limit stay. A
+    /// refusal leaves what the store shows as it was.
     pub fn answers_forget(&mut self) -> Result<u64, StoreFault>
         ensures change { IsAllOrNothing self.old.kept self.new.kept result (forgetting self.old.kept) }
         ensures transaction { IsOneTransaction S.Store self.old self.new result (forgetting self.old.kept) }
@@ -468,7 +497,7 @@ impl<S: Alter> Store<S> {
         Ok(number)
     }
 
-    /// How many answers are remembered. It takes no memory.
+    /// How many answers are cached. It takes no memory.
     pub fn answers_len(&self) -> u64
         ensures number { result ≡ length self.now.kept.answers }
         ensures few { length self.now.kept.answers ≤ self.now.kept.limit }
@@ -477,7 +506,7 @@ impl<S: Alter> Store<S> {
         self.lists.count_answers()
     }
 
-    /// The staged files. It fails for want of memory alone.
+    /// The staged files. It fails only for lack of memory.
     pub fn staged(&self) -> Result<Tree, OutOfMemory>
         ensures tree { IfOk result (λ tree. tree ≡ self.now.kept.repo.staged) }
         ensures rising { IsRising self.now.kept.repo.staged }
@@ -485,7 +514,8 @@ impl<S: Alter> Store<S> {
         self.lists.staged()
     }
 
-    /// The files of the last commit, and an empty tree where there is no commit. It fails for want of memory alone.
+    /// The files of the last commit, or an empty tree if there is no commit. It fails only for lack of
+    /// memory.
     pub fn head(&self) -> Result<Tree, OutOfMemory>
         ensures tree { IfOk result (λ tree. tree ≡ last_tree self.now.kept.repo.history) }
         ensures rising { IsRising (last_tree self.now.kept.repo.history) }
@@ -493,7 +523,7 @@ impl<S: Alter> Store<S> {
         self.lists.head()
     }
 
-    /// The fixes, in the order of their paths. It fails for want of memory alone.
+    /// The fixes, in the order of their paths. It fails only for lack of memory.
     pub fn fixes(&self) -> Result<Vec<Change>, OutOfMemory>
         ensures fixes { IfOk result (λ fixes. fixes.items ≡ self.now.kept.repo.fixes) }
         ensures rising { IsRisingChanges self.now.kept.repo.fixes }
@@ -501,14 +531,14 @@ impl<S: Alter> Store<S> {
         self.lists.fixes()
     }
 
-    /// The commits with their numbers, the oldest first. It fails for want of memory alone.
+    /// The commits with their numbers, the oldest first. It fails only for lack of memory.
     pub fn log(&self) -> Result<Vec<LogEntry>, OutOfMemory>
         ensures { IfOk result (λ log. log.items ≡ log_from 1 self.now.kept.repo.history) }
     {
         self.lists.log()
     }
 
-    /// The files of a commit, or none where no commit has the number. It fails for want of memory alone.
+    /// The files of a commit, or `None` if no commit has the number. It fails only for lack of memory.
     pub fn tree_of(&self, number: u32) -> Result<Option<Tree>, OutOfMemory>
         ensures tree { IfOk result (λ tree. tree ≡ option_map (λ (commit : Commit). commit.tree) (commit_at number self.now.kept.repo.history)) }
         ensures rising { IfOk result (λ tree. IfSome tree IsRising) }
@@ -523,52 +553,54 @@ impl<S: Alter> Store<S> {
         self.lists.is_staged(path)
     }
 
-    /// Whether the last commit has a file at a path; before the first commit none has. It takes no memory.
+    /// Whether the last commit has a file at a path; before the first commit there is none. It takes no
+    /// memory.
     pub fn is_in_head(&self, path: &RepoPath) -> bool
         ensures { result ≡ is_some (entry_of path.now (last_tree self.now.kept.repo.history)) }
     {
         self.lists.is_in_head(path)
     }
 
-    /// The mode of the file that is staged at a path, or `None` where none is. It takes no memory.
+    /// The mode of the staged file at a path, or `None` if there is none. It takes no memory.
     pub fn staged_mode(&self, path: &RepoPath) -> Option<Mode>
         ensures { result ≡ option_map (λ (entry : FileEntry). entry.mode) (entry_of path.now self.now.kept.repo.staged) }
     {
         self.lists.staged_mode(path)
     }
 
-    /// The contents of the file that is staged at a path, or `None` where none is. It takes no memory.
+    /// The contents of the staged file at a path, or `None` if there is none. It takes no memory.
     pub fn staged_bytes(&self, path: &RepoPath) -> Option<&[u8]>
         ensures { option_copied result ≡ option_map (λ (entry : FileEntry). entry.bytes) (entry_of path.now self.now.kept.repo.staged) }
     {
         self.lists.staged_bytes(path)
     }
 
-    /// The new contents that the fixes give to a path, or `None` where no fix is of it and where its fix takes the file away. It
-    /// takes no memory.
+    /// The new contents that the fixes give to a path, or `None` if no fix is of the path or its fix removes
+    /// the file. It takes no memory.
     pub fn fixed_bytes(&self, path: &RepoPath) -> Option<&[u8]>
         ensures { option_copied result ≡ fixed_bytes path.now self.now.kept.repo.fixes }
     {
         self.lists.fixed_bytes(path)
     }
 
-    /// The contents of a commit's file at a path, or `None` where the commit has no file there and where no commit has the number.
-    /// It takes no memory.
+    /// The contents of a commit's file at a path, or `None` if no commit has the number or the commit has no
+    /// file there. It takes no memory.
     pub fn committed_bytes(&self, number: u32, path: &RepoPath) -> Option<&[u8]>
         ensures { option_copied result ≡ option_map (λ (entry : FileEntry). entry.bytes) (entry_of path.now (tree_at number self.now.kept.repo.history)) }
     {
         self.lists.committed_bytes(number, path)
     }
 
-    /// Whether a path can't stand beside the staged files: one of them is at a folder of the path, or the path is a folder of
-    /// one of them. `stage` doesn't ask this. It takes no memory.
+    /// Whether a path clashes with the staged files: one of their paths is a folder of the path, or the path
+    /// is a folder of one of theirs. `stage` doesn't test this. It takes no memory.
     pub fn clashes(&self, path: &RepoPath) -> bool
         ensures { IsTrue result ↔ Clashes path.now self.now.kept.repo.staged }
     {
         self.lists.clashes(path)
     }
 
-    /// The staged file of an index in the order of the paths, counted from 0, or `None` past the last. It takes no memory.
+    /// The staged file at an index in the order of the paths, counted from 0, or `None` past the last. It
+    /// takes no memory.
     pub fn staged_file(&self, index: usize) -> Option<FileRef<'_>>
         ensures file { option_map copied_file result ≡ slice_get self.now.kept.repo.staged index }
         ensures rising { IsRising self.now.kept.repo.staged }
@@ -576,8 +608,8 @@ impl<S: Alter> Store<S> {
         self.lists.staged_file(index)
     }
 
-    /// The file of the last commit of an index in the order of the paths, counted from 0, or `None` past the last and where
-    /// there is no commit. It takes no memory.
+    /// The last commit's file at an index in the order of the paths, counted from 0, or `None` past the last
+    /// or if there is no commit. It takes no memory.
     pub fn head_file(&self, index: usize) -> Option<FileRef<'_>>
         ensures file { option_map copied_file result ≡ slice_get (last_tree self.now.kept.repo.history) index }
         ensures rising { IsRising (last_tree self.now.kept.repo.history) }
@@ -585,8 +617,8 @@ impl<S: Alter> Store<S> {
         self.lists.head_file(index)
     }
 
-    /// The file of a commit of an index in the order of the paths, counted from 0, or `None` past the last and where no commit
-    /// has the number. It takes no memory.
+    /// A commit's file at an index in the order of the paths, counted from 0, or `None` past the last or if
+    /// no commit has the number. It takes no memory.
     pub fn commit_file(&self, number: u32, index: usize) -> Option<FileRef<'_>>
         ensures file { option_map copied_file result ≡ slice_get (tree_at number self.now.kept.repo.history) index }
         ensures rising { IsRising (tree_at number self.now.kept.repo.history) }
@@ -594,16 +626,16 @@ impl<S: Alter> Store<S> {
         self.lists.commit_file(number, index)
     }
 
-    /// Whether the staged files are others than those of the last commit, by their paths, modes or contents; before the first
-    /// commit, whether any is staged. It takes no memory, and reads no contents.
+    /// Whether the staged files differ from those of the last commit, in their paths, modes or contents;
+    /// before the first commit, whether any is staged. It takes no memory, and reads no contents.
     pub fn differs_from_head(&self) -> bool
         ensures { IsTrue result ↔ (self.now.kept.repo.staged ≢ last_tree self.now.kept.repo.history) }
     {
         self.lists.differs_from_head()
     }
 
-    /// Whether a path's staged file has another mode or other contents than in the last commit, or only one of both has the
-    /// path. It takes no memory, and reads no contents.
+    /// Whether a path's staged file has another mode or other contents than in the last commit, or only one
+    /// of the two has the path. It takes no memory, and reads no contents.
     pub fn differs_from_head_at(&self, path: &RepoPath) -> bool
         ensures { IsTrue result ↔ (entry_of path.now self.now.kept.repo.staged ≢ entry_of path.now (last_tree self.now.kept.repo.history)) }
     {
@@ -617,21 +649,21 @@ impl<S: Alter> Store<S> {
         self.lists.count_fixes()
     }
 
-    /// How many commits there are, which is the number of the last. It takes no memory.
+    /// How many commits there are, which is the number of the last one. It takes no memory.
     pub fn count_commits(&self) -> u32
         ensures { result ≡ length self.now.kept.repo.history }
     {
         self.lists.count_commits()
     }
 
-    /// The message of a commit, or `None` where no commit has the number. It takes no memory.
+    /// The message of a commit, or `None` if no commit has the number. It takes no memory.
     pub fn message_of(&self, number: u32) -> Option<&[u8]>
         ensures { option_copied result ≡ option_map (λ (commit : Commit). commit.message) (commit_at number self.now.kept.repo.history) }
     {
         self.lists.message_of(number)
     }
 
-    /// The connection, outside a transaction, with the store as it stands.
+    /// The connection, outside a transaction, with the store in its database.
     pub fn into_connection(self) -> Connection<S>
         ensures same { result ≡ self.conn }
         ensures stands { Stands S.Store result self.kept }

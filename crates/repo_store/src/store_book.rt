@@ -9,10 +9,13 @@ use hook_base::{Text, Tree};
 use result_book::{Book, BookFault};
 use sqlite::Alter;
 
-/// A book that is kept in the store of a repository, and outlives the process: it is the store itself, with the store's limit. Each
-/// answer is put in a transaction of its own, and stays when a later one is refused; so is each that is found, unless it is in front
-/// already. Its calls are refused where memory is (`OutOfMemory`), and where the store is (`Store`): by the database, a look-up too,
-/// by contents of more than 16 MiB, and by contents whose digest is that of others.
+/// A book that is kept in the store of a repository, and outlives the process: it is the store itself, with
+/// the store's limit. Each answer is added in a transaction of its own, and stays if a later one is refused.
+/// So is the use of each answer that is found, unless it is in front already.
+///
+/// A call is refused if memory is (`OutOfMemory`) or if the store refuses (`Store`). The store refuses
+/// because of the database, in a look-up too, contents of more than 16 MiB, or contents whose digest is that
+/// of others.
 pub type StoreBook<S> = Store<S>;
 
 impl<S: Alter> Book for Store<S> {
@@ -51,7 +54,7 @@ impl<S: Alter> Book for Store<S> {
     }
 }
 
-// What a store remembers, as an answer of a child.
+// A store's cached answer, as an answer of a child.
 fn given(found: Option<StoredAnswer>) -> Option<Answer>
     ensures { result ≡ option_map answer_in found }
 {

@@ -1,14 +1,14 @@
-//! An answer that a store remembers.
+//! A copy of a cached answer.
 
 use hook_base::{Bytes, Changes};
 
-/// What a child did, as it is remembered for the words of its command and the files that it saw.
+/// What a child did, as it is cached for the words of its command and the files that it saw.
 #[derive(Clone, Debug, Drop, PartialEq, Eq)]
 pub struct StoredAnswer {
     /// Its exit code, from 0 to 255.
     pub status: u8,
-    /// What it wrote.
+    /// Its output.
     pub output: Bytes,
-    /// What became of the files that it saw.
+    /// Its changes of the files that it saw.
     pub changes: Changes,
 }

@@ -1,4 +1,4 @@
-//! All rows of the seven tables that each version of a store has, as they are read.
+//! All rows, as they are read, of the seven tables that both versions of a store have.
 
 ghost use Rattle.std.specs.Prelude.{◌≡◌};
 ghost use Rattle.repo_store.specs.FromRows.{AreShown, AreTablesShown};
@@ -11,7 +11,7 @@ use store_tables::{
     read_commits, read_entries, read_fixes, read_meta, read_staged,
 };
 
-/// The rows of all tables but `meta`.
+/// The rows of all tables except `meta`.
 #[derive(Drop)]
 pub(crate) struct StoreRows {
     pub(crate) blobs: Vec<BlobRow>,
@@ -22,14 +22,14 @@ pub(crate) struct StoreRows {
     pub(crate) answers: Vec<AnswerRow>,
 }
 
-/// The rows of all seven.
+/// The rows of all seven tables.
 #[derive(Drop)]
 pub(crate) struct TableRows {
     pub(crate) meta: Vec<MetaRow>,
     pub(crate) store: StoreRows,
 }
 
-// Reads all tables but `meta`.
+// Reads all tables except `meta`.
 fn read_rows<S: Alter>(alloc: Global, tx: &mut Transaction<'_, S>) -> Result<StoreRows, Error>
     ensures same_reference { tx.new.conn.ghost_name ≡ tx.old.conn.ghost_name }
     ensures read { AreRead S.Store tx.old.conn.now tx.new.conn.now result AreShown }

@@ -1,4 +1,4 @@
-//! The store in a database that is opened. One of version 1 becomes one of version 2.
+//! Finds the store in a database that is opened. A store of version 1 is migrated to version 2.
 
 ghost use Rattle.std.specs.Prelude.{◌≡◌, false, IfOk, IsTrue};
 ghost use Rattle.sqlite.specs.Effect.{IsDatabase};
@@ -40,7 +40,7 @@ fn take_over<S: Alter>(alloc: Global, conn: &mut Connection<S>) -> Result<Lists,
     Ok(lists)
 }
 
-/// The store in a database, outside a transaction. One of version 1 is migrated.
+/// The store in a database, outside a transaction. A store of version 1 is migrated.
 pub(crate) fn find_store<S: Alter>(
     alloc: Global,
     conn: &mut Connection<S>,

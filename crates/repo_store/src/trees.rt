@@ -1,4 +1,4 @@
-//! Trees, changes and the log, for the callers.
+//! Trees, changes and the log, for callers.
 
 ghost use Rattle.std.specs.Prelude.{◌≡◌, ◌≤◌, length, map, IfOk};
 ghost use Rattle.hook_base.specs.Trees.{IsRising};
@@ -42,7 +42,7 @@ pub(crate) fn changes_of(alloc: Global, fixes: &[SharedFix]) -> Result<Vec<Chang
     Ok(changes)
 }
 
-/// The log of the commits, which are numbered from 1 on.
+/// The log of the commits, which are numbered from 1 on (docs/REFERENCE.md, "The store").
 pub(crate) fn log_of(alloc: Global, history: &[SharedCommit]) -> Result<Vec<LogEntry>, OutOfMemory>
     requires { length history.now ≤ most_commits }
     ensures { IfOk result (λ log. log.items ≡ log_from 1 (map commit_of history.now)) }

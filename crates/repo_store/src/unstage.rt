@@ -1,4 +1,4 @@
-//! A path taken out of the staged files in the tables: one transaction.
+//! Removing a path from the staged files in the tables: one transaction.
 
 ghost use Rattle.std.specs.Prelude.{◌≡◌, ℕ, List, false};
 ghost use Rattle.store_tables.specs.Steps.{IsStep};
@@ -19,7 +19,7 @@ fn unstage_in<S: Alter>(tx: &mut Transaction<'_, S>, path: &RepoPath) -> Result<
     clear_fixes(tx)
 }
 
-/// Takes a path out of the staged files, and forgets the fixes, in one transaction.
+/// Removes a path from the staged files, and forgets the fixes, in one transaction.
 pub(crate) fn unstage_rows<S: Alter>(conn: &mut Connection<S>, path: &RepoPath) -> Result<(), Error>
     requires { conn.old.in_transaction ≡ false }
     ensures { (t : Tables) (next : ℕ) (answers : List KeptAnswer) → IsCall S.Store conn.old conn.new result (λ db. HoldsListed next answers db t) (λ db. HoldsListed next answers db (without_fixes (without_staged path.now t))) }

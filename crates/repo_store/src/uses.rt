@@ -1,5 +1,5 @@
-//! The uses of the remembered answers in the tables, which tell the order of these: one transaction for each change. A key is
-//! the digests of an answer's words and of the files that it saw.
+//! The uses of the cached answers in the tables, which give the order of the answers: one transaction for
+//! each change. A key is the digests of the records of an answer's words and of the files that its child saw.
 
 ghost use Rattle.std.specs.Prelude.{◌≡◌, ℕ, ◌+◌, ◌≤◌, List, [], ◌++◌, pos, false, length, map, reverse, OnOk};
 ghost use Rattle.std.specs.List.{AllByRecursion};
@@ -34,7 +34,7 @@ fn put_in<S: Alter>(
     put_use(tx, words, seen, tick as i64)
 }
 
-/// Gives the answer under a key this tick, in place of the one that it had.
+/// Gives the use of the answer under a key this tick, in place of the one that it had.
 pub(crate) fn use_in<S: Alter>(
     tx: &mut Transaction<'_, S>,
     words: &[u8],
@@ -49,7 +49,7 @@ pub(crate) fn use_in<S: Alter>(
     put_in(tx, words, seen, tick)
 }
 
-/// Brings the answer under a key to the front, with the next tick, in one transaction.
+/// Brings the answer under a key to the front, with this tick, in one transaction.
 pub(crate) fn use_rows<S: Alter>(
     conn: &mut Connection<S>,
     words: &[u8],
@@ -65,7 +65,7 @@ pub(crate) fn use_rows<S: Alter>(
     tx.commit()
 }
 
-/// Takes out the answer under a key, and its use.
+/// Removes the answer under a key, and its use.
 pub(crate) fn drop_in<S: Alter>(
     tx: &mut Transaction<'_, S>,
     words: &[u8],
@@ -78,7 +78,7 @@ pub(crate) fn drop_in<S: Alter>(
     take_use(tx, words, seen)
 }
 
-// `TooBig` where there are more keys than ticks.
+// `TooBig` if there are more keys than ticks.
 fn check_count(keys: &[([u8; 32], [u8; 32])]) -> Result<(), Error>
     ensures { OnOk result (length keys.now ≤ greatest_tick) }
 {
@@ -88,8 +88,8 @@ fn check_count(keys: &[([u8; 32], [u8; 32])]) -> Result<(), Error>
     Ok(())
 }
 
-/// Gives each of the keys, of which none has a use yet, the tick of its place, from 1 on: the one that was used least lately
-/// stands first. `TooBig` comes where there are more keys than ticks.
+/// Gives each of the keys, none of which has a use yet, a tick: 1, 2 and so on. The keys come in the order of
+/// their last uses, the least recent first. `TooBig` comes if there are more keys than ticks.
 pub(crate) fn number_in<S: Alter>(
     tx: &mut Transaction<'_, S>,
     keys: &[([u8; 32], [u8; 32])],
@@ -108,7 +108,7 @@ pub(crate) fn number_in<S: Alter>(
     Ok(())
 }
 
-// Numbers the uses of all answers anew.
+// Renumbers the uses of all answers.
 fn renumber_in<S: Alter>(
     tx: &mut Transaction<'_, S>,
     keys: &[([u8; 32], [u8; 32])],
@@ -120,8 +120,8 @@ fn renumber_in<S: Alter>(
     number_in(tx, keys)
 }
 
-/// Numbers the uses of all answers anew, from 1 on, in one transaction. The keys are those of all answers, that of the least
-/// recently used one first.
+/// Renumbers the uses of all answers, from 1 on, in one transaction (docs/REFERENCE.md, "The store"). The
+/// keys are those of all answers, that of the least recently used first.
 pub(crate) fn renumber_rows<S: Alter>(
     conn: &mut Connection<S>,
     keys: &[([u8; 32], [u8; 32])],
@@ -134,7 +134,7 @@ pub(crate) fn renumber_rows<S: Alter>(
     tx.commit()
 }
 
-/// Takes out the answers under these keys, and their uses.
+/// Removes the answers under these keys, and their uses.
 pub(crate) fn drop_all_in<S: Alter>(
     tx: &mut Transaction<'_, S>,
     keys: &[([u8; 32], [u8; 32])],
@@ -149,7 +149,7 @@ pub(crate) fn drop_all_in<S: Alter>(
     Ok(())
 }
 
-// Drops the answers under these keys, and sets the limit.
+// Removes the answers under these keys, and sets the limit.
 fn limit_in<S: Alter>(
     tx: &mut Transaction<'_, S>,
     keys: &[([u8; 32], [u8; 32])],
@@ -162,8 +162,8 @@ fn limit_in<S: Alter>(
     replace_meta(tx, "limit", limit)
 }
 
-/// Sets the limit, and takes out the answers that pass it, in one transaction: the keys are those of the last answers, that of the
-/// least recently used one first.
+/// Sets the limit, and removes the answers beyond it, in one transaction. The keys are those of the answers
+/// to remove, that of the least recently used first.
 pub(crate) fn limit_rows<S: Alter>(
     conn: &mut Connection<S>,
     keys: &[([u8; 32], [u8; 32])],

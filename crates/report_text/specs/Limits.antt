@@ -1,4 +1,4 @@
--- The limit of a report, in bytes. Belongs to the module `limits`; its constant is proved to be this by `laws`.
+-- The limit of a report, in bytes. `laws` proves that the constant of the module `limits` is this.
 use Rattle.std.specs.Prelude.{ℕ}
 
 -- the most bytes that a hook's name may have: 1 MiB

@@ -8,7 +8,8 @@ use crate::lines::{push, push_line};
 use hook_base::OutOfMemory;
 use unicode_width::UnicodeWidthStr;
 
-/// The name, dots up to the columns less one, and how the hook ended.
+/// The name, dots up to the last column but one, and how the hook ended, as pre-commit's
+/// `pre_commit.commands.run._full_msg` writes it.
 pub(crate) fn push_first_line(
     report: &mut Vec<u8>,
     columns: usize,

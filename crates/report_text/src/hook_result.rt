@@ -6,11 +6,11 @@ use hook_base::{Bytes, Items, Text};
 /// What a run reports of one hook.
 #[derive(Debug, Drop)]
 pub struct HookResult {
-    /// The hook's name, with which its text begins.
+    /// The hook's name, with which the first line begins.
     pub name: Text,
-    /// The hook's id, which its details begin with.
+    /// The hook's id, with which its details begin.
     pub id: Text,
-    /// Whether the hook's details are reported also where it did not fail.
+    /// Whether the hook's details are reported even if it didn't fail.
     pub verbose: bool,
     /// How it ended.
     pub ending: Ending,
@@ -19,29 +19,29 @@ pub struct HookResult {
 /// How a hook ended.
 #[derive(Debug, Drop)]
 pub enum Ending {
-    /// It was skipped, as the run was asked to.
+    /// It was skipped because the run was asked to skip it.
     SkippedAsked,
-    /// It was skipped, as no file was selected for it.
+    /// It was skipped because no file was selected for it.
     SkippedNoFiles,
     /// It was run.
     Ran {
         /// Its exit code.
         status: u8,
-        /// What failed of its parts, in their order.
+        /// The faults of its parts, in the order of the parts.
         faults: Items<LineFault>,
-        /// Whether a tracked file is another than before.
+        /// Whether it changed or removed a file of the run.
         modified: bool,
-        /// What its parts put out, joined.
+        /// The output of its parts, one after another.
         output: Bytes,
     },
 }
 
-/// A failure of a hook that is no exit code.
+/// A failure of a hook other than an exit code.
 #[derive(Clone, Copy, Debug, PartialEq, Eq)]
 pub enum LineFault {
-    /// A child's.
+    /// A child failed.
     Child(Fault),
-    /// A name, or the words alone, do not fit the command.
+    /// A name, or the words alone, don't fit the command.
     Misfit,
 }
 
@@ -49,7 +49,7 @@ impl Ending {
     ghost use Rattle.std.specs.Prelude.{◌≡◌};
     ghost use Rattle.report_text.specs.Report.{is_failed};
 
-    /// Whether a hook that ended so failed.
+    /// Whether a hook that ended in this way failed.
     pub fn is_failed(&self) -> bool
         ensures { result ≡ is_failed self.now }
     {

@@ -1,4 +1,5 @@
-//! The lines behind a hook's first: its id, and how it ended.
+//! The lines after a hook's first line: its id, and how it ended. They are those of pre-commit's
+//! `pre_commit.commands.run._run_single_hook`, without a duration and with the faults.
 
 ghost use Rattle.std.specs.Prelude.{◌≡◌, ◌++◌, OnErr, OnOk};
 ghost use Rattle.report_text.specs.Report.{block_of, child_fault_text, ending_lines, fault_lines, fault_text, id_line, line, modified_line, status_line, trimmed};
@@ -9,7 +10,7 @@ use child_port::Fault;
 use hook_base::OutOfMemory;
 use std::alloc::Global;
 
-/// The line that names the hook.
+/// The line with the hook's id.
 pub(crate) fn push_id_line(report: &mut Vec<u8>, id: &str) -> Result<(), OutOfMemory>
     ensures { OnOk result (report.new.items ≡ report.old.items ++ id_line id.now) }
 {
@@ -17,7 +18,8 @@ pub(crate) fn push_id_line(report: &mut Vec<u8>, id: &str) -> Result<(), OutOfMe
     push_line(report, id.as_bytes())
 }
 
-/// The lines that say how the hook ended: its exit code, its faults, whether it modified files, and its output.
+/// The lines that say how the hook ended: its exit code, its faults, whether it modified files, and its
+/// output.
 pub(crate) fn push_ending_lines(
     alloc: Global,
     report: &mut Vec<u8>,
@@ -90,7 +92,7 @@ fn push_modified_line(report: &mut Vec<u8>, modified: bool) -> Result<(), OutOfM
     Ok(())
 }
 
-// The text between empty lines, or nothing where it is empty.
+// The text between empty lines, or nothing if it is empty.
 fn push_block(report: &mut Vec<u8>, text: &[u8]) -> Result<(), OutOfMemory>
     ensures { OnOk result (report.new.items ≡ report.old.items ++ block_of text.now) }
 {
@@ -102,19 +104,21 @@ fn push_block(report: &mut Vec<u8>, text: &[u8]) -> Result<(), OutOfMemory>
     Ok(())
 }
 
-/// Puts the text with a line feed at the report's end. `OutOfMemory` may come of any text, and leaves the report as it was.
+/// Adds the text and a line feed to the end of the report. `OutOfMemory` may come for any text, and leaves
+/// the report as it was.
 pub fn push_line(report: &mut Vec<u8>, text: &[u8]) -> Result<(), OutOfMemory>
     ensures put { OnOk result (report.new.items ≡ report.old.items ++ line text.now) }
     ensures refused { OnErr result (report.new.items ≡ report.old.items) }
 {
-    // Room for both first, so that no part of the line is left.
+    // Reserve room for both first, so that a refusal leaves no part of the line.
     report.reserve(text.len() + 1)?;
     report.extend_from_slice(text)?;
     report.push(b'\n')?;
     Ok(())
 }
 
-/// Puts the bytes as they are at the report's end. `OutOfMemory` may come of any bytes, and leaves the report as it was.
+/// Adds the bytes as they are to the end of the report. `OutOfMemory` may come for any bytes, and leaves the
+/// report as it was.
 pub fn push(report: &mut Vec<u8>, bytes: &[u8]) -> Result<(), OutOfMemory>
     ensures put { OnOk result (report.new.items ≡ report.old.items ++ bytes.now) }
     ensures refused { OnErr result (report.new.items ≡ report.old.items) }

@@ -1,4 +1,4 @@
-//! The text of a report. A hook's text is its first line, and its details where it failed or is verbose.
+//! The text of a report. A hook's text is its first line, and also its details if it failed or is verbose.
 //!
 //! The contracts cite `specs/Report.antt`.
 
@@ -14,9 +14,10 @@ use hook_base::OutOfMemory;
 use std::alloc::Global;
 use unicode_width::UnicodeWidthStr;
 
-/// The columns of a report, from the names of all hooks that its run goes through, skipped ones and those after a stop
-/// too: 80, or 30 more than the columns of the widest name in a terminal, as `unicode_width` gives them. It takes
-/// no memory. Each name has at most [`MOST_NAME_BYTES`](crate::MOST_NAME_BYTES) bytes.
+/// The number of columns of a report: 80, or if that is more, 30 more than the widest name. The rule is that
+/// of pre-commit's `pre_commit.commands.run._compute_cols`. The names are those of all hooks of the run, also
+/// of skipped ones and of those after a stop. `unicode_width` gives their widths in a terminal. It allocates
+/// nothing. Each name must have at most [`MOST_NAME_BYTES`](crate::MOST_NAME_BYTES) bytes.
 pub fn columns(names: &[&str]) -> usize
     requires { All (λ name. length name.now ≤ most_name_bytes) names.now }
     ensures { result ≡ columns_of (map (λ name. name.now) names.now) }
@@ -28,8 +29,8 @@ pub fn columns(names: &[&str]) -> usize
     80.max(widest + 30)
 }
 
-/// What a report says of one hook, in so many columns, at least 30 more than those of the hook's name: its first line,
-/// and its details where it failed or is verbose. `OutOfMemory` where memory was refused.
+/// What a report says of one hook: its first line, and its details if it failed or is verbose. `columns` must
+/// be at least 30 more than the width of the hook's name. `OutOfMemory` if memory is refused.
 pub fn hook_text(alloc: Global, columns: usize, hook: &HookResult) -> Result<Vec<u8>, OutOfMemory>
     requires { width_of hook.now.name + 30 ≤ columns }
     ensures { IfOk result (λ text. text.items ≡ hook_text columns hook.now) }
@@ -39,7 +40,7 @@ pub fn hook_text(alloc: Global, columns: usize, hook: &HookResult) -> Result<Vec
     Ok(text)
 }
 
-/// What a report says of hooks, one after another, each as [`hook_text`] says.
+/// What a report says of the hooks, one after another, each as in [`hook_text`].
 pub fn hook_texts(
     alloc: Global,
     columns: usize,

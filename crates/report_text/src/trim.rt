@@ -1,9 +1,10 @@
-//! A text without the blanks at its ends.
+//! Texts without the blanks at their ends.
 
 ghost use Rattle.std.specs.Prelude.{◌≡◌};
 ghost use Rattle.report_text.specs.Report.{is_blank, trimmed, without_blanks_after, without_blanks_before};
 
-/// The bytes without the blanks at both ends: tab, line feed, vertical tab, form feed, carriage return and space.
+/// The bytes without the blanks at both ends, as Python's `bytes.strip` leaves them: tab, line feed, vertical
+/// tab, form feed, carriage return and space.
 pub(crate) fn trimmed(bytes: &[u8]) -> &[u8]
     ensures { result.now ≡ trimmed bytes.now }
 {

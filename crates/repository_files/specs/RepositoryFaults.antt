@@ -13,8 +13,9 @@ use Rattle.repository_files.specs.declared.folder.Found.TheVariants.{Nothing, Em
 use Rattle.repository_files.specs.declared.repository_fault.RepositoryFault.{RepositoryFault}
 use Rattle.repository_files.specs.declared.repository_fault.RepositoryFault.TheVariants.{CannotUseStore, CannotUseLock, NoStore}
 
--- Where the database can't be opened, its file can't be used if that is at fault: it can't be opened, is in use, holds no
--- database or a damaged one, or can't be read or written. Any other error is the store's.
+-- What an error of opening the database means. The store's file can't be used if it is at fault: it can't be
+-- opened, is in use, holds no database or a damaged one, or can't be read or written. Any other error is the
+-- store's.
 abbrev pub of_database : DatabaseError → RepositoryFault
 of_database (SqliteFailure code.CannotOpen) = CannotUseStore
 of_database (SqliteFailure code.DatabaseBusy) = CannotUseStore
@@ -23,7 +24,7 @@ of_database (SqliteFailure code.DatabaseCorrupt) = CannotUseStore
 of_database (SqliteFailure code.SystemIoFailure) = CannotUseStore
 of_database error = NoStore (fault_of error)
 
--- an error of opening the store's database means what `of_database` names
+-- the fault is what `of_database` makes of an error of opening the store's database
 abbrev pub IsFaultOfDatabase : RepositoryFault → Type 0
 IsFaultOfDatabase fault = (error : DatabaseError) × IsTrue (is_open_error error) × (fault ≡ of_database error)
 
@@ -33,21 +34,22 @@ IsFaultOfOpening CannotUseStore = Unit {0}
 IsFaultOfOpening CannotUseLock = ⊥
 IsFaultOfOpening (NoStore fault) = Unit {0}
 
--- what a file of so many bytes counts as: the database's library takes one of a single byte for an empty one
+-- what a file of this length counts as: the database's library treats one of a single byte as empty
 abbrev pub IsFoundWith : ℕ → Found → Type 0
 IsFoundWith bytes Empty = bytes ≡ 0
 IsFoundWith bytes OneByte = bytes ≡ 1
 IsFoundWith bytes Filled = 1 < bytes
 IsFoundWith bytes found = ⊥
 
--- a file is there, whatever it has in it
+-- a file is there, whatever it contains
 abbrev pub IsFile : Found → Type 0
 IsFile Nothing = ⊥
 IsFile Other = ⊥
 IsFile found = Unit {0}
 
--- What opening the store makes of what stands at its name and at its log's: a file without a database is no store, since to open it
--- would make one of it, and where no file is there, or it can't be told, the store can't be used.
+-- What opening the store makes of what is at its name and at its log's. A file without a database is no
+-- store, since to open it would make one of it. If no file is there, or if that can't be said, the store
+-- can't be used.
 abbrev pub before_of : Result Found Error → Result Found Error → Result Before RepositoryFault
 before_of (Ok Filled) (Ok log) = Ok (record { log = log })
 before_of (Ok Empty) (Ok log) = Err (NoStore NotAStore)

@@ -1,4 +1,4 @@
-//! The log of the database while it holds no change.
+//! The database's write-ahead log while it holds no change.
 
 ghost use Rattle.std.specs.Prelude.{◌≡◌, ◌≢◌, ◌↔◌, ◌<◌, ℕ, IfOk, IsTrue, OnOk};
 ghost use Rattle.sqlite_wal.specs.Files.{seen_image};
@@ -12,17 +12,19 @@ use std::fs;
 use std::io::{self, Read};
 use std::rt::Files;
 
-// The bytes of a log with its header and that of a page. It holds no change, which takes the page as well.
+// The bytes of a log's header and of its first frame's header (SQLite's file format, section 4.1). A log of
+// this length holds no change, which has its page as well.
 const BARE_LOG: usize = 56;
 
-// The most bytes of a log that stays as long as it is.
+// A log with more bytes than this doesn't stay as long as it is.
 const MOST_BYTES: u64 = 262_144;
 
-// Where the number of a page's bytes stands in the header of a database.
+// The offset of the page size in the header of a database (SQLite's file format, section 1.3).
 const PAGE_IN_DATABASE: usize = 16;
 
-// How the header of a log begins, but for the lowest bit, and where it has the number of a page's bytes and its mark, of eight
-// bytes. Each page of a change has the same mark: a log holds none where the first page has another.
+// The header of a log (SQLite's file format, section 4.1): its magic number without the lowest bit, and the
+// offsets of the page size and of the mark. The mark is the two salts, eight bytes together. Each frame of a
+// change repeats it: if the first frame has another mark, the log holds no change.
 const SIGNATURE: u32 = 0x377f_0682;
 
 const PAGE_IN_LOG: usize = 8;
@@ -31,7 +33,8 @@ const MARK: usize = 16;
 
 const MARK_OF_FIRST_PAGE: usize = 40;
 
-/// Whether the log at the name may hold a change: its first page has its mark. So it is where that can't be told.
+/// Whether the log of this name may hold a change: its first frame has its mark. So it may if reading it
+/// fails. A log that is missing, or too short for a page, holds none.
 pub(crate) fn may_hold_change<R: Files>(rt: &R, name: &str) -> bool {
     match begins_with_change(rt, name) {
         Ok(begins) => begins,
@@ -50,17 +53,18 @@ fn begins_with_change<R: Files>(rt: &R, name: &str) -> io::Result<bool> {
     Ok(is_marked(&head))
 }
 
-// Whether the first page of a log has the log's mark.
+// Whether a log's first frame has the log's mark.
 fn is_marked(head: &[u8; BARE_LOG]) -> bool
     ensures { IsTrue result ↔ (part head.now 40 8 ≡ part head.now 16 8) }
 {
     head[MARK_OF_FIRST_PAGE..MARK_OF_FIRST_PAGE + 8] == head[MARK..MARK + 8]
 }
 
-/// Leaves the log of a database that was closed, which the library has cut to 41 bytes. It would begin a log so short anew
-/// when it opens it, with six waits for the disk, and takes a longer one as it is. So a log whose cut is still to be done
-/// stays as it is, unless its file has too many bytes by now, since to cut it takes as long as to write a change; another one
-/// is lengthened, behind its cut. Nothing rests on that, so a failure does no harm.
+/// Leaves the log of a closed database, which the library has cut to 41 bytes. A log so short would be begun
+/// again when the library opens it, with six waits for the disk; a longer one is used as it is. So a log
+/// whose cut is still due stays as it is, since a cut takes as long as writing a change. Any other log, or
+/// one whose file has more than `MOST_BYTES` bytes by now, is made longer after its cut. Nothing relies on
+/// this, so a failure does no harm.
 pub(crate) fn leave<D: Disk>(log: &mut LazyDisk<D>, bytes_now: Option<u64>)
     requires { IsTrue (⟦<LazyDisk<D> as Disk>⟧.is_usable log.old) }
 {
@@ -69,7 +73,7 @@ pub(crate) fn leave<D: Disk>(log: &mut LazyDisk<D>, bytes_now: Option<u64>)
     }
 }
 
-// Whether a log may stay as it is, whose cut is still to be done where it is known to have so many bytes.
+// Whether a log may stay as it is. `uncut` is how many bytes it is known to have while its cut is due.
 fn may_stay(uncut: Option<usize>, bytes_now: Option<u64>) -> bool {
     match (uncut, bytes_now) {
         (Some(known), Some(bytes)) => known >= BARE_LOG && bytes <= MOST_BYTES,
@@ -77,9 +81,9 @@ fn may_stay(uncut: Option<usize>, bytes_now: Option<u64>) -> bool {
     }
 }
 
-/// Empties a log without a change whose pages have another size than the database's, which was put beside it since. The
-/// library takes the size from the log, where there is one, and would refuse the database. Whatever the files stood for they
-/// stand for still. A failure does no harm: the library meets it too.
+/// Empties a log that holds no change and whose page size isn't the database's, which was put next to it
+/// since. The library would take the page size from the log, and refuse the database. What the files mean
+/// stays the same. A failure does no harm: the library meets it too.
 pub(crate) fn fit<D: Disk>(files: &mut DatabaseFiles<D>) -> io::Result<()>
     requires log { IsTrue (D.Disk.is_usable files.old.log) }
     requires db { IsTrue (D.Disk.is_usable files.old.db) }
@@ -117,14 +121,14 @@ fn is_of_another_database<D: Disk>(files: &mut DatabaseFiles<D>) -> io::Result<b
     Ok(number_at(&log, PAGE_IN_LOG) != page_bytes(of_database))
 }
 
-// The number in four bytes of a log, the highest first.
+// The four bytes of a log at `at` as a number, the highest byte first.
 fn number_at(log: &[u8; BARE_LOG], at: usize) -> u32
     requires { at < 53 }
 {
     u32::from_be_bytes([log[at], log[at + 1], log[at + 2], log[at + 3]])
 }
 
-// The number has no room for 65,536, for which 1 stands.
+// The field has two bytes, so 1 means 65,536 (SQLite's file format, section 1.3.2).
 fn page_bytes(of_database: [u8; 2]) -> u32 {
     match u16::from_be_bytes(of_database) {
         1 => 65_536,

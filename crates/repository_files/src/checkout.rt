@@ -1,4 +1,5 @@
-//! The checkout of Git in which the working folder lies.
+//! The checkout of Git in which the working folder lies. Its *history* is the folder that
+//! gitrepository-layout(5) calls the repository, mostly `.git`.
 
 use std::fs::{Metadata, OpenFile};
 use std::io::{ErrorKind, Read};
@@ -6,16 +7,17 @@ use std::os::unix::fs::MetadataExt;
 use std::rt::Files;
 use std::{fs, io};
 
-// How Git names the folder of a checkout's history, or a file that tells where that lies.
+// The name of a checkout's history, or of a file that says where the history is.
 const GIT: &str = ".git";
 
-// What such a file begins with.
+// What such a file begins with (gitrepository-layout(5), "DESCRIPTION").
 const GITDIR: &str = "gitdir: ";
 
 // The most bytes of a file that names a folder.
 const MOST_NAME_BYTES: usize = 4_096;
 
-// The most folders above the working folder that are looked at: a path with more is longer than the system takes.
+// The most folders above the working folder that are looked at. A path with more would be too long for the
+// system.
 const MOST_FOLDERS: usize = 1_000;
 
 /// Where the working folder lies, as Git sees it.
@@ -23,20 +25,20 @@ const MOST_FOLDERS: usize = 1_000;
 pub(crate) enum Checkout {
     /// In no checkout.
     None,
-    /// Within the folder of a checkout's history, of which Git stages nothing.
+    /// Within a checkout's history, from which Git stages nothing.
     History,
-    /// In a checkout, or in a worktree of it, whose history lies in the folder of this name.
+    /// In a checkout, or in a worktree of it, whose history is the folder of this name.
     Of(String),
 }
 
-/// Whether the working folder lies in a checkout of Git. An error where that can't be told, as where what stands for the history is
-/// another user's, or where memory is refused.
+/// Whether the working folder lies in a checkout of Git. An error if that can't be said, for example because
+/// the `.git` is another user's, or if memory is refused.
 pub fn is_in_checkout<R: Files + AllocGlobal>(rt: &R) -> io::Result<bool> {
     Ok(matches!(find_checkout(rt)?, Checkout::Of(_)))
 }
 
-/// Looks for the checkout in the working folder and in those above it. An error where that can't be told, as where what stands for
-/// the history is another user's, or names a folder that holds none.
+/// Looks for the checkout in the working folder and in those above it. An error if that can't be said, for
+/// example because the `.git` is another user's, or names a folder that is no history.
 pub(crate) fn find_checkout<R: Files + AllocGlobal>(rt: &R) -> io::Result<Checkout> {
     let owner = fs::metadata(rt, ".")?.uid();
     let mut up = String::new(rt.alloc());
@@ -55,7 +57,7 @@ pub(crate) fn find_checkout<R: Files + AllocGlobal>(rt: &R) -> io::Result<Checko
     Err(ErrorKind::Unsupported.into())
 }
 
-// The checkout of this history, found above the folder `below`, or in the working folder itself.
+// The checkout of this history, which was found in the folder above `below`, or in the working folder itself.
 fn checkout_of<R: Files + AllocGlobal>(
     rt: &R,
     history: String,
@@ -75,8 +77,9 @@ fn is_same(one: Option<&Metadata>, other: &Metadata) -> bool {
     }
 }
 
-// The folder of a history that this folder's `.git` is or names, or `None` where there is no such entry, or an empty folder, past
-// which Git looks too. An error where it is another user's: it could name any folder in which this one may write.
+// The history that this folder's `.git` is or names. `None` if there is no such entry, or if it is a folder
+// that is no history, past which Git looks too. An error if it is another user's than the working folder: it
+// could name any folder in which this user may write.
 fn history_in<R: Files + AllocGlobal>(
     rt: &R,
     folder: &str,
@@ -114,7 +117,7 @@ fn history_at<R: Files + AllocGlobal>(
     }
 }
 
-// Whether a folder holds a history: Git takes none without a file `HEAD`.
+// Whether a folder is a history: it must have a file `HEAD` (gitrepository-layout(5), "HEAD").
 fn is_history<R: Files + AllocGlobal>(rt: &R, folder: &str) -> io::Result<bool> {
     let head = format!(in rt.alloc(); "{folder}/HEAD")?;
     match fs::symlink_metadata(rt, head.as_str()) {
@@ -124,7 +127,8 @@ fn is_history<R: Files + AllocGlobal>(rt: &R, folder: &str) -> io::Result<bool> 
     }
 }
 
-// The folder that all worktrees of a checkout share, which the file `commondir` of a worktree's history names.
+// The history that all worktrees of a checkout share. The file `commondir` of a worktree's history names it
+// (gitrepository-layout(5), "commondir").
 fn common_folder<R: Files + AllocGlobal>(rt: &R, history: String) -> io::Result<String> {
     let name = format!(in rt.alloc(); "{history}/commondir")?;
     match read_name(rt, name.as_str()) {
@@ -137,13 +141,13 @@ fn common_folder<R: Files + AllocGlobal>(rt: &R, history: String) -> io::Result<
     }
 }
 
-// A place that is told from a folder, whose name ends with a slash or is empty.
+// A place that is given as a full path, or relative to a folder, whose name ends with a slash or is empty.
 fn place_from<R: Files + AllocGlobal>(rt: &R, folder: &str, place: &str) -> io::Result<String> {
     let from = if place.starts_with('/') { "" } else { folder };
     Ok(format!(in rt.alloc(); "{from}{place}")?)
 }
 
-// The name in a file, without the line ends behind it.
+// The name in a file, without the line ends after it.
 fn read_name<R: Files + AllocGlobal>(rt: &R, name: &str) -> io::Result<String> {
     let bytes = read_at_most(rt, name, MOST_NAME_BYTES)?;
     match str::from_utf8(bytes.as_slice()) {
@@ -155,8 +159,8 @@ fn read_name<R: Files + AllocGlobal>(rt: &R, name: &str) -> io::Result<String> {
     }
 }
 
-/// The bytes of a file, of which there are at most so many: else it is an error, and so it is where anything but a file stands at the
-/// name, which isn't opened.
+/// The bytes of a file. An error if there are more than `most`, or if anything but a regular file is at the
+/// name: that isn't opened.
 pub(crate) fn read_at_most<R: Files + AllocGlobal>(
     rt: &R,
     name: &str,

@@ -17,13 +17,13 @@ use std::alloc::Global;
 use std::hash::{BuildHasher, RandomState};
 use std::io::ErrorKind;
 
-/// A file of the database, for which the disk is waited only where something was written. The library waits for both files
-/// several times while it opens them, and to open them has waited for all that is in them already. `Wary` supposes nothing of
-/// the bytes that a write leaves where the power fails within it; a library that supposes more prepares its log for many
-/// commits, and a command makes one.
+/// A file of the database that waits for the disk only if something was written. While the library opens its
+/// two files, it syncs both several times, although `open` has synced all that is in them. `Wary` assumes
+/// nothing about the bytes that a write leaves if the power fails within it. A library that assumes more
+/// prepares its log for many commits, and a command makes only one.
 pub type DatabaseFile = LazyDisk<FileFrom<Wary>>;
 
-// The limit of the process for its files' length, by POSIX's RLIMIT_FSIZE.
+// `RLIMIT_FSIZE` on Linux: the limit on the size of files that this process writes (getrlimit(2)).
 const FILE_BYTES: i32 = 1;
 
 /// The bytes of a page of the databases that the library makes.
@@ -32,12 +32,12 @@ const PAGE_BYTES: u64 = 4_096;
 // The fewest pages that are kept in memory. A database without rows has fewer.
 const FEWEST_PAGES: u64 = 64;
 
-// The most, which are the library's own number: 8 MB.
+// The most pages, which is the library's own number: 8 MB.
 const MOST_PAGES: u64 = 2_000;
 
-/// Opens the database at the path, or makes it where there is none. The library takes the room for the pages that it keeps
-/// when it opens the file, which for all of them takes longer than everything else that it does with a small one. The error
-/// comes with what is left of the files, once they were opened.
+/// Opens the database at the path, or makes it if there is none. The library reserves memory for its pages
+/// when it opens the file. For the most pages this takes longer than everything else that it does with a
+/// small file. The error comes with what is left of the files, if they were opened.
 pub(crate) fn connect(
     rt: &HostRuntime,
     path: &str,
@@ -65,7 +65,7 @@ pub(crate) fn connect(
     connect_over(rt.alloc(), files, options)
 }
 
-// Opens the database in its files, or makes it where they are empty.
+// Opens the database in its files, or makes it if they are empty.
 fn connect_over<D: Disk + Drop>(
     alloc: Global,
     files: DatabaseFiles<LazyDisk<D>>,
@@ -84,8 +84,8 @@ fn connect_over<D: Disk + Drop>(
     }
 }
 
-// The most bytes that a file of this process may get. To write past them, or to ask for such a length, would end the process by the
-// signal SIGXFSZ, which the kit has no call to ignore.
+// The greatest size of a file that this process may write. A write past it, or a longer length, would end the
+// process by the signal `SIGXFSZ` (getrlimit(2), "RLIMIT_FSIZE"), which the kit has no call to ignore.
 fn most_file_bytes() -> usize {
     let mut limit = rlimit {
         rlim_cur: u64::MAX,
@@ -101,7 +101,7 @@ fn random_number(rt: &HostRuntime) -> Result<u64, std::io::Error> {
     Ok(RandomState::new(rt)?.hash_one(&0u8))
 }
 
-// How many pages are kept in memory of a database of so many bytes: twice as many as it has, since it grows.
+// How many pages of a database of this length are kept in memory: twice as many as it has, since it grows.
 fn pages_for(bytes: u64) -> usize {
     let pages = bytes / PAGE_BYTES;
     pages.saturating_mul(2).clamp(FEWEST_PAGES, MOST_PAGES) as usize

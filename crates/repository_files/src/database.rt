@@ -14,7 +14,7 @@ use sqlite_disk::Disk;
 use std::rt::Files;
 use std::{fs, io};
 
-/// The log that the library writes beside the database.
+/// The log that the library writes next to the database.
 pub(crate) const LOG: &str = ".hookhost/store.db-wal";
 
 /// A connection to the store's database, over files of this kind.
@@ -23,23 +23,24 @@ pub type DatabaseOver<D> = Connection<FileStore<LazyDisk<D>>>;
 /// A connection to the store's database.
 pub type Database = Connection<FileStore<DatabaseFile>>;
 
-/// What stood beside the database before it was opened.
+/// What was at the name of the log before the database was opened.
 #[derive(Clone, Copy, Debug)]
 pub struct Before {
     log: Found,
 }
 
 impl Before {
-    /// What stands beside the store's database, which is there. Where an empty file is in its place, or one of a single byte, the
-    /// error is `RepositoryFault::NoStore`: to open it would make a database of it. Where nothing or anything but a file is there,
-    /// or it can't be told, it is `RepositoryFault::CannotUseStore`.
+    /// What is at the name of the log. The store's database must exist. If its file is empty or has a single
+    /// byte, the error is `RepositoryFault::NoStore`: to open it would make a database of it. If nothing or
+    /// anything but a file is there, or if this can't be said of either name, it is
+    /// `RepositoryFault::CannotUseStore`.
     pub fn found<R: Files>(rt: &R, _lock: &Lock) -> Result<Before, RepositoryFault>
         ensures { IfErr result IsFaultOfOpening }
     {
         before_of(found_at(rt, STORE), found_at(rt, LOG))
     }
 
-    // Puts the log back as it was, where nothing was written to it. Nobody else may have the database open.
+    // Puts the log back as it was, if no change was written to it. Nobody else may have the database open.
     fn put_back<R: Files>(&self, rt: &R) {
         match self.log {
             Found::Nothing => {
@@ -66,8 +67,8 @@ fn before_of(store: io::Result<Found>, log: io::Result<Found>) -> Result<Before,
     }
 }
 
-/// Opens the database, which is there. Where its file is at fault, the error is `RepositoryFault::CannotUseStore`, and else
-/// `RepositoryFault::NoStore`; the folder is then as before.
+/// Opens the database, which must exist. If its file is at fault, the error is
+/// `RepositoryFault::CannotUseStore`, and otherwise `RepositoryFault::NoStore`. The folder is then as before.
 pub fn open_database(rt: &HostRuntime, before: &Before) -> Result<Database, RepositoryFault>
     ensures outside { IfOk result (λ conn. conn.in_transaction ≡ false) }
     ensures refused { IfErr result IsFaultOfDatabase }
@@ -75,7 +76,7 @@ pub fn open_database(rt: &HostRuntime, before: &Before) -> Result<Database, Repo
     match connect(rt, STORE) {
         Ok(conn) => Ok(conn),
         Err((error, left)) => {
-            // Without what is left of the files, another process may have opened the database.
+            // If nothing is left of the files, another process may have opened the database.
             if left.is_some() {
                 before.put_back(rt);
             }
@@ -84,9 +85,10 @@ pub fn open_database(rt: &HostRuntime, before: &Before) -> Result<Database, Repo
     }
 }
 
-/// Opens the store in the database, whatever that is kept in. One of an earlier version is taken over, which is a change. The error
-/// is `RepositoryFault::NoStore`, and the folder is then as before; where taking a store over is refused, its log may have been
-/// written to, and is left as it is, as behind a refused change: the next command reads it.
+/// Opens the store in the database, whatever kind of storage that uses. A store of an earlier version is
+/// adopted, which is a change (docs/REFERENCE.md, "A store of version 1"). The error is
+/// `RepositoryFault::NoStore`, and the folder is then as before. If adopting a store is refused, the log may
+/// have been written to. It is left as it is, as after a refused change, and the next command reads it.
 pub fn open_store<S: Alter + Drop>(
     rt: &HostRuntime,
     before: &Before,
@@ -107,11 +109,12 @@ pub fn open_store<S: Alter + Drop>(
     }
 }
 
-/// Leaves the database, over files of any kind: what is said of those that the program has takes the checker minutes. Where
-/// its log may hold what the database lacks, be it of this command or of one that was killed, that is copied into the
-/// database, which is all of the repository then; else the log is as before, and the disk isn't waited for. Where the copying
-/// fails, the log keeps its changes, and nothing is lost. Either way the files are closed, and with them go the locks that the
-/// library has on them: whoever gets the repository's lock next finds them free.
+/// Leaves the database. If its log may hold what the database lacks, from this command or a killed one, that
+/// is copied into the database. The database is then all of the repository. Otherwise the log is as before,
+/// and there is no wait for the disk. If the copying fails, the log keeps its changes, and nothing is lost.
+/// Either way the files are closed, which releases the library's locks on them: whoever gets the repository's
+/// lock next finds them free. It is generic over the files because the same statements about the program's
+/// own files take the checker minutes.
 pub fn leave_database<R: Files, D: Disk + Drop>(rt: &R, before: &Before, conn: DatabaseOver<D>) {
     if bare_log::may_hold_change(rt, LOG) {
         let _copied = close_database(rt, LOG, conn);
@@ -121,9 +124,9 @@ pub fn leave_database<R: Files, D: Disk + Drop>(rt: &R, before: &Before, conn: D
     }
 }
 
-/// Copies the log at the name into the database, which has all of it then, as the disk does. The log stays beside it, without
-/// a change in it: the next command waits longer for the disk where it has to make that file. The errors are those of
-/// [`open_database`].
+/// Copies the log of this name into the database, which then has all of it, as the disk does. The log stays
+/// next to it, without a change in it: a command that has to make that file waits longer for the disk. The
+/// errors are those of [`open_database`].
 pub(crate) fn close_database<R: Files, D: Disk + Drop>(
     rt: &R,
     log: &str,

@@ -1,5 +1,5 @@
-//! The folder of a repository, which lies in the working folder: its store's file, the lock that keeps other commands out,
-//! and the folder in which children run.
+//! The folder of a repository, which lies in the working folder: its store's file, the lock that keeps other
+//! commands out, and the folder in which children run.
 
 ghost use Rattle.std.specs.Prelude.{◌≡◌, ◌↔◌, IfErr, IsTrue};
 ghost use Rattle.repository_files.specs.RepositoryFaults.{IsFile, IsFoundWith};
@@ -21,30 +21,30 @@ pub const LOCK: &str = ".hookhost/lock";
 /// The folder in which children run. It is made for the first of them, with the folder that holds it.
 pub const SCRATCH: &str = ".hookhost/scratch";
 
-/// The folder that holds them.
+/// The folder that holds the store, the lock and the folder of children.
 pub const FOLDER: &str = ".hookhost";
 
-// The last descriptor of a standard stream.
+// The descriptor of standard error, `STDERR_FILENO`, the last of the standard streams.
 const LAST_STREAM: i32 = 2;
 
-/// The lock of the repository: no other process has it before this value is dropped or the process ends.
+/// The lock of the repository: no other process has it until this value is dropped or the process ends.
 #[derive(Drop)]
 pub struct Lock {
     _file: File,
 }
 
-/// What stands at the name of a file. A link isn't followed.
+/// What is at the name of a file. A link isn't followed.
 #[derive(Clone, Copy, Debug, PartialEq, Eq)]
 pub(crate) enum Found {
     /// Nothing.
     Nothing,
     /// A file without bytes.
     Empty,
-    /// A file of one byte, which the database's library takes for one without.
+    /// A file of one byte, which the database's library treats as empty.
     OneByte,
     /// A file with more bytes.
     Filled,
-    /// Anything but a file, as a folder, a link or a fifo.
+    /// Anything but a regular file, such as a folder, a link or a fifo.
     Other,
 }
 
@@ -57,7 +57,7 @@ pub(crate) enum Folder {
     Made,
 }
 
-/// Makes the repository's folder where it isn't. The error is `RepositoryFault::CannotUseStore`.
+/// Makes the repository's folder if there is none. The error is `RepositoryFault::CannotUseStore`.
 pub(crate) fn make_folder<R: Files>(rt: &R) -> Result<Folder, RepositoryFault>
     ensures { IfErr result (λ fault. fault ≡ CannotUseStore) }
 {
@@ -70,7 +70,7 @@ pub(crate) fn make_folder<R: Files>(rt: &R) -> Result<Folder, RepositoryFault>
     }
 }
 
-/// Looks whether the store's file is there and can be read, without opening it for writing. The error is
+/// Checks that the store's file exists and can be read, without opening it for writing. The error is
 /// `RepositoryFault::CannotUseStore`.
 pub fn look_at_store<R: Files>(rt: &R) -> Result<(), RepositoryFault>
     ensures { IfErr result (λ fault. fault ≡ CannotUseStore) }
@@ -85,8 +85,8 @@ pub fn look_at_store<R: Files>(rt: &R) -> Result<(), RepositoryFault>
     }
 }
 
-/// Looks whether the name of the store's file is free. Where anything is there, or it can't be told, the error is
-/// `RepositoryFault::CannotUseStore`.
+/// Checks that the name of the store's file is free. If anything is there, or if this can't be said, the
+/// error is `RepositoryFault::CannotUseStore`.
 pub(crate) fn look_for_no_store<R: Files>(rt: &R) -> Result<(), RepositoryFault>
     ensures { IfErr result (λ fault. fault ≡ CannotUseStore) }
 {
@@ -96,8 +96,8 @@ pub(crate) fn look_for_no_store<R: Files>(rt: &R) -> Result<(), RepositoryFault>
     }
 }
 
-/// Takes the lock. Where another process has it, or where its file can't be opened or is no file, the error is
-/// `RepositoryFault::CannotUseLock`.
+/// Takes the lock. If another process has it, or if its file can't be opened or isn't a regular file, the
+/// error is `RepositoryFault::CannotUseLock`.
 pub fn take_lock(rt: &HostRuntime) -> Result<Lock, RepositoryFault>
     ensures { IfErr result (λ fault. fault ≡ CannotUseLock) }
 {
@@ -108,30 +108,31 @@ pub fn take_lock(rt: &HostRuntime) -> Result<Lock, RepositoryFault>
 }
 
 fn try_to_lock(rt: &HostRuntime) -> io::Result<Lock> {
-    // To open a fifo would wait for its reader, and a link may lead out of the folder.
+    // Opening a fifo would wait for its reader (fifo(7)), and a link may lead out of the folder.
     if found_at(rt, LOCK)? == Found::Other {
         return Err(io::ErrorKind::Unsupported.into());
     }
     let mut file = OpenOptions::new().write(true).create(true).open(rt, LOCK)?;
-    // What is meant for a standard stream that was closed must not land in the file.
+    // If a standard stream was closed, open(2) has given its number to the file. Output for that stream must
+    // not land there.
     if file.as_raw_fd() <= LAST_STREAM {
         file = file.try_clone()?;
     }
     file.try_lock()?;
-    // An `init` that made the folder, and failed, has taken the file away: its lock keeps nobody out.
+    // An `init` that made the folder and then failed has removed the file: a lock on it keeps nobody out.
     if !is_at(rt, &file, LOCK)? {
         return Err(io::ErrorKind::NotFound.into());
     }
     Ok(Lock { _file: file })
 }
 
-// Whether the file stands at the name.
+// Whether this file is at the name.
 fn is_at(rt: &HostRuntime, file: &File, name: &str) -> io::Result<bool> {
     let (held, named) = (file.metadata()?, fs::symlink_metadata(rt, name)?);
     Ok(held.dev() == named.dev() && held.ino() == named.ino())
 }
 
-/// What stands at a name.
+/// What is at a name.
 pub(crate) fn found_at<R: Files>(rt: &R, name: &str) -> io::Result<Found> {
     match fs::symlink_metadata(rt, name) {
         Ok(found) if !found.is_file() => Ok(Found::Other),
@@ -141,7 +142,7 @@ pub(crate) fn found_at<R: Files>(rt: &R, name: &str) -> io::Result<Found> {
     }
 }
 
-// A file of so many bytes.
+// What a file of this length counts as.
 fn found_with(bytes: u64) -> Found
     ensures { IsFoundWith bytes result }
 {
@@ -161,7 +162,7 @@ fn is_file(found: Found) -> bool
     }
 }
 
-/// Takes a file away, where there is one.
+/// Removes a file, if there is one.
 pub(crate) fn take_away<R: Files>(rt: &R, name: &str) -> io::Result<()> {
     match fs::remove_file(rt, name) {
         Err(error) if error.kind() != io::ErrorKind::NotFound => Err(error),
@@ -169,7 +170,7 @@ pub(crate) fn take_away<R: Files>(rt: &R, name: &str) -> io::Result<()> {
     }
 }
 
-/// How many bytes the file at the name has, or `None` where that can't be told.
+/// How many bytes the file of this name has, or `None` if that can't be said.
 pub(crate) fn bytes_at<R: Files>(rt: &R, name: &str) -> Option<u64> {
     match fs::symlink_metadata(rt, name) {
         Ok(found) => Some(found.len()),

@@ -1,5 +1,6 @@
-//! How Git is kept from staging the folder of a repository: by a line of the checkout's own, `info/exclude`. A file `.gitignore` in
-//! the folder would do so too, but it stands above the files over which hooks run, and hides them from tools that go by such files.
+//! How Git is kept from staging the folder of a repository: by a line in the checkout's `info/exclude`
+//! (gitignore(5), "DESCRIPTION"). A file `.gitignore` in the folder would do so too. But it would be above
+//! the files over which hooks run, and hide them from tools that follow such files.
 
 use crate::checkout::{Checkout, find_checkout, read_at_most};
 use std::fs::OpenOptions;
@@ -7,27 +8,30 @@ use std::io::{ErrorKind, Write};
 use std::rt::Files;
 use std::{fs, io};
 
-/// The file by which an earlier program had Git ignore the folder.
+/// The file with which an earlier program made Git ignore the folder.
 const IGNORE_FILE: &str = ".hookhost/.gitignore";
 
-// All that it had in it.
+// All that such a file contains.
 const IGNORES_ALL: &[u8] = b"*\n";
 
-// The line that keeps the folder out.
+// The line that keeps the folder out. With its slash at the end it matches only folders (gitignore(5),
+// "PATTERN FORMAT").
 const LINE: &str = ".hookhost/";
 
-// The most bytes of a file of such lines that is added to.
+// The most bytes of an `info/exclude` to which the line is added.
 const MOST_EXCLUDE_BYTES: usize = 1_048_576;
 
-/// Sees that Git doesn't stage the repository's folder, where the working folder lies in a checkout, and then removes the ignore file
-/// of an earlier program, where it has just what that wrote. A failure isn't told, and leaves that file: the repository works without.
+/// Makes sure that Git doesn't stage the repository's folder, if the working folder lies in a checkout. Then
+/// it removes the ignore file of an earlier program, if that has just what the program wrote. A failure isn't
+/// reported, and leaves that file: the repository works without this.
 pub fn keep_out_of_git<R: Files + AllocGlobal>(rt: &R) {
     if see_to_line(rt).is_ok() {
         let _gone = remove_ignore_file(rt);
     }
 }
 
-/// Does so only if there is such an ignore file: what needs no repository writes nothing else into a checkout.
+/// Does the same, but only if there is such an ignore file: a command that needs no repository writes nothing
+/// else into a checkout.
 pub fn replace_ignore_file<R: Files + AllocGlobal>(rt: &R) {
     if is_ignore_file(rt).unwrap_or(false) {
         keep_out_of_git(rt);
@@ -41,7 +45,7 @@ fn see_to_line<R: Files + AllocGlobal>(rt: &R) -> io::Result<()> {
     }
 }
 
-// Sees that the file of the history has the line.
+// Makes sure that the history's `info/exclude` has the line.
 fn have_line<R: Files + AllocGlobal>(rt: &R, history: &str) -> io::Result<()> {
     let name = format!(in rt.alloc(); "{history}/info/exclude")?;
     match read_at_most(rt, name.as_str(), MOST_EXCLUDE_BYTES) {
@@ -67,7 +71,8 @@ fn append_line<R: Files>(rt: &R, name: &str, bytes: &[u8]) -> io::Result<()> {
     write_line(&mut file)
 }
 
-// Makes the file, and its folder where that is missing. Whatever stands at its name, as a link that leads nowhere, stays.
+// Makes the file, and its folder if that is missing. Whatever else is at its name, such as a link that leads
+// nowhere, stays.
 fn make_with_line<R: Files + AllocGlobal>(rt: &R, history: &str, name: String) -> io::Result<()> {
     let folder = format!(in rt.alloc(); "{history}/info")?;
     let _made_or_there = fs::create_dir(rt, folder.as_str());

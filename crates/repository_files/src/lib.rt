@@ -1,11 +1,11 @@
-//! The files of a repository: its folder, the lock that keeps other commands out, and the database of its store with the log
-//! beside it.
+//! The files of a repository: its folder, the lock that keeps other commands out, and the database of its
+//! store with its log.
 //!
-//! [`init`] makes a repository, and [`keep_out_of_git`] keeps its folder out of Git, in a checkout of which
-//! it may lie ([`is_in_checkout`]). A command looks for one by [`look_at_store`],
-//! takes the lock by [`take_lock`], opens the database by [`open_database`] and the store in it by [`open_store`], and leaves it
-//! by [`leave_database`]. What a file holds no contract can say: the clauses tell errors apart, by
-//! `specs/RepositoryFaults.antt`, and that a log which is emptied held no change.
+//! [`init`] makes a repository. [`keep_out_of_git`] keeps its folder out of Git, since it may lie in a
+//! checkout ([`is_in_checkout`]). A command looks for a repository with [`look_at_store`] and takes its lock
+//! with [`take_lock`]. It opens the database with [`open_database`] and the store in it with [`open_store`],
+//! and leaves it with [`leave_database`]. No contract can say what a file contains. The clauses say which
+//! errors may come, by `specs/RepositoryFaults.antt`, and that a log which is emptied held no change.
 #![tactic(auto)]
 
 mod bare_log;

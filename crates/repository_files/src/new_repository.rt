@@ -1,7 +1,7 @@
 //! A new repository in the working folder.
 //!
-//! Its database is made under another name, and put in place once it is a store and the disk has all of it: `store.db` is a
-//! store, or isn't there.
+//! Its database is made under another name, and renamed once it is a store and all of it is on the disk:
+//! `store.db` is a store or doesn't exist.
 
 ghost use Rattle.std.specs.Prelude.{◌≡◌, false, IfErr};
 ghost use Rattle.repository_files.specs.RepositoryFaults.{IsFaultOfOpening};
@@ -22,16 +22,18 @@ use std::fs::OpenFile;
 use std::rt::Files;
 use std::{fs, io};
 
-// The database while it is made. No other command knows the name, and what lies there a killed `init` has left.
+// The database while it is made. No other command uses the name, so what is there was left by a killed
+// `init`.
 const NEW_STORE: &str = ".hookhost/new.db";
 
-// The log that the library writes beside it.
+// The log that the library writes next to it.
 const NEW_LOG: &str = ".hookhost/new.db-wal";
 
-/// Makes an empty repository, whose folder is kept out of Git. The errors are, in this order: `CannotUseStore` where anything stands at
-/// the store's name, or the folder can't be made, `CannotUseLock`, `CannotUseStore` where another `init` has made a store since,
-/// and then `CannotUseStore` and `NoStore` where the database can't be made or put in place. An error leaves the folder as it
-/// was, but for its lock if the folder was there, and what a killed `init` left.
+/// Makes an empty repository, whose folder is kept out of Git. The errors are, in this order:
+/// `CannotUseStore` if anything is at the store's name, or if the folder can't be made; `CannotUseLock`;
+/// `CannotUseStore` if another `init` has made a store since, or if anything but a file is at the log's name;
+/// and then `CannotUseStore` or `NoStore` if the database can't be made or renamed. An error leaves the
+/// folder as it was, except for its lock if the folder was there, and for what a killed `init` left.
 pub fn init(rt: &HostRuntime) -> Result<(), RepositoryFault> {
     look_for_no_store(rt)?;
     let folder = make_folder(rt)?;
@@ -39,7 +41,7 @@ pub fn init(rt: &HostRuntime) -> Result<(), RepositoryFault> {
     if done.is_ok() {
         keep_out_of_git(rt);
     } else if folder == Folder::Made {
-        // Another command may have put its lock there.
+        // This fails if another command has put its lock there.
         let _unless_used = fs::remove_dir(rt, FOLDER);
     }
     done
@@ -50,13 +52,14 @@ fn init_in(rt: &HostRuntime, folder: Folder) -> Result<(), RepositoryFault> {
     let lock = take_lock(rt)?;
     let done = init_under(rt, &lock);
     if done.is_err() && folder == Folder::Made {
-        // Whoever has opened the file waits no longer for the lock than this process has it, and then finds it gone.
+        // Another process that has opened the file can lock it only after this one, and then finds that it is
+        // gone.
         let _gone = take_away(rt, LOCK);
     }
     done
 }
 
-// Makes a repository while nobody else works on it.
+// Makes a repository under its lock.
 fn init_under(rt: &HostRuntime, _lock: &Lock) -> Result<(), RepositoryFault>
     ensures { IfErr result IsFaultOfOpening }
 {
@@ -70,8 +73,8 @@ fn init_under(rt: &HostRuntime, _lock: &Lock) -> Result<(), RepositoryFault>
     done
 }
 
-// What stands at the name of the log, which may be that of a store that was taken away. Where it is no file, or can't be told,
-// the error is `CannotUseStore`.
+// What is at the name of the log, which may be left of a store that was removed. If it isn't a file, or if
+// that can't be said, the error is `CannotUseStore`.
 fn log_before<R: Files>(rt: &R) -> Result<Found, RepositoryFault>
     ensures { IfErr result (λ fault. fault ≡ CannotUseStore) }
 {
@@ -81,7 +84,7 @@ fn log_before<R: Files>(rt: &R) -> Result<Found, RepositoryFault>
     }
 }
 
-// Takes away what a killed `init` left, the log first: a new database beside it would be read with it.
+// Removes what a killed `init` left, the log first: a new database next to it would be read with it.
 fn take_new_away<R: Files>(rt: &R) -> Result<(), RepositoryFault>
     ensures { IfErr result (λ fault. fault ≡ CannotUseStore) }
 {
@@ -91,7 +94,7 @@ fn take_new_away<R: Files>(rt: &R) -> Result<(), RepositoryFault>
     Ok(())
 }
 
-// Takes away what was made. Before, nothing was at the store's name.
+// Removes what was made. Before, nothing was at the store's name.
 fn undo<R: Files>(rt: &R, log: Found) {
     let _gone = take_away(rt, STORE);
     let _gone = take_new_away(rt);
@@ -120,7 +123,8 @@ fn make_database(rt: &HostRuntime) -> Result<(), RepositoryFault>
     }
 }
 
-// Makes a store in a database, and closes it: then its file has all of it, and the disk has the file.
+// Makes a store in a database, and closes it. Then the database's file has all of it, and the file is on the
+// disk.
 fn make_and_close<D: Disk + Drop>(
     rt: &HostRuntime,
     conn: DatabaseOver<D>,
@@ -134,7 +138,7 @@ fn make_and_close<D: Disk + Drop>(
     }
 }
 
-// Makes a store in a database, whatever that is kept in.
+// Makes a store in a database, whatever kind of storage that uses.
 fn make_store<S: Alter + Drop>(
     rt: &HostRuntime,
     conn: Connection<S>,
@@ -148,8 +152,8 @@ fn make_store<S: Alter + Drop>(
     }
 }
 
-// Gives the database its name. First its log takes the place of one that may lie there, and the disk is waited for: beside the
-// database there must be no log of another one, whenever the power fails.
+// Gives the database its name. First its log replaces one that may be there, and the folder is synced:
+// whenever the power fails, the database must have no other one's log next to it.
 fn put_in_place<R: Files>(rt: &R) -> io::Result<()> {
     fs::rename(rt, NEW_LOG, LOG)?;
     sync_folder(rt)?;

@@ -1,11 +1,11 @@
--- What `fixes` says, a line a fix, and what `accept` says of how many there were.
+-- What `fixes` prints, a line for each fix, and what `accept` prints of their number.
 use Rattle.std.specs.Prelude.{ℕ, List, ◌++◌, codes, Option, None, Some}
 use Rattle.std.specs.List.{flat_map}
 use Rattle.std.specs.Fmt.{decimal}
 use Rattle.hook_base.specs.declared.change.Change.{Change}
 use Rattle.report_text.specs.Report.{line}
 
--- what a fix makes of its file: it gets other bytes, or it is deleted
+-- what a fix does to its file: it changes the bytes, or it deletes the file
 abbrev pub fix_mark : Option (List ℕ) → List ℕ
 fix_mark (Some bytes) = codes "M "
 fix_mark None = codes "D "

@@ -1,4 +1,4 @@
--- What `show` says of a commit: its message, an empty line, and its paths.
+-- What `show` prints of a commit: its message, an empty line, and its paths.
 use Rattle.std.specs.Prelude.{ℕ, ◌==◌, if◌then◌else◌, List, [], ◌∷◌, ◌++◌}
 use Rattle.std.specs.List.{flat_map}
 use Rattle.hook_base.specs.declared.file.File.{File}

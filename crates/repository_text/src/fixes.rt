@@ -1,4 +1,4 @@
-//! What `fixes` says.
+//! The text that `fixes` prints (docs/REFERENCE.md, "The command line").
 //!
 //! The contracts cite `specs/FixesText.antt`.
 
@@ -11,7 +11,7 @@ use report_text::{push, push_line};
 use sqlite::Alter;
 use std::alloc::Global;
 
-/// The fixes of a store, a line each, in the order of their paths.
+/// The fixes of a store, a line for each, in the order of their paths.
 pub fn fixes_text<S: Alter>(alloc: Global, store: &Store<S>) -> Result<Vec<u8>, OutOfMemory>
     ensures { IfOk result (λ text. text.items ≡ fixes_text store.now.kept.repo.fixes) }
 {
@@ -37,7 +37,7 @@ fn push_fix_line(text: &mut Vec<u8>, fix: &Change) -> Result<(), OutOfMemory>
     push_line(text, fix.path.as_str().as_bytes())
 }
 
-// What a fix's line begins with.
+// The mark that a fix's line begins with.
 fn mark_of(fix: &Change) -> &'static [u8]
     ensures { result.now ≡ fix_mark fix.entry.now.now }
 {

@@ -1,8 +1,8 @@
-//! What the commands print that look something up in a repository: `status`, `fixes`, `log` and `show`, each as the text of a
-//! store.
+//! The texts that the look-up commands `status`, `fixes`, `log` and `show` print, each made from a store.
 //!
-//! The contracts cite `specs/StatusText.antt`, `specs/FixesText.antt`, `specs/LogText.antt` and `specs/ShowText.antt`;
-//! `specs/StatusWalk.antt` serves private functions only. [`laws`] says which paths `status` looks at.
+//! The contracts cite `specs/StatusText.antt`, `specs/FixesText.antt`, `specs/LogText.antt` and
+//! `specs/ShowText.antt`; `specs/StatusWalk.antt` is for private functions only. [`laws`] says which paths
+//! `status` looks at.
 #![tactic(auto)]
 
 mod fixes;

@@ -1,4 +1,4 @@
-//! What `log` says.
+//! The text that `log` prints (docs/REFERENCE.md, "The command line").
 //!
 //! The contracts cite `specs/LogText.antt`.
 
@@ -13,7 +13,7 @@ use report_text::{push, push_line};
 use sqlite::Alter;
 use std::alloc::Global;
 
-/// The commits of a store, a line each, the newest first.
+/// The commits of a store, a line for each, the newest first.
 pub fn log_text<S: Alter>(alloc: Global, store: &Store<S>) -> Result<Vec<u8>, OutOfMemory>
     ensures { IfOk result (λ text. text.items ≡ log_text store.now.kept.repo.history) }
 {
@@ -26,7 +26,7 @@ fn push_log_lines<S: Alter>(text: &mut Vec<u8>, store: &Store<S>) -> Result<(), 
     ensures { OnOk result (text.new.items ≡ text.old.items ++ log_text store.now.kept.repo.history) }
 {
     let mut number = store.count_commits();
-    // No commit has the number 0.
+    // Commits are numbered from 1, so the walk ends at 0.
     'commits: while let Some(message) = store.message_of(number) {
         push_log_line(text, number, message)?;
         number -= 1;

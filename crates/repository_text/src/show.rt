@@ -1,4 +1,4 @@
-//! What `show` says.
+//! The text that `show` prints (docs/REFERENCE.md, "The command line").
 //!
 //! The contracts cite `specs/ShowText.antt`.
 
@@ -14,7 +14,7 @@ use report_text::{push, push_line};
 use sqlite::Alter;
 use std::alloc::Global;
 
-/// The message of a commit, an empty line and its paths, or `None` where no commit has the number.
+/// The message of a commit, an empty line and its paths, or `None` if no commit has the number.
 pub fn show_text<S: Alter>(
     alloc: Global,
     store: &Store<S>,
@@ -33,7 +33,7 @@ pub fn show_text<S: Alter>(
     Ok(Some(Bytes::from(text)))
 }
 
-// The message, with a line feed at its end unless it is empty or has one there.
+// Appends the message, and a line feed unless the message is empty or ends with one.
 fn push_message(text: &mut Vec<u8>, message: &[u8]) -> Result<(), OutOfMemory>
     ensures { OnOk result (text.new.items ≡ text.old.items ++ ended message.now) }
 {

@@ -1,6 +1,6 @@
-//! What `status` says.
+//! The text that `status` prints (docs/REFERENCE.md, "The command line").
 //!
-//! The contracts cite `specs/StatusText.antt`; `specs/StatusWalk.antt` serves private functions.
+//! The contracts cite `specs/StatusText.antt`; `specs/StatusWalk.antt` is for private functions.
 
 ghost use Rattle.std.specs.Prelude.{◌≡◌, ◌++◌, IfOk, OnOk, drop};
 ghost use Rattle.repo_store.specs.Repository.{last_tree};
@@ -14,7 +14,7 @@ use sqlite::Alter;
 use std::alloc::Global;
 use std::cmp::Ordering;
 
-// The next path of the staged files and of those of the last commit, and which of them have it.
+// The next path in the walk over the staged files and those of the last commit, and which of the two have it.
 enum Next<'a> {
     Over,
     Staged(&'a RepoPath),
@@ -22,7 +22,7 @@ enum Next<'a> {
     Both(&'a RepoPath),
 }
 
-/// How the staged files differ from those of the last commit, a line a path.
+/// How the staged files differ from those of the last commit, a line for each path.
 pub fn status_text<S: Alter>(alloc: Global, store: &Store<S>) -> Result<Vec<u8>, OutOfMemory>
     ensures { IfOk result (λ text. text.items ≡ status_text store.now.kept.repo.staged (last_tree store.now.kept.repo.history)) }
 {
@@ -58,7 +58,8 @@ fn push_change_lines<S: Alter>(text: &mut Vec<u8>, store: &Store<S>) -> Result<(
     Err(OutOfMemory)
 }
 
-// Where the walk over both trees goes on, the one walked up to `staged` and the other up to `last`.
+// The next step of the walk over both trees, after `staged` of the staged files and `last` of the last
+// commit's.
 fn next_of<'a, S: Alter>(store: &'a Store<S>, staged: usize, last: usize) -> Next<'a>
     ensures { paths_of_both (drop staged store.now.kept.repo.staged) (drop last (last_tree store.now.kept.repo.history)) ≡ paths_from_next store.now.kept.repo.staged (last_tree store.now.kept.repo.history) staged last result }
 {
@@ -88,7 +89,7 @@ fn push_change_line<S: Alter>(
     push_line(text, path.as_str().as_bytes())
 }
 
-// What a path's line begins with.
+// The mark that a path's line begins with.
 fn mark_of(is_staged: bool, is_in_head: bool) -> &'static [u8]
     ensures { result.now ≡ mark_of is_staged is_in_head }
 {

@@ -1,4 +1,4 @@
--- Lemmas on what the calls of a book make of what it remembers.
+-- Lemmas on what the calls of a book change.
 use Rattle.std.specs.Prelude.{◌≡◌, ◌⊎◌, ◌≤◌, ◌<◌, ◌+◌, ℕ, zero, suc, not, List, [], ◌∷◌, ◌++◌, length, take, Option, None, Some, refl}
 use Rattle.std.proofs.Common.{ap, sym, ◌∙◌, inl, inr, subst, arith}
 use Rattle.std.proofs.lemmas.List.Elements.{filter-append}
@@ -20,7 +20,7 @@ pub found_after_put : (words : List (List ℕ)) (seen : List File) (answer : Ans
 found_after_put words seen answer before after None step lacks = absurd (lacks answer step.put)
 found_after_put words seen answer before after (Some other) step holds = ap Some (step.replaced other holds)
 
--- what another key answers afterwards, it answered before
+-- what another key finds after a put, it found before
 pub others_before_put : (words : List (List ℕ)) (seen : List File) (answer : Answer) (before after : Contents) (others : List (List ℕ)) (theirs : List File) (other : Answer)
     → AfterPut words seen answer before after → ¬ IsSameKey others theirs words seen → Holds others theirs other after → Holds others theirs other before
 others_before_put words seen answer before after others theirs other step differs held =
@@ -29,14 +29,14 @@ others_before_put words seen answer before after others theirs other step differ
       | inr old ↦ old
     ]
 
--- where what another key answers is kept, the same is found
+-- if the answers of another key are kept, it finds the same
 others_from : (words : List (List ℕ)) (seen : List File) (answer : Answer) (before after : Contents) (others : List (List ℕ)) (theirs : List File) (found : Option Answer)
     → AfterPut words seen answer before after → ¬ IsSameKey others theirs words seen → ((other : Answer) → Holds others theirs other before → Holds others theirs other after)
     → Finds others theirs before found → Finds others theirs after found
 others_from words seen answer before after others theirs None step differs kept lacks = λ other held. lacks other (others_before_put words seen answer before after others theirs other step differs held)
 others_from words seen answer before after others theirs (Some other) step differs kept holds = kept other holds
 
--- of the rows in front of the last one none is dropped
+-- no row before the last one is dropped
 stays_among : (words : List (List ℕ)) (seen : List File) (answer : Answer) (limit : ℕ) (rows more : List BookRow) → length (other_rows words seen rows) < limit
     → (others : List (List ℕ)) (theirs : List File) (other : Answer) → ¬ IsSameKey others theirs words seen → HaveRow others theirs other rows
     → HaveRow others theirs other (take limit (new_row words seen answer ∷ other_rows words seen (rows ++ more)))
@@ -49,7 +49,7 @@ stays_among words seen answer (suc limit) rows more few others theirs other diff
     ]
 
 module _ (words : List (List ℕ)) (seen : List File) (answer : Answer) (before after : Contents) (step : AfterPut words seen answer before after) where
-  -- where a row more has room, those of other keys stay
+  -- if there is room for one more row, the rows of other keys stay
   stays_in_room : length (other_rows words seen before.rows) < before.limit → (others : List (List ℕ)) (theirs : List File) (other : Answer) → ¬ IsSameKey others theirs words seen
       → Holds others theirs other before → Holds others theirs other after
   stays_in_room room others theirs other differs held =
@@ -73,7 +73,7 @@ module _ (words : List (List ℕ)) (seen : List File) (answer : Answer) (before 
       let fewer = one_fewer words seen old before.rows distinct have in
       others_from words seen answer before after others theirs found step differs (λ other held. stays_in_room (omega arith) others theirs other differs held) finds
 
-  -- all but the last row stay
+  -- all rows but the last one stay
   pub others_but_last : (rows : List BookRow) (last : BookRow) → before.rows ≡ rows ++ last ∷ [] → count_of before ≤ before.limit → (others : List (List ℕ)) (theirs : List File) (found : Option Answer)
       → ¬ IsSameKey others theirs words seen → ¬ HasKey others theirs last → Finds others theirs before found → Finds others theirs after found
   others_but_last rows last all within others theirs found differs apart finds =
@@ -98,7 +98,7 @@ module _ (words : List (List ℕ)) (seen : List File) (answer : Answer) (before 
       all_but (row ∷ some) other (inl here) = inl (inl here)
       all_but (row ∷ some) other (inr later) = elim (all_but some other later) [ inl held ↦ inl (inr held) | inr key ↦ inr key ]
 
--- ---- what is in front, and the limit
+-- ---- the front row, and the limit
 
 pub front_after_find : (words : List (List ℕ)) (seen : List File) (answer : Answer) (before after : Contents) → HaveDistinctKeys before.rows → AfterFind words seen before after → Holds words seen answer before
     → after.rows ≡ new_row words seen answer ∷ other_rows words seen before.rows
@@ -117,7 +117,7 @@ pub within_after_put : (words : List (List ℕ)) (seen : List File) (answer : An
 within_after_put words seen answer before after step =
     subst (λ (all : Contents). count_of all ≤ before.limit) (sym step.is) (first_count before.limit (new_row words seen answer ∷ other_rows words seen before.rows))
 
--- ---- forgetting
+-- ---- removing all answers
 
 pub have_none : (words : List (List ℕ)) (seen : List File) (answer : Answer) (rows : List BookRow) → rows ≡ [] → HaveRow words seen answer rows → ⊥
 have_none words seen answer rows none have = subst (λ (all : List BookRow). HaveRow words seen answer all) none have
@@ -129,9 +129,9 @@ found_after_forget before after words seen (Some answer) step holds = absurd (ha
 pub count_after_forget : (before after : Contents) → AfterForget before after → count_of after ≡ 0
 count_after_forget before after step = ap length step.none
 
--- ---- books that hold the same are as long
+-- ---- books that hold the same answers have the same length
 
--- the rows but the one that answers so
+-- the rows without the first that has this answer for the words and the seen files
 abbrev but : (words : List (List ℕ)) (seen : List File) (answer : Answer) (rows : List BookRow) → HaveRow words seen answer rows → List BookRow
 but words seen answer [] have = []
 but words seen answer (row ∷ rows) (inl have) = rows
@@ -142,7 +142,7 @@ length_but words seen answer [] have = absurd have
 length_but words seen answer (row ∷ rows) (inl have) = refl
 length_but words seen answer (row ∷ rows) (inr have) = ap suc (length_but words seen answer rows have)
 
--- what is answered is answered by the others, or for the same key
+-- an answer of the rows is one of the remaining rows, or is for the same key
 same_or_but : (words : List (List ℕ)) (seen : List File) (answer : Answer) (rows : List BookRow) (have : HaveRow words seen answer rows) (others : List (List ℕ)) (theirs : List File) (other : Answer) → HaveRow others theirs other rows → IsSameKey others theirs words seen ⊎ HaveRow others theirs other (but words seen answer rows have)
 same_or_but words seen answer [] have others theirs other held = absurd have
 same_or_but words seen answer (row ∷ rows) (inl have) others theirs other (inl held) = inl (sym held.0.0 ∙ have.0.0, sym held.0.1 ∙ have.0.1)
@@ -188,14 +188,14 @@ at_most_as_long (row ∷ rows) more distinct held =
     let less = length_but row.words row.seen row.answer more have in
     omega arith
 
--- two books that hold the same answers hold as many
+-- two books that hold the same answers have the same number of them
 pub same_count : (a b : Contents) → HaveDistinctKeys a.rows → HaveDistinctKeys b.rows → ((words : List (List ℕ)) (seen : List File) (answer : Answer) → Holds words seen answer a → Holds words seen answer b) → ((words : List (List ℕ)) (seen : List File) (answer : Answer) → Holds words seen answer b → Holds words seen answer a) → count_of a ≡ count_of b
 same_count a b first second there back =
     let least = at_most_as_long a.rows b.rows first there in
     let most = at_most_as_long b.rows a.rows second back in
     omega arith
 
--- ---- how many answers are held
+-- ---- the number of answers
 
 pub count_after_find : (words : List (List ℕ)) (seen : List File) (before after : Contents) → HaveDistinctKeys before.rows → AfterFind words seen before after → count_of after ≡ count_of before
 count_after_find words seen before after distinct step = ap count_of step.is ∙ brought_count words seen before.rows distinct

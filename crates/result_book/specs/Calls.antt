@@ -1,5 +1,6 @@
--- What each call of a book makes of what it remembers, exactly. A look-up brings its row to the front, and a put places one
--- there and may drop the last; the limit stays. What else the records say of that follows, for books whose keys are distinct.
+-- What each call of a book changes, exactly. A look-up moves its row to the front; a put adds one there and
+-- may drop the last. The limit stays. The other fields of the records follow from that, for books whose keys
+-- are distinct.
 use Rattle.std.specs.Prelude.{◌≡◌, ◌⊎◌, ℕ, List, [], ◌∷◌, take}
 use Rattle.std.specs.List.{cons_option}
 use Rattle.child_port.specs.declared.answer.Answer.{Answer}
@@ -9,14 +10,15 @@ use Rattle.result_book.specs.Contents.{Contents, HaveDistinctKeys, Holds, other_
 
 -- ---- a look-up
 
--- the row of the words and the seen files in front, and behind it the others in their order; all as they were where it is lacked
+-- the row of the words and the seen files in front, and then the others in their order; without such a row,
+-- all as they were
 abbrev pub brought_rows : List (List ℕ) → List File → List BookRow → List BookRow
 brought_rows words seen rows = cons_option (row_for words seen rows) (other_rows words seen rows)
 
 abbrev pub brought : List (List ℕ) → List File → Contents → Contents
 brought words seen contents = with_rows contents.limit (brought_rows words seen contents.rows)
 
--- After a look-up for the words and the seen files their row is in front. The same is remembered as before.
+-- After a look-up the row of the words and the seen files is in front. The answers are the same as before.
 pub record AfterFind (words : List (List ℕ)) (seen : List File) (before after : Contents) : Type 0 where
   pub is : after ≡ brought words seen before
   pub kept : (others : List (List ℕ)) (theirs : List File) (answer : Answer) → Holds others theirs answer before → Holds others theirs answer after
@@ -25,19 +27,20 @@ pub record AfterFind (words : List (List ℕ)) (seen : List File) (before after 
 
 -- ---- a put
 
--- two words and seen files are the same
+-- two keys are the same
 abbrev pub IsSameKey : List (List ℕ) → List File → List (List ℕ) → List File → Type 0
 IsSameKey words seen others theirs = (words ≡ others) × (seen ≡ theirs)
 
 abbrev pub new_row : List (List ℕ) → List File → Answer → BookRow
 new_row words seen answer = record { words = words; seen = seen; answer = answer }
 
--- the new row in front, and behind it those of other words or seen files in their order; of these the first, as many as the limit
+-- the new row in front, then those of other keys in their order, and of all these at most as many as the
+-- limit
 abbrev pub with_row : List (List ℕ) → List File → Answer → Contents → Contents
 with_row words seen answer contents = with_rows contents.limit (take contents.limit (new_row words seen answer ∷ other_rows words seen contents.rows))
 
--- After an answer is put for the words and the seen files, it is in front, and that alone is remembered for them. What is
--- remembered for others was so before; of this only the last row may be gone.
+-- After a put the answer is in front, and is the only one for its words and seen files. What other keys have,
+-- they had before; of that, only the last row may be gone.
 pub record AfterPut (words : List (List ℕ)) (seen : List File) (answer : Answer) (before after : Contents) : Type 0 where
   pub is : after ≡ with_row words seen answer before
   pub put : Holds words seen answer after
@@ -45,9 +48,9 @@ pub record AfterPut (words : List (List ℕ)) (seen : List File) (answer : Answe
   pub only : (others : List (List ℕ)) (theirs : List File) (other : Answer) → Holds others theirs other after → (IsSameKey others theirs words seen × (other ≡ answer)) ⊎ Holds others theirs other before
   pub distinct : HaveDistinctKeys after.rows
 
--- ---- forgetting
+-- ---- removing all answers
 
--- After a book has forgotten, nothing is remembered. The limit stays.
+-- After a book has forgotten, it has no answers. The limit stays.
 pub record AfterForget (before after : Contents) : Type 0 where
   pub none : after.rows ≡ []
   pub limit : after.limit ≡ before.limit

@@ -1,5 +1,5 @@
--- What a book remembers: rows, one for each words and seen files, the most recently used first, and how many there are at
--- most. What is held for words and seen files is found whatever the order; the order says which row is dropped first.
+-- The contents of a book: rows, one for each words and seen files, the most recently used first, and their
+-- limit. A key finds its answer whatever the order; the order says which row is dropped first.
 use Rattle.std.specs.Prelude.{◌≡◌, ◌⊎◌, ◌≤◌, ℕ, Bool, ◌&&◌, not, List, [], ◌∷◌, length, filter, Option, None, Some}
 use Rattle.std.specs.Cmp.Lexicographic.{pointwise}
 use Rattle.std.specs.List.{find}
@@ -13,14 +13,14 @@ use Rattle.result_book.specs.declared.book_row.BookRow.{BookRow}
 pub record Contents : Type 0 where
   -- the most recently used first
   pub rows : List BookRow
-  -- how many rows are remembered at most
+  -- the most rows that may be cached
   pub limit : ℕ
 
--- what a book of this limit and these rows remembers
+-- the contents with this limit and these rows
 abbrev pub with_rows : ℕ → List BookRow → Contents
 with_rows limit rows = record { rows = rows; limit = limit }
 
--- what a book of this limit remembers that nothing was put in
+-- the contents of an empty book with this limit
 abbrev pub nothing : ℕ → Contents
 nothing limit = with_rows limit []
 
@@ -28,7 +28,7 @@ nothing limit = with_rows limit []
 abbrev pub HasKey : List (List ℕ) → List File → BookRow → Type 0
 HasKey words seen row = (row.words ≡ words) × (row.seen ≡ seen)
 
--- a row answers so for the words and the seen files
+-- one of the rows has this answer for the words and the seen files
 abbrev pub HaveRow : List (List ℕ) → List File → Answer → List BookRow → Type 0
 HaveRow words seen answer [] = ⊥
 HaveRow words seen answer (row ∷ rows) = (HasKey words seen row × (row.answer ≡ answer)) ⊎ HaveRow words seen answer rows
@@ -37,12 +37,12 @@ HaveRow words seen answer (row ∷ rows) = (HasKey words seen row × (row.answer
 abbrev pub LackRow : List (List ℕ) → List File → List BookRow → Type 0
 LackRow words seen rows = (answer : Answer) → ¬ HaveRow words seen answer rows
 
--- no two rows have one key
+-- no two rows have the same key
 abbrev pub HaveDistinctKeys : List BookRow → Type 0
 HaveDistinctKeys [] = Unit {0}
 HaveDistinctKeys (row ∷ rows) = LackRow row.words row.seen rows × HaveDistinctKeys rows
 
--- no two rows have one key, and there are no more than the limit, which is from 1 to 100,000
+-- no two rows have the same key, and there are no more than the limit, which is from 1 to 100,000
 pub record IsBook (contents : Contents) : Type 0 where
   pub distinct : HaveDistinctKeys contents.rows
   pub within : length contents.rows ≤ contents.limit
@@ -50,26 +50,26 @@ pub record IsBook (contents : Contents) : Type 0 where
 
 -- ---- what is held
 
--- the answer is remembered for the words and the seen files
+-- the answer is cached for the words and the seen files
 abbrev pub Holds : List (List ℕ) → List File → Answer → Contents → Type 0
 Holds words seen answer contents = HaveRow words seen answer contents.rows
 
--- nothing is remembered for the words and the seen files
+-- no answer is cached for the words and the seen files
 abbrev pub Lacks : List (List ℕ) → List File → Contents → Type 0
 Lacks words seen contents = LackRow words seen contents.rows
 
--- what is remembered for the words and the seen files
+-- what is cached for the words and the seen files
 abbrev pub Finds : List (List ℕ) → List File → Contents → Option Answer → Type 0
 Finds words seen contents None = Lacks words seen contents
 Finds words seen contents (Some answer) = Holds words seen answer contents
 
--- how many answers are remembered
+-- how many answers are cached
 abbrev pub count_of : Contents → ℕ
 count_of contents = length contents.rows
 
 -- ---- the row of a key, and the others
 
--- the row is that of these words and these seen files, with their modes and bytes
+-- the row's key is these words and these seen files, with their modes and bytes
 abbrev pub is_row_for : List (List ℕ) → List File → BookRow → Bool
 is_row_for words seen row = pointwise bytes_eq row.words words && pointwise is_same_file row.seen seen
 
@@ -77,6 +77,6 @@ is_row_for words seen row = pointwise bytes_eq row.words words && pointwise is_s
 abbrev pub row_for : List (List ℕ) → List File → List BookRow → Option BookRow
 row_for words seen rows = find (is_row_for words seen) rows
 
--- the rows of other words or seen files, in their order
+-- the rows of other keys, in their order
 abbrev pub other_rows : List (List ℕ) → List File → List BookRow → List BookRow
 other_rows words seen rows = filter (λ row. not (is_row_for words seen row)) rows

@@ -1,4 +1,4 @@
--- Why a call of a book is refused: the numbers of the reasons, and which one a fault of the store is.
+-- Why a call of a book is refused: the numbers of the reasons, and the reason for each fault of the store.
 use Rattle.std.specs.Prelude.{ℕ}
 use Rattle.store_faults.specs.declared.fault.StoreFault.{StoreFault}
 use Rattle.store_faults.specs.declared.fault.StoreFault.TheVariants as store
@@ -9,7 +9,7 @@ abbrev pub number_of : BookFault → ℕ
 number_of OutOfMemory = 1
 number_of (Store fault) = 2
 
--- want of memory is told from every other fault of the store
+-- want of memory is distinguished from every other fault of the store
 abbrev pub of_store : StoreFault → BookFault
 of_store store.OutOfMemory = OutOfMemory
 of_store fault = Store fault

@@ -12,7 +12,7 @@ use Rattle.hook_base.specs.SameFiles.{is_same_file}
 use Rattle.result_book.specs.declared.book_row.BookRow.{BookRow}
 use Rattle.result_book.specs.Contents.{Contents, HasKey, HaveRow, LackRow, HaveDistinctKeys, Finds, is_row_for}
 
--- that keys are distinct is a fact: there is one proof of it
+-- any two proofs that keys are distinct are equal
 pub HaveDistinctKeys-prop : (rows : List BookRow) → IsProp (HaveDistinctKeys rows)
 HaveDistinctKeys-prop [] = Prim.hlevel tt
 HaveDistinctKeys-prop (row ∷ rows) = Prim.hlevel (HaveDistinctKeys-prop rows)
@@ -34,7 +34,7 @@ same_have words others seen theirs answer rows p q have =
 pub same_lack : (words others : List (List ℕ)) (seen theirs : List File) (rows : List BookRow) → words ≡ others → seen ≡ theirs → LackRow words seen rows → LackRow others theirs rows
 same_lack words others seen theirs rows p q lack = λ answer have. lack answer (same_have others words theirs seen answer rows (sym p) (sym q) have)
 
--- rows with distinct keys answer one thing
+-- rows with distinct keys have one answer for a key
 pub HaveRow-one : (words : List (List ℕ)) (seen : List File) (a b : Answer) (rows : List BookRow) → HaveDistinctKeys rows → HaveRow words seen a rows → HaveRow words seen b rows → a ≡ b
 HaveRow-one words seen a b [] distinct x y = absurd x
 HaveRow-one words seen a b (row ∷ rows) distinct (inl x) (inl y) = sym x.1 ∙ y.1

@@ -1,4 +1,4 @@
--- Lemmas on the order of rows: the row of a key, the others, and what a look-up and a put make of them.
+-- Lemmas on the order of rows: the row of a key, the others, and the effect of a look-up and a put on them.
 use Rattle.std.specs.Prelude.{◌≡◌, ◌⊎◌, ◌≤◌, ℕ, zero, suc, true, false, not, List, [], ◌∷◌, ◌++◌, length, take, cond, Option, None, Some, refl}
 use Rattle.std.specs.List.{cons_option}
 use Rattle.std.proofs.Common.{ap, sym, ◌∙◌, inl, inr, subst, arith}
@@ -9,14 +9,14 @@ use Rattle.result_book.specs.Calls.{AfterFind, AfterPut, IsSameKey, brought, bro
 use Rattle.result_book.specs.Contents.{Contents, HasKey, HaveRow, LackRow, HaveDistinctKeys, Holds, IsBook, is_row_for, other_rows, row_for}
 use Rattle.result_book.specs.KeyLemmas.{HaveRow-one, no_row_key, other_row, row_decides, same_have, same_lack}
 
--- the key of the first row is no later one's
+-- no later row has the key of the first one
 pub first_apart : (words : List (List ℕ)) (seen : List File) (answer : Answer) (row : BookRow) (rows : List BookRow) → LackRow row.words row.seen rows → HaveRow words seen answer rows → ¬ HasKey words seen row
 first_apart words seen answer row rows lack have key = same_lack row.words words row.seen seen rows key.0 key.1 lack answer have
 
 module _ (words : List (List ℕ)) (seen : List File) where
-  -- ---- the others
+  -- ---- the rows of other keys
 
-  -- what the others answer, all do, and for another key
+  -- an answer of the other rows is one of all rows, for another key
   pub others_have : (others : List (List ℕ)) (theirs : List File) (answer : Answer) (rows : List BookRow) → HaveRow others theirs answer (other_rows words seen rows) → HaveRow others theirs answer rows
   others_have others theirs answer [] have = have
   others_have others theirs answer (row ∷ rows) have =
@@ -33,7 +33,7 @@ module _ (words : List (List ℕ)) (seen : List File) where
         | false ↦ λ isnt held. elim held [ inl here ↦ no_row_key words seen row isnt (here.0.0 ∙ same.0, here.0.1 ∙ same.1) | inr later ↦ others_differ others theirs answer rows later same ]
       ]) refl have
 
-  -- what all answer for another key, the others do
+  -- an answer of all rows for another key is one of the other rows
   pub have_others : (others : List (List ℕ)) (theirs : List File) (answer : Answer) (rows : List BookRow) → HaveRow others theirs answer rows → IsSameKey others theirs words seen ⊎ HaveRow others theirs answer (other_rows words seen rows)
   have_others others theirs answer [] have = absurd have
   have_others others theirs answer (row ∷ rows) have =
@@ -56,11 +56,11 @@ module _ (words : List (List ℕ)) (seen : List File) where
         | false ↦ (λ answer have. distinct.0 answer (others_have row.words row.seen answer rows have), others_distinct rows distinct.1)
       ]
 
-  -- none of the others is for the key
+  -- none of the other rows has the key
   pub others_lack : (rows : List BookRow) → LackRow words seen (other_rows words seen rows)
   others_lack rows answer have = others_differ words seen answer rows have (refl, refl)
 
-  -- where no row is for the key, all are others
+  -- if no row has the key, all rows are others
   pub all_others : (rows : List BookRow) → LackRow words seen rows → other_rows words seen rows ≡ rows
   all_others [] lack = refl
   all_others (row ∷ rows) lack =
@@ -73,7 +73,7 @@ module _ (words : List (List ℕ)) (seen : List File) where
       let fewer = fewer_others rows in
       elim (is_row_for words seen row) as (λ b. length (cond (not b) (row ∷ other_rows words seen rows) (other_rows words seen rows)) ≤ suc (length rows)) [ true ↦ omega arith | false ↦ omega arith ]
 
-  -- of rows with distinct keys, one is for a key that is held
+  -- if keys are distinct, one row has a key that is held
   pub one_fewer : (answer : Answer) (rows : List BookRow) → HaveDistinctKeys rows → HaveRow words seen answer rows → suc (length (other_rows words seen rows)) ≡ length rows
   one_fewer answer [] distinct have = absurd have
   one_fewer answer (row ∷ rows) distinct (inl here) =
@@ -104,7 +104,7 @@ module _ (words : List (List ℕ)) (seen : List File) where
   holds_row answer (row ∷ rows) distinct (inr later) =
       ap (λ b. cond b (Some row) (row_for words seen rows)) (other_row words seen row (first_apart words seen answer row rows distinct.0 later)) ∙ holds_row answer rows distinct.1 later
 
-  -- whether a row is for the key
+  -- whether a row has the key
   pub held_or_lacked : (rows : List BookRow) → ((answer : Answer) × HaveRow words seen answer rows) ⊎ LackRow words seen rows
   held_or_lacked [] = inr (λ answer have. have)
   held_or_lacked (row ∷ rows) =
@@ -118,11 +118,11 @@ module _ (words : List (List ℕ)) (seen : List File) where
 
   -- ---- a look-up
 
-  -- a row that is there comes to the front
+  -- the row of a key that is held comes to the front
   pub brings : (answer : Answer) (rows : List BookRow) → HaveDistinctKeys rows → HaveRow words seen answer rows → brought_rows words seen rows ≡ new_row words seen answer ∷ other_rows words seen rows
   brings answer rows distinct have = ap (λ (row : Option BookRow). cons_option row (other_rows words seen rows)) (holds_row answer rows distinct have)
 
-  -- where there is none, nothing changes
+  -- for a key that is lacked, nothing changes
   pub brings_none : (rows : List BookRow) → LackRow words seen rows → brought_rows words seen rows ≡ rows
   brings_none rows lack = ap (λ (row : Option BookRow). cons_option row (other_rows words seen rows)) (lacks_row rows lack) ∙ all_others rows lack
 
@@ -183,7 +183,7 @@ first_distinct zero rows distinct = tt
 first_distinct (suc count) [] distinct = tt
 first_distinct (suc count) (row ∷ rows) distinct = (λ answer have. distinct.0 answer (first_have row.words row.seen answer count rows have), first_distinct count rows distinct.1)
 
--- of no more rows than that, none is dropped
+-- if there are no more rows than that, none is dropped
 pub have_first : (words : List (List ℕ)) (seen : List File) (answer : Answer) (count : ℕ) (rows more : List BookRow) → length rows ≤ count → HaveRow words seen answer rows → HaveRow words seen answer (take count (rows ++ more))
 have_first words seen answer count [] more few have = absurd have
 have_first words seen answer zero (row ∷ rows) more few have = absurd (omega arith)
@@ -226,7 +226,7 @@ module _ (words : List (List ℕ)) (seen : List File) (answer : Answer) where
   put_distinct before distinct =
       first_distinct before.limit (new_row words seen answer ∷ other_rows words seen before.rows) (others_lack words seen before.rows, others_distinct words seen before.rows distinct)
 
-  -- what a put leaves, told by its equation
+  -- what a put leaves, from its equation
   pub after_putting : (before after : Contents) → HaveDistinctKeys after.rows → 1 ≤ after.limit → after ≡ with_row words seen answer before → AfterPut words seen answer before after
   after_putting before after distinct some is =
       let all = new_row words seen answer ∷ other_rows words seen before.rows in
@@ -257,7 +257,7 @@ book_put words seen answer before book = record {
   limited = book.limited;
 }
 
--- ---- what a look-up leaves, told by its equation
+-- ---- what a look-up leaves, from its equation
 
 pub after_found : (words : List (List ℕ)) (seen : List File) (before after : Contents) → HaveDistinctKeys before.rows → after ≡ brought words seen before → AfterFind words seen before after
 after_found words seen before after distinct is = subst (AfterFind words seen before) (sym is) (found_after words seen before distinct)

@@ -1,4 +1,4 @@
--- Lemmas on what calls add to what is remembered.
+-- Lemmas on what calls add to the cached answers.
 use Rattle.std.specs.Prelude.{◌≡◌, ℕ, List, take}
 use Rattle.std.proofs.Common.{inl, inr, sym, subst}
 use Rattle.child_port.specs.declared.answer.Answer.{Answer}

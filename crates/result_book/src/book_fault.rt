@@ -8,19 +8,19 @@ use std::alloc::{AllocError, AllocFailed};
 use store_faults::StoreFault;
 use thiserror::Error;
 
-/// Why a call of a book is refused. What the book remembers is as before the call.
+/// Why a call of a book is refused. The book has the same answers as before the call.
 #[derive(Clone, Copy, Debug, PartialEq, Eq, Error)]
 pub enum BookFault {
     /// Memory was refused.
     #[error("out of memory")]
     OutOfMemory,
-    /// The store that keeps the answers refuses, for another reason than want of memory.
+    /// The store that keeps the answers refuses, for a reason other than want of memory.
     #[error("the store refuses: {0}")]
     Store(StoreFault),
 }
 
 impl BookFault {
-    /// The refusal's number: 1 or 2.
+    /// The number of the fault: 1 or 2.
     pub fn number(&self) -> u8
         ensures { result ≡ number_of self.now }
     {
@@ -36,7 +36,7 @@ impl From<StoreFault> for BookFault {
 
     ghost from_gives = { λ fault refusal. refusal ≡ of_store fault };
 
-    /// Want of memory is `OutOfMemory`, and every other fault `Store`.
+    /// Want of memory becomes `OutOfMemory`, and every other fault `Store`.
     fn from(fault: StoreFault) -> Self {
         match fault {
             StoreFault::OutOfMemory => BookFault::OutOfMemory,

@@ -1,9 +1,10 @@
-//! The remembered answers of children: a list with a limit, the most recently used first, of what a child answered to the words
-//! of its command and the files that it has seen.
+//! The cached results of children: what a child answered, by the words of its command and the files that it
+//! has seen. They are a list with a limit, the most recently used first (docs/REFERENCE.md, "Cached
+//! results").
 //!
-//! `Book` is the trait of whoever remembers, `ListBook` remembers in memory, and `BookFault` says why a call is refused.
-//! The contracts cite `specs/Contents.antt`, `specs/Calls.antt` and `specs/Faults.antt`;
-//! `specs/Places.antt` serves private functions alone. [`laws`] says what such a list is known by.
+//! `Book` is the trait of such a cache, `ListBook` keeps it in memory, and `BookFault` says why a call is
+//! refused. The contracts cite `specs/Contents.antt`, `specs/Calls.antt` and `specs/Faults.antt`;
+//! `specs/Places.antt` serves private functions alone. [`laws`] says what characterizes such a list.
 #![tactic(auto)]
 
 mod book;

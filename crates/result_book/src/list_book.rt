@@ -9,14 +9,15 @@ use hook_base::{Text, Tree};
 use std::alloc::Global;
 use std::marker::Model;
 
-/// A book that keeps its answers in memory, as many as its limit, and loses all of them when it is dropped. Its calls are refused
-/// only where memory is, and a crash leaves nothing of it. Contracts see what it remembers.
+/// A book that keeps its answers in memory, at most as many as its limit, and loses all of them when it is
+/// dropped. Its calls are refused only if memory is, and nothing is left of it after a crash. Contracts see
+/// its rows and its limit.
 #[derive(Debug, Drop)]
 pub struct ListBook {
-    // The most recently used last.
+    // The most recently used is the last one.
     rows: Vec<BookRow>,
     limit: u32,
-    // The index at which the row that was found last stood, which is looked at first.
+    // The index at which the last look-up found its row. It is tried first.
     next: usize,
 }
 
@@ -35,7 +36,7 @@ impl ListBook {
     ghost use Rattle.store_faults.specs.Limits.{IsLimit};
     ghost use Rattle.result_book.specs.Contents.{nothing};
 
-    /// A book that remembers nothing, and so many answers at most, from 1 to 100,000.
+    /// A book without answers, with this limit from 1 to 100,000.
     pub fn new(alloc: Global, limit: u32) -> ListBook
         requires { IsLimit limit }
         ensures { result ≡ nothing limit }

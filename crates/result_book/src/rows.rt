@@ -1,5 +1,5 @@
-//! Rows with distinct keys, the most recently used last: a look-up by words and seen files, which moves its row to the end, and a
-//! row put there.
+//! Rows with distinct keys, the most recently used last: a look-up, which moves its row to the end, and a
+//! put, which adds one there.
 
 ghost use Rattle.std.specs.Prelude.{◌≡◌, ◌<◌, ◌∷◌, ◌++◌, [], ℕ, length, reverse, slice_index_or, IfOk, OnOk, OnErr};
 ghost use Rattle.std.specs.Vec.{vec_capacity, vec_len};
@@ -13,7 +13,7 @@ use child_port::Answer;
 use hook_base::{OutOfMemory, Text, Tree, copy_texts};
 use std::alloc::Global;
 
-// The index of the first row of the words and the seen files, or `None` where there is none.
+// The index of the first row for the words and the seen files, or `None` if there is none.
 fn place_of(rows: &[BookRow], words: &[Text], seen: &Tree) -> Option<usize>
     ensures { IsPlace words.now seen.now rows.now result }
 {
@@ -25,7 +25,7 @@ fn place_of(rows: &[BookRow], words: &[Text], seen: &Tree) -> Option<usize>
     None
 }
 
-// The same. The row at the index `near` is looked at first.
+// The same, but the row at the index `near` is tried first.
 fn place_near(rows: &[BookRow], near: usize, words: &[Text], seen: &Tree) -> Option<usize>
     ensures { IsPlace words.now seen.now rows.now result }
 {
@@ -35,7 +35,7 @@ fn place_near(rows: &[BookRow], near: usize, words: &[Text], seen: &Tree) -> Opt
     place_of(rows, words, seen)
 }
 
-// Takes the row at the index out.
+// Removes the row at the index, and answers it.
 fn take_out(rows: &mut Vec<BookRow>, index: usize) -> BookRow
     requires { index < length rows.old.items }
     ensures value { result ≡ slice_index_or rows.old.items index result }
@@ -45,7 +45,7 @@ fn take_out(rows: &mut Vec<BookRow>, index: usize) -> BookRow
     rows.remove(index)
 }
 
-// A row more at the end, for which there is room.
+// Adds a row at the end, for which there is room.
 fn put_last(rows: &mut Vec<BookRow>, row: BookRow)
     requires { vec_len rows.old < vec_capacity rows.old }
     ensures { rows.new.items ≡ rows.old.items ++ row ∷ [] }
@@ -53,9 +53,9 @@ fn put_last(rows: &mut Vec<BookRow>, row: BookRow)
     let _ = rows.push(row);
 }
 
-/// What is remembered in the rows for the words and the seen files, as a copy; its row is the last one then. Where it is found,
-/// `next` is the index at which it stood: a run asks in the order in which an earlier one did, and once a row has moved to the
-/// end, the one behind it stands in its place. A refusal leaves the rows as they were.
+/// The answer of the row for the words and the seen files, as a copy, or `None` if there is no such row. The
+/// row moves to the end, and `next` becomes the index that it had. A run often asks in the order of an
+/// earlier one, and after the move the next row is at that index. A refusal leaves the rows as they were.
 pub(crate) fn found_in(
     rows: &mut Vec<BookRow>,
     next: &mut usize,
@@ -77,7 +77,7 @@ pub(crate) fn found_in(
     Ok(Some(answer))
 }
 
-// A row of its own memory.
+// A row with copies of these.
 fn copy_row(
     alloc: Global,
     words: &[Text],
@@ -93,8 +93,8 @@ fn copy_row(
     })
 }
 
-// The index of the row that goes where one is put for the words and the seen files: that of their own row, or else that of the
-// first one where there are as many as the limit. `None` where no row goes.
+// The index of the row that a put for the words and the seen files drops. That is the row of the same key, or
+// the first one if there is no such row and there are as many as the limit. `None` if none is dropped.
 fn going(rows: &[BookRow], limit: usize, words: &[Text], seen: &Tree) -> Option<usize>
     ensures { IsGoing words.now seen.now limit rows.now result }
 {
@@ -105,8 +105,8 @@ fn going(rows: &[BookRow], limit: usize, words: &[Text], seen: &Tree) -> Option<
     }
 }
 
-/// Puts an answer for the words and the seen files at the end. The row that was theirs goes, or the first one where there were as
-/// many as the limit. A refusal leaves the rows as they were.
+/// Puts a row for the words and the seen files at the end. The row of the same key is dropped, or the first
+/// one if there is no such row and there are as many as the limit. A refusal leaves the rows as they were.
 pub(crate) fn put_row(
     rows: &mut Vec<BookRow>,
     limit: usize,

@@ -33,11 +33,11 @@ abbrev pub is_option_cut_at : Option ℕ → List ℕ → Bool
 is_option_cut_at None text = is_option_name text
 is_option_cut_at (Some end) text = is_option_name (take end text) && is_option_value (drop (end + 1) text)
 
--- what stands after `--`
+-- what follows `--`
 abbrev pub is_long_option : List ℕ → Bool
 is_long_option text = is_option_cut_at (position is_equals text) text
 
--- what stands after `-`: a letter, maybe with a number, or what makes a long option
+-- what follows `-`: a letter, maybe with a number, or a second dash and a long option
 abbrev pub is_option_text : List ℕ → Bool
 is_option_text [] = false
 is_option_text (first ∷ rest) = if is_dash first then is_long_option rest else is_ascii_alphabetic first && list_all is_ascii_digit rest
@@ -61,7 +61,7 @@ abbrev pub is_operand : List ℕ → Bool
 is_operand [] = true
 is_operand (first ∷ rest) = not (is_dash first)
 
--- none of these takes a word, names a file or goes into folders
+-- none of these takes a word, names a file or goes into folders (grep(1))
 abbrev pub grep_letters : List ℕ
 grep_letters = codes "abcEFGhHiIlLnoPqsvwxyzZ"
 
@@ -91,11 +91,11 @@ is_of_grep (first ∷ rest) = if is_dash first then is_grep_option (first ∷ re
 abbrev pub are_of_grep : List (List ℕ) → Bool
 are_of_grep words = list_all is_of_grep words && nat_le (count_by is_operand words) 1
 
--- none of these takes a word, or letters after it
+-- none of these takes a word, or letters after it (sed(1))
 abbrev pub sed_letters : List ℕ
 sed_letters = codes "nrEsuz"
 
--- the letters of the commands and flags that read a file, write one, tell its name or run a command
+-- the letters of the commands and flags that read a file, write one, print its name or run a command (sed(1))
 abbrev pub sed_commands : List ℕ
 sed_commands = codes "eFrRwW"
 
@@ -103,7 +103,7 @@ sed_commands = codes "eFrRwW"
 abbrev pub is_script : List ℕ → Bool
 is_script script = not (list_any (has_byte sed_commands) script)
 
--- letters after `e` are a script, and those after `i` the end of another file's name
+-- letters after `e` are a script, and those after `i` are the suffix of a backup file's name (sed(1))
 abbrev pub is_sed_option : List ℕ → List ℕ → Bool
 is_sed_option word letters = bytes_eq word (codes "-e") || bytes_eq word (codes "-i") || are_letters_of sed_letters letters
 
@@ -118,7 +118,7 @@ is_some_operand (Some word) = is_operand word
 abbrev pub end_in_operand : List (List ℕ) → Bool
 end_in_operand words = is_some_operand (slice_get words (length words - 1))
 
--- the last word is a script: else the first name after it might be taken for one
+-- the last word is a script, as otherwise the first file name after it might be taken for one
 abbrev pub are_of_sed : List (List ℕ) → Bool
 are_of_sed words = list_all is_of_sed words && end_in_operand words
 

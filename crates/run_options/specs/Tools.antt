@@ -1,11 +1,13 @@
--- The table of known tools. Its rows stand once, in the module `tools`, and the definitions read them there.
+-- The table of known tools. Its rows are written only in the module `tools`, and the definitions read them
+-- from there.
 use Rattle.std.specs.Prelude.{ℕ, if◌then◌else◌, List, [], ◌∷◌, map, Option, Some, None}
 use Rattle.std.specs.Str.{bytes_eq}
 use denote.Ref.{Bor}
 use Rattle.run_options.specs.declared.tools.ToolKind.{ToolKind}
 use Rattle.run_options.specs.declared.tools.TheConstants.{TOOLS}
 
--- what a known tool may be given, and the pattern of the paths that it reads besides the files that it is handed
+-- what a known tool may be given, and the pattern of the paths that it reads besides the files that it is
+-- given
 pub record Tool : Type 0 where
   pub kind : ToolKind
   pub reads : List ℕ

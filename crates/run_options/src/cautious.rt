@@ -17,8 +17,8 @@ const EVERY_PATH: &str = "";
 // The pattern that is found in no path, which a hook has if it doesn't say what it reads.
 const NO_PATH: &str = "^$";
 
-/// The text of the pattern that the hook has in a cautious run in place of its own. Nothing if it keeps that, as it does if it
-/// says what it reads, or starts no command.
+/// The text of the pattern that the hook has in a cautious run in place of its own. Nothing if it keeps its
+/// own, because it says what it reads, or starts no command.
 pub(crate) fn new_reads(hook: &Hook) -> Option<&'static str>
     ensures reads { option_copied result ≡ new_reads hook.now }
     ensures short { IfSome result (λ reads. IsShort reads.now) }
@@ -37,10 +37,12 @@ pub(crate) fn new_reads(hook: &Hook) -> Option<&'static str>
     }
 }
 
-/// The text of the pattern that is found in each path that a command may read, besides the files that it is handed. It is that
-/// of the tool that the first word names, if the words after it let the tool read nothing else. Else it is the empty one, which
-/// is found in every path. A command that isn't handed the names of its files, or that may be started without any, may look
-/// for files itself, so it reads every path.
+/// The text of the pattern that is found in each path that a command may read, besides the files that it is
+/// given. It is that of the tool that the first word names, if the words after it let the tool read nothing
+/// else. Otherwise it is the empty one, which is found in every path.
+///
+/// A command that isn't given the names of its files, or that may be started without any, may look for files
+/// itself, so it reads every path.
 pub fn command_reads(words: &[Text], pass_filenames: bool, always_run: bool) -> &'static str
     ensures reads { result.now ≡ command_reads words.now pass_filenames always_run }
     ensures short { IsShort result.now }

@@ -9,10 +9,11 @@ ghost use Rattle.run_options.specs.Harmless.{are_harmless, are_letters_of, are_o
 use crate::tools::ToolKind;
 use hook_base::Text;
 
-// The options of one letter that `grep` may be given: none of them takes a word, names a file or goes into folders.
+// The options of one letter that `grep` may be given (grep(1)): none of them takes a word, names a file or
+// goes into folders.
 const GREP_LETTERS: &[u8] = b"abcEFGhHiIlLnoPqsvwxyzZ";
 
-// The long options that `grep` may be given.
+// The long options that `grep` may be given (grep(1)).
 const GREP_OPTIONS: [&str; 8] = [
     "--count",
     "--extended-regexp",
@@ -24,13 +25,15 @@ const GREP_OPTIONS: [&str; 8] = [
     "--word-regexp",
 ];
 
-// The options of one letter that `sed` may be given together: none of them takes a word, or letters after it.
+// The options of one letter that `sed` may be given together (sed(1)): none of them takes a word, or letters
+// after it.
 const SED_LETTERS: &[u8] = b"nrEsuz";
 
-// The letters of the commands and flags of `sed` that read a file, write one, tell its name or run a command.
+// The letters of the commands and flags of `sed` that read a file, write one, print its name or run a command
+// (sed(1)).
 const SED_COMMANDS: &[u8] = b"eFrRwW";
 
-/// Whether a tool of that kind reads nothing else for these words, which stand after its name.
+/// Whether a tool of that kind reads nothing else if these words follow its name.
 pub(crate) fn are_harmless(kind: ToolKind, words: &[Text]) -> bool
     ensures { result ≡ are_harmless kind words.now }
 {
@@ -48,7 +51,7 @@ fn are_options(words: &[Text]) -> bool
     words.iter().all(|word| is_option(word.as_str()))
 }
 
-// An option that names no file: a letter, maybe with a number after it, or a long one, maybe with a value.
+// An option that names no file: a letter, maybe with a number after it, or a long option, maybe with a value.
 fn is_option(word: &str) -> bool
     ensures { result ≡ is_option word.now }
 {
@@ -187,7 +190,8 @@ fn is_operand(word: &str) -> bool
     }
 }
 
-// Options and scripts. The last word is a script: else the first name after it might be taken for one.
+// Options and scripts. The last word is a script, as otherwise the first file name after it might be taken
+// for one.
 fn are_of_sed(words: &[Text]) -> bool
     ensures { result ≡ are_of_sed words.now }
 {
@@ -218,7 +222,7 @@ fn is_of_sed(word: &str) -> bool
     }
 }
 
-// Letters after `e` are a script, and those after `i` the end of another file's name.
+// Letters after `e` are a script, and those after `i` are the suffix of a backup file's name (sed(1)).
 fn is_sed_option(word: &str, letters: &[u8]) -> bool
     ensures { result ≡ is_sed_option word.now letters.now }
 {

@@ -1,12 +1,12 @@
 //! What the options of a run make of a configuration.
 //!
-//! `RunOptions` says how a run is made, and `with_options` makes of a configuration the one that is run. In a cautious run a
-//! hook that doesn't say by `x_reads` what its command reads lets the command see every file, but for commands of known
-//! tools: `TOOLS` lists these, what kind of words each may be given (`ToolKind`), and what it reads besides the files that it
-//! is handed. `command_reads` says it of one command.
+//! `RunOptions` says how a run is made, and `with_options` makes of a configuration the one that is run. In a
+//! cautious run the command of a hook that doesn't say by `x_reads` what it reads sees every file, unless it
+//! is that of a known tool. `TOOLS` lists these tools: what kind of words each may be given (`ToolKind`), and
+//! what it reads besides the files that it is given. `command_reads` gives the pattern for one command.
 //!
-//! The contracts cite `with_options` of `specs/Options.antt`, `command_reads` of `specs/Cautious.antt`, the table as
-//! `specs/Tools.antt` reads it, and `are_harmless` of `specs/Harmless.antt`.
+//! The contracts cite `with_options` of `specs/Options.antt`, `command_reads` of `specs/Cautious.antt`, the
+//! table as `specs/Tools.antt` reads it, and `are_harmless` of `specs/Harmless.antt`.
 #![tactic(auto)]
 
 mod cautious;

@@ -12,15 +12,15 @@ use std::alloc::Global;
 /// How a run is made of a configuration.
 #[derive(Clone, Copy, Debug, PartialEq, Eq)]
 pub struct RunOptions {
-    /// Whether the command of a hook that doesn't say what it reads is taken to read every file, unless it is known to read
-    /// less.
+    /// Whether the command of a hook that doesn't say what it reads is taken to read every file, unless it is
+    /// known to read less.
     pub cautious: bool,
-    /// Whether every hook's details are reported also if it passed.
+    /// Whether every hook's details are reported even if it passed.
     pub verbose: bool,
 }
 
-/// The configuration that is run with these options: this one, but for which files the commands of hooks see, and which
-/// hooks are verbose. `OutOfMemory` if memory is refused.
+/// The configuration that is run with these options. It differs from the given one in which files the
+/// commands of hooks see, and which hooks are verbose. `OutOfMemory` if memory is refused.
 pub fn with_options(
     alloc: Global,
     config: Config,
@@ -71,7 +71,8 @@ fn hook_with_options(alloc: Global, hook: Hook, options: RunOptions) -> Result<H
     Ok(hook)
 }
 
-// The pattern of a text of this crate. It fails for want of memory alone, since `regex` takes each of them.
+// The pattern of a text of this crate. It fails only for want of memory, since `regex` takes each of these
+// texts.
 fn pattern_of(alloc: Global, text: &str) -> Result<SharedPattern, OutOfMemory>
     requires { IsShort text.now }
     ensures { IfOk result (λ pattern. pattern ≡ text.now) }

@@ -1,14 +1,15 @@
-//! The table of known tools. It stands here alone, and `specs/Tools.antt` reads it here.
+//! The table of known tools. It is written only here, and `specs/Tools.antt` reads it from here.
 
 ghost use Rattle.std.specs.Prelude.{◌≡◌, IfSome};
 ghost use Rattle.hook_config.specs.Limits.{IsShort};
 ghost use Rattle.run_options.specs.Tools.{tool_of, tool_rows_of, tool_in, tool_rows};
 
-/// What kind of words a known tool may be given after its name, so that it still reads nothing but what its row says.
+/// What kind of words a known tool may be given after its name, so that it still reads nothing but what its
+/// row says.
 #[derive(Clone, Copy, Debug, PartialEq, Eq)]
 pub enum ToolKind {
-    /// Options that name no file: a letter, maybe with a number after it, or a long one, maybe with `=` and numbers or codes of
-    /// messages.
+    /// Options that name no file: a letter, maybe with a number after it, or a long option, maybe with `=`
+    /// and numbers or codes of messages.
     Options,
     /// Some of the options of `grep`, and at most one other word, the pattern.
     Grep,
@@ -21,7 +22,8 @@ pub enum ToolKind {
 // No path.
 const NOTHING: &str = "^$";
 
-// Paths with a part that begins with a dot. They are in each of the patterns of a tool that reads a configuration.
+// Paths with a part that begins with a dot. They are in each of the patterns of a tool that reads a
+// configuration.
 const DOT: &str = r"(^|/)\.";
 
 // `pyproject.toml`, `setup.cfg`, `tox.ini` and the like.
@@ -40,35 +42,36 @@ const GO: &str = r"(^|/)\.|(^|/)go\.(mod|work)$";
 
 const HADOLINT: &str = r"(^|/)\.|(^|/)hadolint\.ya?ml$";
 
-// The extensions of a package stand in its description.
+// Both tools read a package's language extensions from its description.
 const HASKELL: &str = r"(^|/)\.|\.cabal$|(^|/)(cabal\.project|fourmolu\.ya?ml|package\.yaml)";
 
-// A name that begins with `@` is taken for that of a list of words.
+// The tool takes a name that begins with `@` for that of a list of words.
 const JAVA: &str = r"(^|/)\.|\.java$";
 
 // Such a file says that a project begins in its folder.
 const DUNE: &str = r"(^|/)\.|(^|/)dune[^/]*$";
 
-// It keeps what a picture was, and stops if such a file is there.
+// The tool keeps a copy of the picture, and stops if such a file is there already.
 const BACKUPS: &str = r"\.bak$";
 
-// It writes beside a file, over what is there.
+// The tool writes next to a file, over what is there.
 const PERLTIDY: &str = r"(^|/)\.|(^|/)perltidy[^/]*$|\.(bak|DEBUG|ERR|LOG|TEE|tdy)$";
 
-// What settings may name, plugins are written in and imports lead to: each file in a folder, and at the top each file whose name
-// begins with a dot or has none, or ends as one of code, compiled modules, settings or lists of words. So documents at the top
-// are left out.
+// What settings may name, what plugins are written in and what imports lead to. It is each file in a folder.
+// At the top it is each file whose name begins with a dot, has none, or ends as one of code, compiled
+// modules, settings or lists of words. So documents at the top are left out.
 const PROJECT: &str =
     r"/|^\.|^[^.]*$|\.([cm]?[jt]sx?|json5?|jsonc|ya?ml|toml|cfg|ini|conf|properties|xml|txt|in|lock|lst|dic|dict|words|py[di]?|so|typed|rb|ru|gemspec|rake|p[lm]|t|(ba|da|k|z)?sh|bats|inc|env|vue|svelte|css|s[ac]ss|less|html?|mod|sum|hh?|hpp|cc?|cpp)$";
 
 const PROSELINT: &str = r"(^|/)\.|(^|/)proselint[^/]*$";
 
-/// Tools that read nothing but the files that they are handed and those in whose paths the pattern of their row is found: the
-/// name that is the first word of a command, the kind of words that may stand after it, and the pattern. No name stands
-/// twice.
+/// Tools that read nothing but the files that they are given and those in whose paths the pattern of their
+/// row is found. A row has the name that is the first word of a command, the kind of words that may follow
+/// it, and the pattern. No name occurs twice.
 ///
-/// Tools whose settings may name another file, that look for modules or that load plugins of the project read all of `PROJECT`. A
-/// tool isn't here if it may read any file all the same: if it runs what else is installed, or follows what its files include.
+/// Tools whose settings may name another file, that look for modules or that load plugins of the project read
+/// all of `PROJECT`. A tool that may read any file all the same isn't listed: one that runs what else is
+/// installed, or follows what its files include.
 pub static TOOLS: [(&str, ToolKind, &str); 91] = [
     ("add-trailing-comma", ToolKind::Options, NOTHING),
     ("alejandra", ToolKind::Options, TOML),
@@ -163,7 +166,8 @@ pub static TOOLS: [(&str, ToolKind, &str); 91] = [
     ("yapf3", ToolKind::Options, PYTHON),
 ];
 
-/// What kind of words the tool of that name may be given, and the pattern of what it reads. Nothing if the tool isn't known.
+/// What kind of words the tool of that name may be given, and the pattern of what it reads. Nothing if the
+/// tool isn't known.
 #[tactic(auto, unfolding(crate::specs::Tools::tool_rows))]
 pub(crate) fn tool_named(name: &str) -> Option<(ToolKind, &'static str)>
     ensures tool { tool_of result ≡ tool_in tool_rows name.now }

@@ -6,8 +6,8 @@ use hook_run::{Reuse, RunAsk};
 use std::alloc::Global;
 use trial_rows::{Stop, text_of};
 
-/// The ask of a stage, candidates, the hooks that are asked for, and names to skip. Candidates and names are parted by line
-/// ends. The hooks are `all`, or `only ` and a name.
+/// The ask with a stage, candidates, the hooks to run, and names to skip. Line ends separate candidates and
+/// names. The hooks are `all`, or `only ` and a name.
 pub(crate) fn ask_of(alloc: Global, arguments: &[Vec<u8>]) -> Result<RunAsk, Stop> {
     let [stage, candidates, only, skip] = arguments else {
         return Err(Stop::BadLine);
@@ -45,8 +45,8 @@ fn names_of(alloc: Global, text: &str) -> Result<Vec<Text>, Stop> {
     Ok(names)
 }
 
-/// The tree of files, each of which is a line of its mode, `plain` or `executable`, a blank and its path, and then its
-/// contents.
+/// The tree of files. Each file is a line with its mode, `plain` or `executable`, a blank and its path, and
+/// then its contents.
 pub(crate) fn tree_of(alloc: Global, files: &[Vec<u8>]) -> Result<Tree, Stop> {
     let mut tree = Tree::new(alloc);
     for file in files {

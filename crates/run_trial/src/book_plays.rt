@@ -1,16 +1,21 @@
-//! Runs over one book, one after another, of which a call may be refused.
+//! Runs over one book, one after another, with a call that may be refused.
 //!
-//! A row's arguments are a configuration and steps, each a word and what it needs: `file MODE PATH CONTENTS` and `gone PATH`
-//! change the files, `child ROW` adds a row to the table by which children answer (`child_rows.rt` of `trial_rows`), and `others`
-//! begins another table. `run HOW CALLS KTH FAULT BOOK REFUSAL` runs the hooks of `pre-commit` on all files, HOW being `plain`,
-//! `passed` or `fresh`, over children that have told CALLS outcomes (`child_runs.rt`) and fail their call of the number KTH by FAULT;
-//! the look-up or put of the number BOOK is refused by REFUSAL. `forget` forgets what is remembered. `limit NUMBER` begins another
-//! book, which remembers so many answers at most; without it there are as many as in a new store.
+//! A row's arguments are a configuration and steps, each a word and what it needs:
 //!
-//! A run is answered by its verdict or its refusal and by how many outcomes it added, how many of these are faults; then by a line
-//! for each unsteady hook, for each file that is changed, by the report, and by how many answers are remembered and whether
-//! that of each row of the table is: `held`, `lacking`, or `other` where another is in its place. That looks them up in the order
-//! of the table, so that the last one that is held was used last.
+//! - `file MODE PATH CONTENTS` and `gone PATH` change the files;
+//! - `child ROW` adds a row to the table from which children answer (`child_rows.rt` of `trial_rows`), and
+//!   `others` begins another table;
+//! - `run HOW CALLS KTH FAULT BOOK REFUSAL` runs the hooks of `pre-commit` on all files. HOW is `plain`,
+//!   `passed` or `fresh`. The children have reported CALLS outcomes (`child_runs.rt`), and their call number
+//!   KTH fails with FAULT. The book's look-up or put number BOOK is refused with REFUSAL;
+//! - `forget` removes what is cached;
+//! - `limit NUMBER` begins another book with this limit; without it the limit is that of a new store.
+//!
+//! A run answers its verdict or its refusal, how many outcomes it added, and how many of these are faults.
+//! Then come a line for each unsteady hook, a line for each changed file, and the report. The last part is
+//! how many results are cached, and whether that of each row of the table is: `held`, `lacking`, or `other`
+//! if another is in its place. This looks them up in the order of the table, so the last one that is held
+//! becomes the most recently used.
 
 ghost use Rattle.std.specs.Prelude.{IfOk};
 ghost use Rattle.store_faults.specs.Limits.{IsLimit};
@@ -28,7 +33,7 @@ use std::alloc::Global;
 use store_faults::{FIRST_LIMIT, MOST_ANSWERS, StoreFault};
 use trial_rows::{Answer, Stop, Words, fault_of, mode_of, text_of};
 
-/// The files, the rows by which children answer, as their texts say them, and what is remembered.
+/// The files, the rows from which children answer, as their texts describe them, and the book.
 #[derive(Drop)]
 pub(crate) struct BookPlay {
     pub(crate) tree: Tree,
@@ -147,7 +152,7 @@ fn out_of(ran: Result<HooksRun, RunRefusal>) -> Result<RunOut, RunRefusal> {
     }
 }
 
-// All files of the tree are candidates.
+// An ask with all files of the tree as candidates.
 fn ask_of(alloc: Global, tree: &Tree, how: &str) -> Result<RunAsk, Stop> {
     let mut candidates = Vec::new(alloc);
     for index in 0..tree.len() {

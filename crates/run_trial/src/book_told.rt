@@ -1,4 +1,5 @@
-//! What the rows tell of a run over a book: what it gave, what the children told, and what is remembered behind it.
+//! What the rows show of a run over a book: its result, what the children reported, and what is cached
+//! afterwards.
 
 use crate::book_plays::BookPlay;
 use crate::child_runs::with_changes;
@@ -44,7 +45,7 @@ fn with_out(answer: Answer, out: &RunOut, tree: &Tree) -> Result<Answer, Stop> {
     Ok(with_changes(answer, changes.as_slice()).bytes(out.report.as_slice()))
 }
 
-/// Adds how many answers are remembered, and whether that of each row of the table is.
+/// Adds how many results are cached, and whether that of each row of the table is.
 pub(crate) fn with_remembered(answer: Answer, play: &mut BookPlay) -> Result<Answer, Stop> {
     play.book.fuse(0, BookFault::OutOfMemory);
     let mut answer = answer.shown(play.book.len()).text(" remembered:");

@@ -1,4 +1,4 @@
-//! The calls by their names.
+//! The calls by name.
 
 use crate::{
     book_plays, child_runs, config_kinds, config_texts, configurations, plans, report_texts,
@@ -16,7 +16,8 @@ impl Answers for Calls {
     }
 }
 
-// The calls stand in several functions, each of which knows the next, since one with many arms takes the checker long.
+// The calls are spread over several functions, each of which calls the next: one `match` with many arms takes
+// the checker long.
 fn of_configurations(alloc: Global, call: &str, arguments: &[Vec<u8>]) -> Result<Answer, Stop> {
     match call {
         "read_config" => configurations::read_alone(alloc, arguments),

@@ -1,4 +1,4 @@
-//! Runs over children that answer by a table, one of which may fail.
+//! Runs over children that answer from a table, one of which may fail.
 
 use crate::asks::{ask_of, tree_of};
 use crate::configurations::refusal;
@@ -12,7 +12,7 @@ use std::alloc::Global;
 use store_faults::FIRST_LIMIT;
 use trial_rows::{Answer, Stop, fault_of, number_of, row_of, text_of, verdict_of};
 
-// A run that a row asks for: of which configuration, over which children, and on which files.
+// A run that a row asks for: its configuration, its children and its files.
 #[derive(Drop)]
 struct Asked<'a> {
     configuration: &'a [u8],
@@ -21,11 +21,13 @@ struct Asked<'a> {
     tree: Tree,
 }
 
-/// `run_hooks CONFIGURATION STAGE CANDIDATES ONLY SKIP CALLS KTH FAULT COUNT ROW.. FILE..`: children that have told so many
-/// outcomes, or `all` that can be counted, answer by the first COUNT rows, and their call of the number KTH fails. The run's
-/// refusal with its number, name and text; or a line that says whether every hook passed, how many outcomes the run added
-/// and how many of them are faults, and how many hooks are unsteady; a line for each file that is changed; then a line for
-/// each result, and the report.
+/// `run_hooks CONFIGURATION STAGE CANDIDATES ONLY SKIP CALLS KTH FAULT COUNT ROW.. FILE..`: a run over
+/// children that answer from the first COUNT rows. They have reported CALLS outcomes already, or with `all`
+/// as many as can be counted, and their call number KTH fails.
+///
+/// It answers the run's refusal with its number, name and text. Otherwise it answers a line that says whether
+/// every hook passed, how many outcomes the run added, how many of them are faults, and how many hooks are
+/// unsteady. Then come a line for each changed file, a line for each result, and the report.
 pub(crate) fn played(alloc: Global, arguments: &[Vec<u8>]) -> Result<Answer, Stop> {
     let Asked {
         configuration,
@@ -40,7 +42,8 @@ pub(crate) fn played(alloc: Global, arguments: &[Vec<u8>]) -> Result<Answer, Sto
     }
 }
 
-/// `run_plan ..`: the same, where the children that the plan of the run needs are started here, and their outcomes told to it.
+/// `run_plan ..`: the same, but here the program starts the children that the plan of the run needs, and
+/// gives their outcomes to it.
 pub(crate) fn planned(alloc: Global, arguments: &[Vec<u8>]) -> Result<Answer, Stop> {
     let Asked {
         configuration,

@@ -5,7 +5,7 @@ use std::alloc::Global;
 use trial_rows::{Answer, Stop, only, text_of};
 use yaml_profile::{YamlFault, YamlKind};
 
-/// `config_kind NAME`: the kind's number and name, what it is shown as, and what a fault of it is shown as; then the
+/// `config_kind NAME`: the kind's number and name, how it is shown, and how a fault of it is shown; then the
 /// number and the name of that fault.
 pub(crate) fn told(alloc: Global, arguments: &[Vec<u8>]) -> Result<Answer, Stop> {
     let kind = kind_of(text_of(only(arguments)?)?).ok_or(Stop::BadLine)?;

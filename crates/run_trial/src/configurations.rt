@@ -1,4 +1,4 @@
-//! What a text is read to as a configuration.
+//! What a text is read as, if it is a configuration.
 
 use hook_base::Text;
 use hook_config::{
@@ -8,12 +8,13 @@ use hook_config::{
 use std::alloc::Global;
 use trial_rows::{Answer, Stop, only};
 
-/// `read_config TEXT`: the number of hooks, `fail_fast` and the unknown keys; or the refusal's number, name and place.
+/// `read_config TEXT`: the number of hooks, `fail_fast` and the unknown keys; or the refusal's number, name
+/// and place.
 pub(crate) fn read_alone(alloc: Global, arguments: &[Vec<u8>]) -> Result<Answer, Stop> {
     Ok(outcome(alloc, &read_config(alloc, only(arguments)?)))
 }
 
-/// `read_config_with_node TEXT`: the same where the text's node is read with its configuration.
+/// `read_config_with_node TEXT`: the same, but the text's node is read with its configuration.
 pub(crate) fn read_with_node(alloc: Global, arguments: &[Vec<u8>]) -> Result<Answer, Stop> {
     Ok(outcome(alloc, &configuration_with_node(alloc, only(arguments)?)))
 }
@@ -23,12 +24,12 @@ pub(crate) fn hooks_alone(alloc: Global, arguments: &[Vec<u8>]) -> Result<Answer
     Ok(hooks(alloc, &read_config(alloc, only(arguments)?)))
 }
 
-/// `hooks_with_node TEXT`: the same where the text's node is read with its configuration.
+/// `hooks_with_node TEXT`: the same, but the text's node is read with its configuration.
 pub(crate) fn hooks_with_node(alloc: Global, arguments: &[Vec<u8>]) -> Result<Answer, Stop> {
     Ok(hooks(alloc, &configuration_with_node(alloc, only(arguments)?)))
 }
 
-/// `top_patterns TEXT`: the patterns at the top, `files` and `exclude`, with a bar between them, or the refusal.
+/// `top_patterns TEXT`: the patterns `files` and `exclude` at the top, separated by a bar, or the refusal.
 pub(crate) fn top_patterns(alloc: Global, arguments: &[Vec<u8>]) -> Result<Answer, Stop> {
     match read_config(alloc, only(arguments)?) {
         Ok(config) => Ok(patterns(alloc, &config)),
@@ -89,7 +90,7 @@ fn with_texts(answer: Answer, mark: &str, texts: &[Text]) -> Answer {
     answer
 }
 
-/// A refusal's number, name and place.
+/// The number, name and place of a refusal.
 pub(crate) fn refusal(alloc: Global, fault: ConfigFault) -> Answer {
     let answer = Answer::new(alloc).shown(fault.number());
     answer.texts(&[" ", fault.name(), " at "]).shown(fault.at)
@@ -105,7 +106,7 @@ fn hook_lines(alloc: Global, hooks: &[Hook]) -> Answer {
     answer
 }
 
-// A hook's line has its fields but its stages, in the order of the type, with bars between them.
+// Adds a hook's line: its fields without its stages, in the order of the type, separated by bars.
 fn with_names(answer: Answer, hook: &Hook) -> Answer {
     let answer = answer.texts(&[hook.id.as_str(), "|", hook.name.as_str(), "|"]);
     let answer = answer.texts(&[hook.alias.as_str(), "|"]);

@@ -1,11 +1,12 @@
-//! A book in memory of which one call is refused.
+//! A book in memory with one call that is refused.
 
 use child_port::Answer;
 use hook_base::{Text, Tree};
 use result_book::{Book, BookFault, ListBook};
 use std::alloc::Global;
 
-/// A book that hands each call on to one in memory. One of its look-ups and puts, which are counted together, may be refused.
+/// A book that passes each call on to one in memory. One of its look-ups and puts, which are counted
+/// together, may be refused.
 #[derive(Drop)]
 pub(crate) struct FusedBook {
     inner: ListBook,
@@ -18,7 +19,7 @@ impl FusedBook {
     ghost use Rattle.std.specs.Prelude.{◌≡◌};
     ghost use Rattle.store_faults.specs.Limits.{IsLimit};
 
-    /// A book of a limit that remembers nothing, none of whose calls is refused.
+    /// An empty book with this limit, none of whose calls is refused.
     pub(crate) fn new(alloc: Global, limit: u32) -> FusedBook
         requires { IsLimit limit }
     {
@@ -30,14 +31,14 @@ impl FusedBook {
         }
     }
 
-    /// Refuses the look-up or put of this number from here on, counted from 1, and none where it is 0.
+    /// From here on, refuses the look-up or put with this number, counted from 1. With 0 none is refused.
     pub(crate) fn fuse(&mut self, kth: u32, fault: BookFault) {
         self.kth = kth;
         self.fault = fault;
         self.calls = 0;
     }
 
-    // Counts a call, and says whether it is the one that is refused.
+    // Counts a call, and answers whether it is the refused one.
     fn is_refused(&mut self) -> bool
         ensures { self.new.inner ≡ self.old.inner }
     {

@@ -1,8 +1,10 @@
-//! The program `run_trial`: plays calls on configurations, on reports and on runs of hooks. Each is a line of standard input and is
-//! answered by a line, so that tables of cases can be compared with what the libraries answer.
+//! The program `run_trial`: plays calls on configurations, on reports and on runs of hooks. Each is a line of
+//! standard input and is answered by a line, so that tables of cases can be compared with what the libraries
+//! answer.
 //!
-//! How a line is written says the crate `trial_rows`. At a line that is no call the program ends with the exit status 2. It stands on
-//! no library above `hook_run`, so that its proof waits for none of them. Calls on these are played by `hook_trial`.
+//! The crate `trial_rows` says how a line is written. At a line that isn't a call the program ends with the
+//! exit status 2. It uses no library that builds on `hook_run`, so its proof waits for none of them.
+//! `hook_trial` plays the calls on these.
 #![tactic(auto)]
 
 mod asks;

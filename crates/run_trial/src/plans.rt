@@ -1,4 +1,4 @@
-//! Runs that are asked for in full, and need no child.
+//! Runs whose ask is given in full, and that need no child.
 
 use crate::asks::{ask_of, tree_of};
 use crate::configurations::refusal;
@@ -9,9 +9,10 @@ use report_text::Ending;
 use std::alloc::Global;
 use trial_rows::{Answer, Stop, verdict_of};
 
-/// `run CONFIGURATION STAGE CANDIDATES ONLY SKIP FILE..`: the run's refusal with its number, name and text; or a line that
-/// says that the plan is over, whether every hook passed, what became of the tree, and how many hooks are unsteady; then a
-/// line for each result, and the report. `Child` where the plan needs a child.
+/// `run CONFIGURATION STAGE CANDIDATES ONLY SKIP FILE..`: the run's refusal with its number, name and text.
+/// Otherwise a line that says that the plan is over, whether every hook passed, what became of the tree, and
+/// how many hooks are unsteady. Then come a line for each result, and the report. `Child` if the plan needs a
+/// child.
 pub(crate) fn played(alloc: Global, arguments: &[Vec<u8>]) -> Result<Answer, Stop> {
     let [configuration, rest @ ..] = arguments else {
         return Err(Stop::BadLine);
@@ -33,7 +34,7 @@ fn planned(alloc: Global, config: &Config, ask: &RunAsk, tree: &Tree) -> Result<
     }
 }
 
-/// A run's refusal, with its number, name and text.
+/// The number, name and text of a run's refusal.
 pub(crate) fn refused_run(alloc: Global, refused: RunRefusal) -> Result<Answer, Stop> {
     if refused == RunRefusal::OutOfMemory {
         return Err(Stop::OutOfMemory);

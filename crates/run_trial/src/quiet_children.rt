@@ -1,4 +1,4 @@
-//! Children that answer nothing, at no cost, for runs that are timed.
+//! Children whose answer is empty and costs nothing, for runs that are timed.
 
 use child_port::{Answer, Children, Outcome};
 use hook_base::{Bytes, Changes, OutOfMemory, Text, Tree};
@@ -12,7 +12,7 @@ pub(crate) struct QuietChildren {
 }
 
 impl QuietChildren {
-    /// They have told nothing yet.
+    /// They have reported nothing yet.
     pub(crate) fn new(alloc: Global) -> QuietChildren {
         QuietChildren { alloc, told: 0 }
     }

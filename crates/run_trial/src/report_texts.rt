@@ -1,4 +1,4 @@
-//! What a report says of hooks that ended in every way.
+//! What a report says of hooks that ended in each possible way.
 
 use child_port::Fault;
 use hook_base::{Bytes, Items, Text};
@@ -7,9 +7,9 @@ use std::alloc::Global;
 use trial_rows::{Answer, Stop, number_of, text_of, texts_of};
 use unicode_width::UnicodeWidthStr;
 
-/// `hook_text COLUMNS NAME VERBOSE ENDING..`: the text of a hook with the id `t`, whose name must fit the columns. An
-/// ending is `asked`, `no files` or `ran STATUS MODIFIED OUTPUT FAULT..`. VERBOSE is `verbose` or has no bytes, and
-/// MODIFIED likewise.
+/// `hook_text COLUMNS NAME VERBOSE ENDING..`: the text of a hook with the id `t`, whose name must fit the
+/// columns. An ending is `asked`, `no files` or `ran STATUS MODIFIED OUTPUT FAULT..`. VERBOSE is `verbose` or
+/// empty, and MODIFIED is `modified` or empty.
 pub(crate) fn of_hook(alloc: Global, arguments: &[Vec<u8>]) -> Result<Answer, Stop> {
     let [columns, name, verbose, ending @ ..] = arguments else {
         return Err(Stop::BadLine);
@@ -62,7 +62,7 @@ fn ran(alloc: Global, details: &[Vec<u8>]) -> Result<Ending, Stop> {
     })
 }
 
-// Whether an argument is the word. One without bytes isn't, and another is refused.
+// Whether an argument is the word. An empty argument isn't, and any other is refused.
 fn says(word: &str, argument: &[u8]) -> Result<bool, Stop> {
     match text_of(argument)? {
         "" => Ok(false),
@@ -95,7 +95,7 @@ fn fault_of(word: &str) -> Option<LineFault> {
     }
 }
 
-/// `columns NAME..`: the columns of a report on hooks of these names.
+/// `columns NAME..`: the columns of a report on hooks with these names.
 pub(crate) fn for_names(alloc: Global, arguments: &[Vec<u8>]) -> Result<Answer, Stop> {
     let names = texts_of(alloc, arguments)?;
     if names.iter().any(|name| MOST_NAME_BYTES < name.len()) {

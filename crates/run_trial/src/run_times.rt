@@ -1,5 +1,5 @@
-//! Runs over children that answer at once, for a script that times them. Each call is answered by how many children were
-//! started, how many answers are remembered in the end, and the report of the last run.
+//! Runs over children that answer at once, for a script that times them. Each call answers how many children
+//! were started, how many results are cached in the end, and the report of the last run.
 
 use crate::quiet_children::{QuietChildren, quiet_answer};
 use child_port::{Answer as ChildAnswer, Children, is_stray};
@@ -11,8 +11,8 @@ use std::alloc::Global;
 use store_faults::MOST_ANSWERS;
 use trial_rows::{Answer, Stop, number_of};
 
-/// `first_runs CONFIGURATION FILES SIZE COUNT`: so many runs on so many files of so many bytes, each over a book that
-/// remembers nothing.
+/// `first_runs CONFIGURATION FILES SIZE COUNT`: COUNT runs on FILES files of SIZE bytes, each over an empty
+/// book.
 pub(crate) fn first_runs(alloc: Global, arguments: &[Vec<u8>]) -> Result<Answer, Stop> {
     let [configuration, files, size, count] = arguments else {
         return Err(Stop::BadLine);
@@ -30,7 +30,7 @@ pub(crate) fn first_runs(alloc: Global, arguments: &[Vec<u8>]) -> Result<Answer,
     Ok(times.told())
 }
 
-/// `further_runs CONFIGURATION FILES SIZE COUNT`: the same over one book.
+/// `further_runs CONFIGURATION FILES SIZE COUNT`: the same, but over one book.
 pub(crate) fn further_runs(alloc: Global, arguments: &[Vec<u8>]) -> Result<Answer, Stop> {
     let [configuration, files, size, count] = arguments else {
         return Err(Stop::BadLine);
@@ -47,8 +47,8 @@ pub(crate) fn further_runs(alloc: Global, arguments: &[Vec<u8>]) -> Result<Answe
     Ok(times.told())
 }
 
-/// `runs_among CONFIGURATION ROWS COUNT`: so many runs on one file, over a book that remembers answers for the command `c` on so
-/// many other contents of that file.
+/// `runs_among CONFIGURATION ROWS COUNT`: COUNT runs on one file, over a book with cached results of the
+/// command `c` for ROWS other contents of that file.
 pub(crate) fn runs_among(alloc: Global, arguments: &[Vec<u8>]) -> Result<Answer, Stop> {
     let [configuration, rows, count] = arguments else {
         return Err(Stop::BadLine);
@@ -62,7 +62,8 @@ pub(crate) fn runs_among(alloc: Global, arguments: &[Vec<u8>]) -> Result<Answer,
     Ok(times.told())
 }
 
-/// `runs_of_each CONFIGURATION CONTENTS COUNT`: so many times a run on one file for each of so many contents of it.
+/// `runs_of_each CONFIGURATION CONTENTS COUNT`: COUNT times, a run on one file for each of its CONTENTS
+/// contents.
 pub(crate) fn runs_of_each(alloc: Global, arguments: &[Vec<u8>]) -> Result<Answer, Stop> {
     let [configuration, contents, count] = arguments else {
         return Err(Stop::BadLine);
@@ -76,7 +77,7 @@ pub(crate) fn runs_of_each(alloc: Global, arguments: &[Vec<u8>]) -> Result<Answe
     Ok(times.told())
 }
 
-// A configuration, and what its runs are over.
+// A configuration, and what its runs work on.
 #[derive(Drop)]
 struct Times {
     alloc: Global,
@@ -136,7 +137,7 @@ impl Times {
     }
 }
 
-// All files are candidates.
+// An ask with all files as candidates.
 fn ask_of(alloc: Global, tree: &Tree) -> Result<RunAsk, Stop> {
     let mut candidates = Vec::new(alloc);
     for index in 0..tree.len() {
@@ -166,7 +167,7 @@ fn put_sized(alloc: Global, tree: &mut Tree, number: u32, size: u32) -> Result<(
     put_file(alloc, tree, path.as_str(), bytes)
 }
 
-// The file `a.txt`, which holds a number.
+// A tree with the file `a.txt`, which contains a number.
 fn numbered_tree(alloc: Global, number: u32) -> Result<Tree, Stop> {
     let mut tree = Tree::new(alloc);
     let text = format!(in alloc; "{number}")?;
@@ -181,7 +182,7 @@ fn put_file(alloc: Global, tree: &mut Tree, path: &str, bytes: Content) -> Resul
     Ok(())
 }
 
-// Puts an answer for each of so many contents of `a.txt`.
+// Puts an answer for each of ROWS contents of `a.txt`.
 fn fill(alloc: Global, book: &mut ListBook, rows: u32) -> Result<(), Stop> {
     let words = filled_words(alloc)?;
     let answer = quiet_answer(alloc);

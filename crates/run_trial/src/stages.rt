@@ -1,4 +1,4 @@
-//! The names of stages, and the stages that hooks have.
+//! The names of stages, and the stages of hooks.
 
 use crate::configurations::refusal;
 use hook_config::{Hook, Stage, Stages, read_config};
@@ -64,7 +64,7 @@ fn lines(alloc: Global, hooks: &[Hook]) -> Answer {
     answer
 }
 
-// The names of the stages, each with a blank behind it.
+// Adds the names of the stages, each followed by a blank.
 fn with_stages(answer: Answer, stages: Stages) -> Answer {
     let mut answer = answer;
     for (stage, name) in EVERY {

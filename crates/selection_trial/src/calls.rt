@@ -1,4 +1,4 @@
-//! The calls by their names.
+//! The calls by name.
 
 use crate::{commands, found, greps, kept, options, paths, tags};
 use std::alloc::Global;
@@ -13,7 +13,8 @@ impl Answers for Calls {
     }
 }
 
-// The calls stand in four functions, each of which knows the next, since one with many arms takes the checker long.
+// The calls are spread over four functions, each of which calls the next: one `match` with many arms takes
+// the checker long.
 fn of_selections(alloc: Global, call: &str, arguments: &[Vec<u8>]) -> Result<Answer, Stop> {
     match call {
         "tags_of" => tags::among(alloc, arguments),

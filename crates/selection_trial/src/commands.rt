@@ -1,4 +1,4 @@
-//! Calls on an entry's words and the parts of a command.
+//! Calls on the words of an entry and the parts of a command.
 
 use crate::files::paths_of;
 use arg_partition::{Cut, PartsFault, WordsFault, parts, words};
@@ -31,8 +31,8 @@ fn words_refusal(alloc: Global, fault: WordsFault) -> Result<Answer, Stop> {
     }
 }
 
-/// `parts LIMIT MOST WORDS NAMES`: the cuts, a line each, or the number, the name and the index of the refusal. Words and
-/// names are parted by line feeds, and each ends with one.
+/// `parts LIMIT MOST WORDS NAMES`: the cuts, a line each, or the number, the name and the index of the
+/// refusal. Each word and each name ends with a line feed.
 pub(crate) fn partitioned(alloc: Global, arguments: &[Vec<u8>]) -> Result<Answer, Stop> {
     let [limit, most, words, names] = arguments else {
         return Err(Stop::BadLine);
@@ -71,7 +71,7 @@ fn shown(alloc: Global, cuts: &[Cut]) -> Answer {
     answer
 }
 
-// The number of an argument in decimal digits. `BadLine` where it is none of 64 bits.
+// The number of an argument in decimal digits. `BadLine` if it isn't a number of 64 bits.
 fn size(argument: &[u8]) -> Result<usize, Stop> {
     text_of(argument)?.parse().map_err(|_| Stop::BadLine)
 }

@@ -1,15 +1,15 @@
-//! The paths and the trees of arguments.
+//! The paths and the trees in arguments.
 
 use hook_base::{Change, Content, FileEntry, Mode, RepoPath, Tree};
 use std::alloc::Global;
 use trial_rows::{Stop, text_of};
 
-/// The path of a text.
+/// Reads a text as a path.
 pub(crate) fn path_of(alloc: Global, text: &[u8]) -> Result<RepoPath, Stop> {
     Ok(RepoPath::read(alloc, text_of(text)?)?)
 }
 
-/// The paths of an argument, parted by line feeds.
+/// The paths in an argument, separated by line feeds.
 pub(crate) fn paths_of(alloc: Global, argument: &[u8]) -> Result<Vec<RepoPath>, Stop> {
     let mut paths = Vec::new(alloc);
     for line in text_of(argument)?.lines() {
@@ -18,7 +18,7 @@ pub(crate) fn paths_of(alloc: Global, argument: &[u8]) -> Result<Vec<RepoPath>, 
     Ok(paths)
 }
 
-/// The tree of an argument: lines of a mode, `-` or `x`, a path and bytes, parted by blanks.
+/// The tree in an argument: lines of a mode, `-` or `x`, a path and bytes, separated by blanks.
 pub(crate) fn tree_of(alloc: Global, argument: &[u8]) -> Result<Tree, Stop> {
     let mut tree = Tree::new(alloc);
     for line in text_of(argument)?.lines() {
@@ -29,7 +29,8 @@ pub(crate) fn tree_of(alloc: Global, argument: &[u8]) -> Result<Tree, Stop> {
     Ok(tree)
 }
 
-/// The changes of an argument: lines of `+`, a path and bytes, or of `-` and a path that is gone, parted by blanks.
+/// The changes in an argument: lines of `+`, a path and bytes, or of `-` and a path that is gone, separated
+/// by blanks.
 pub(crate) fn changes_of(alloc: Global, argument: &[u8]) -> Result<Vec<Change>, Stop> {
     let mut changes = Vec::new(alloc);
     for line in text_of(argument)?.lines() {
@@ -50,7 +51,7 @@ fn change_of(alloc: Global, line: &str) -> Result<Change, Stop> {
     Ok(Change { path, now })
 }
 
-// The two parts of a line around its first blank, the whole and nothing where it has none.
+// The two parts of a line around its first blank; without a blank, the whole line and nothing.
 fn parted(line: &str) -> (&str, &str) {
     line.split_once(' ').unwrap_or((line, ""))
 }

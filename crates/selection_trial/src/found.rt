@@ -1,4 +1,4 @@
-//! Calls on what one pattern selects alone.
+//! Calls on what a single pattern selects.
 
 use crate::files::tree_of;
 use crate::paths::lines_of;
@@ -8,8 +8,8 @@ use path_select::{Pattern, Rules, select, select_found};
 use std::alloc::Global;
 use trial_rows::{Answer, Stop};
 
-/// `select_found PATTERN TREE`: the paths of the tree's files in which the pattern is found, a line each. `TwoAnswers` where
-/// `select` gives others. A line of the tree is as `select` takes it.
+/// `select_found PATTERN TREE`: the paths of the tree's files in which the pattern is found, a line each.
+/// `TwoAnswers` if `select` gives others. A line of the tree is as `select` takes it.
 pub(crate) fn found(alloc: Global, arguments: &[Vec<u8>]) -> Result<Answer, Stop> {
     let [pattern, tree] = arguments else {
         return Err(Stop::BadLine);
@@ -27,7 +27,7 @@ fn found_in(alloc: Global, pattern: &Pattern, tree: &Tree) -> Result<Answer, Sto
     }
 }
 
-// What the pattern selects of all paths, where all other patterns are those that a configuration has by default.
+// What the pattern selects of all paths, if all other patterns are the defaults of a configuration.
 fn selected_alone(alloc: Global, pattern: &Pattern, tree: &Tree) -> Result<Items<RepoPath>, Stop> {
     let every_path = pattern_of(alloc, b"")?;
     let no_path = pattern_of(alloc, b"^$")?;

@@ -25,7 +25,7 @@ fn shown(alloc: Global, answer: &ChildAnswer) -> Answer {
     told.text("\n").bytes(answer.output.as_slice())
 }
 
-/// `grep_build ENTRY ARGS`: `built`, or the refusal's number and name. The arguments are parted by line ends.
+/// `grep_build ENTRY ARGS`: `built`, or the refusal's number and name. Line ends separate the arguments.
 pub(crate) fn built(alloc: Global, arguments: &[Vec<u8>]) -> Result<Answer, Stop> {
     let [entry, args] = arguments else {
         return Err(Stop::BadLine);
@@ -36,8 +36,8 @@ pub(crate) fn built(alloc: Global, arguments: &[Vec<u8>]) -> Result<Answer, Stop
     }
 }
 
-/// `grep_answer ENTRY ARGS PATHS (PATH CONTENTS)..`: the same as `fail_answer` for the paths asked for, over a tree of the
-/// files behind them, or the refusal. Arguments and paths are parted by line ends.
+/// `grep_answer ENTRY ARGS PATHS (PATH CONTENTS)..`: the same as `fail_answer` for PATHS, over a tree of the
+/// files that follow, or the refusal. Line ends separate arguments and paths.
 pub(crate) fn answered(alloc: Global, arguments: &[Vec<u8>]) -> Result<Answer, Stop> {
     let [entry, args, paths, files @ ..] = arguments else {
         return Err(Stop::BadLine);
@@ -87,7 +87,7 @@ fn asked_paths(alloc: Global, text: &[u8]) -> Result<Vec<RepoPath>, Stop> {
     Ok(paths)
 }
 
-// The tree of the files that follow one another as path and contents.
+// The tree of the files that are given in turn as path and contents.
 fn tree_of(alloc: Global, words: &[Vec<u8>]) -> Result<Tree, Stop> {
     let mut tree = Tree::new(alloc);
     let mut path = None;

@@ -12,16 +12,17 @@ use path_select::{Rules, select, select_kept};
 use std::alloc::Global;
 use trial_rows::{Answer, Stop, texts_of};
 
-// A tree that changes have been applied to, and the tags that have followed them.
+// A tree to which changes were applied, and the tags that followed them.
 #[derive(Drop)]
 struct Followed {
     tree: Tree,
     tags: KeptTags,
 }
 
-/// `follow TREE CHANGES TAG..`: of each file that the changes leave of the tree its path and those of the given tags that it
-/// has, each behind a blank, a line each. `TwoAnswers` where the tags that followed the changes aren't those of the file. A
-/// line of the changes is `+ PATH BYTES`, or `- PATH` where the file is gone, and one of the tree as `select` takes it.
+/// `follow TREE CHANGES TAG..`: a line for each file that the changes leave in the tree. It has the file's
+/// path, and those of the given tags that the file has, each after a blank. `TwoAnswers` if the tags that
+/// followed the changes aren't those of the file. A line of the changes is `+ PATH BYTES`, or `- PATH` if the
+/// file is gone. A line of the tree is as `select` takes it.
 pub(crate) fn tags_after(alloc: Global, arguments: &[Vec<u8>]) -> Result<Answer, Stop> {
     let [tree, changes, asked @ ..] = arguments else {
         return Err(Stop::BadLine);
@@ -44,7 +45,7 @@ fn follow(alloc: Global, old: &Tree, changes: &[Change]) -> Result<Followed, Out
     let mut tags = KeptTags::of(alloc, old)?;
     let mut tree = old.copy()?;
     tree.apply(changes)?;
-    // A refusal leaves the tags as they were, so that the call may be made again.
+    // A refusal leaves the tags as they were, so the call may be repeated.
     if tags.follow(old, &tree, changes).is_err() {
         tags.follow(old, &tree, changes)?;
     }
@@ -84,8 +85,9 @@ fn file_shown(
     Ok(answer.text("\n"))
 }
 
-/// `select_kept TOP_FILES TOP_EXCLUDE FILES EXCLUDE TYPES TYPES_OR EXCLUDE_TYPES CANDIDATES TREE CHANGES`: what is selected of
-/// the tree that the changes leave, by the tags that followed them. `TwoAnswers` where `select` gives other paths.
+/// `select_kept TOP_FILES TOP_EXCLUDE FILES EXCLUDE TYPES TYPES_OR EXCLUDE_TYPES CANDIDATES TREE CHANGES`:
+/// what is selected from the tree that the changes leave, by the tags that followed them. `TwoAnswers` if
+/// `select` gives other paths.
 pub(crate) fn selected_after(alloc: Global, arguments: &[Vec<u8>]) -> Result<Answer, Stop> {
     let [rules @ .., paths, tree, changes] = arguments else {
         return Err(Stop::BadLine);
@@ -113,7 +115,8 @@ fn selected_by(
     both_ways(alloc, &rules, paths, tree, changes)
 }
 
-// What is selected by the tags that followed the changes, and by those that are made: both must be the same.
+// What is selected by the tags that followed the changes, and by tags that are made from the tree. Both must
+// be the same.
 fn both_ways(
     alloc: Global,
     rules: &Rules,

@@ -1,6 +1,7 @@
-//! The program `selection_trial`: plays calls on tags, patterns, selections, the hooks that start no child, an entry's words,
-//! the parts of a command and the options of a run, one a line of standard input, and answers each by a line. `tests/rows/rows.py`
-//! and the scripts that compare with other tools drive it; how a line is written says the crate `trial_rows`.
+//! The program `selection_trial`: plays calls on tags, patterns, selections, the hooks that start no child,
+//! an entry's words, the parts of a command and the options of a run. Each is a line of standard input and is
+//! answered by a line. `tests/rows/rows.py` and the scripts that compare with other tools drive it. The crate
+//! `trial_rows` says how a line is written.
 #![tactic(auto)]
 
 mod calls;

@@ -1,4 +1,4 @@
-//! Calls on what the options of a run make of a configuration.
+//! Calls on the effect of a run's options on a configuration.
 
 use crate::commands::texts;
 use hook_config::{Config, Hook, MOST_TEXT_BYTES, SharedPattern, read_config};
@@ -6,8 +6,8 @@ use run_options::{RunOptions, TOOLS, ToolKind, command_reads, with_options};
 use std::alloc::Global;
 use trial_rows::{Answer, Stop, text_of};
 
-/// `command_reads WORDS PASS_FILENAMES ALWAYS_RUN`: the text of the pattern of what the command reads besides its files, or
-/// `every path`. Each word ends with a line feed, and the others are `true` or `false`.
+/// `command_reads WORDS PASS_FILENAMES ALWAYS_RUN`: the text of the pattern of what the command reads besides
+/// its files, or `every path`. Each word ends with a line feed, and the other two are `true` or `false`.
 pub(crate) fn read_by(alloc: Global, arguments: &[Vec<u8>]) -> Result<Answer, Stop> {
     let [words, pass_filenames, always_run] = arguments else {
         return Err(Stop::BadLine);
@@ -31,8 +31,8 @@ fn shown_pattern(text: &str) -> &str {
     if text.is_empty() { "every path" } else { text }
 }
 
-/// `tools`: the name of each known tool and the text of its pattern, with a bar between them, a line each. `BadLine` if a
-/// pattern isn't taken.
+/// `tools`: the name of each known tool and the text of its pattern, separated by a bar, a line each.
+/// `BadLine` if a pattern is refused.
 pub(crate) fn tools(alloc: Global) -> Result<Answer, Stop> {
     tool_lines(alloc, &TOOLS)
 }
@@ -51,8 +51,9 @@ fn tool_lines(alloc: Global, tools: &[(&str, ToolKind, &str)]) -> Result<Answer,
     Ok(answer)
 }
 
-/// `with_options OPTIONS TEXT`: of each hook of the configuration that is run with these options its id, the pattern of what
-/// it reads and whether it is verbose, with bars between them, a line each. The options are names with blanks between them.
+/// `with_options OPTIONS TEXT`: a line for each hook of the configuration that is run with these options. It
+/// has the hook's id, the pattern of what the hook reads, and whether it is verbose, separated by bars. The
+/// options are names separated by blanks.
 pub(crate) fn hooks(alloc: Global, arguments: &[Vec<u8>]) -> Result<Answer, Stop> {
     let [options, text] = arguments else {
         return Err(Stop::BadLine);

@@ -10,7 +10,7 @@ use path_select::{
 use std::alloc::Global;
 use trial_rows::{Answer, Stop, only, text_of};
 
-/// `pattern TEXT`: the pattern's text, or the number of the refusal and what it says.
+/// `pattern TEXT`: the pattern's text, or the number of the refusal and its text.
 pub(crate) fn built(alloc: Global, arguments: &[Vec<u8>]) -> Result<Answer, Stop> {
     match Pattern::build(alloc, text_of(only(arguments)?)?) {
         Ok(pattern) => Ok(Answer::new(alloc).text(pattern.as_str())),
@@ -24,9 +24,9 @@ fn refusal(alloc: Global, fault: PatternFault) -> Answer {
     answer.text(" ").shown(fault)
 }
 
-/// `select TOP_FILES TOP_EXCLUDE FILES EXCLUDE TYPES TYPES_OR EXCLUDE_TYPES CANDIDATES TREE`: the paths that are selected, a
-/// line each. Tags are parted by blanks, candidates by line feeds. A line of the tree is `MODE PATH BYTES`, the mode `-` or
-/// `x`.
+/// `select TOP_FILES TOP_EXCLUDE FILES EXCLUDE TYPES TYPES_OR EXCLUDE_TYPES CANDIDATES TREE`: the paths that
+/// are selected, a line each. Blanks separate tags, and line feeds candidates. A line of the tree is
+/// `MODE PATH BYTES`, with the mode `-` or `x`.
 pub(crate) fn selected(alloc: Global, arguments: &[Vec<u8>]) -> Result<Answer, Stop> {
     let [rules @ .., paths, tree] = arguments else {
         return Err(Stop::BadLine);
@@ -61,8 +61,8 @@ fn selected_by(
     all_ways(alloc, &rules, paths, tree)
 }
 
-// What is selected, among all candidates and among those that pass first, by tags that are made and by tags that are kept of
-// the tree's files: all must be the same.
+// What is selected from all candidates and from those that pass first, by tags made for this and by tags kept
+// with the tree's files. All of these must be the same.
 fn all_ways(
     alloc: Global,
     rules: &Rules,

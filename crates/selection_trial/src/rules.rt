@@ -5,7 +5,7 @@ use path_select::{Pattern, PatternFault, Rules};
 use std::alloc::Global;
 use trial_rows::{Stop, text_of};
 
-/// The patterns of arguments.
+/// The patterns in arguments.
 pub(crate) fn patterns_of(alloc: Global, arguments: &[Vec<u8>]) -> Result<Vec<Pattern>, Stop> {
     let mut patterns = Vec::new(alloc);
     for argument in arguments {
@@ -14,7 +14,7 @@ pub(crate) fn patterns_of(alloc: Global, arguments: &[Vec<u8>]) -> Result<Vec<Pa
     Ok(patterns)
 }
 
-/// The pattern of an argument.
+/// The pattern in an argument.
 pub(crate) fn pattern_of(alloc: Global, argument: &[u8]) -> Result<Pattern, Stop> {
     match Pattern::build(alloc, text_of(argument)?) {
         Ok(pattern) => Ok(pattern),
@@ -23,7 +23,7 @@ pub(crate) fn pattern_of(alloc: Global, argument: &[u8]) -> Result<Pattern, Stop
     }
 }
 
-/// The lists of tags of arguments.
+/// The lists of tags in arguments.
 pub(crate) fn tag_lists_of(alloc: Global, arguments: &[Vec<u8>]) -> Result<Vec<Vec<Text>>, Stop> {
     let mut lists = Vec::new(alloc);
     for argument in arguments {
@@ -32,7 +32,7 @@ pub(crate) fn tag_lists_of(alloc: Global, arguments: &[Vec<u8>]) -> Result<Vec<V
     Ok(lists)
 }
 
-// The tags of a text, parted by blanks.
+// The tags in a text, separated by blanks.
 fn tags_of(alloc: Global, text: &str) -> Result<Vec<Text>, Stop> {
     let mut tags = Vec::new(alloc);
     for word in text.split_whitespace() {
@@ -41,7 +41,7 @@ fn tags_of(alloc: Global, text: &str) -> Result<Vec<Text>, Stop> {
     Ok(tags)
 }
 
-/// The rules of four patterns and three lists of tags, in the order of the fields.
+/// The rules with four patterns and three lists of tags, in the order of the fields.
 pub(crate) fn rules_of<'a>(
     patterns: &'a [Pattern],
     lists: &'a [Vec<Text>],

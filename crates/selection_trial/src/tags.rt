@@ -22,7 +22,7 @@ fn entry_of(alloc: Global, mode: &[u8], bytes: &[u8]) -> Result<FileEntry, Stop>
     Ok(FileEntry { mode, bytes })
 }
 
-// Those of the asked tags that are among the tags, a line each.
+// Adds those of the asked tags that are among the tags, a line each.
 fn lines_among(alloc: Global, tags: &Tags, asked: &[Vec<u8>]) -> Result<Answer, Stop> {
     let mut answer = Answer::new(alloc);
     for tag in asked {

@@ -1,4 +1,5 @@
--- The refusals: the number and the printed name of each, which one an error of the database is, and in which cases each comes.
+-- The refusals (docs/REFERENCE.md, "The store"): the number and the printed name of each, which one an error
+-- of the database is, and in which cases each comes.
 use Rattle.std.specs.Prelude.{ℕ, List, codes}
 use Rattle.sqlite.specs.declared.error.Error.{Error}
 use Rattle.sqlite.specs.declared.error.Error.TheVariants.{SqliteFailure}
@@ -26,18 +27,19 @@ name_of Collision = codes "Collision"
 name_of TooLarge = codes "TooLarge"
 name_of TooMany = codes "TooMany"
 
--- the refusal that an error of the database is: want of memory is its own, and every other error is handed on
+-- the refusal for an error of the database: lack of memory is a case of its own, every other error is passed
+-- on
 abbrev pub fault_of : Error → StoreFault
 fault_of (SqliteFailure code.OutOfMemory) = OutOfMemory
 fault_of error = Sql error
 
--- the refusal of a record that isn't made
+-- the refusal of a record that can't be made
 abbrev pub record_fault : RecordFault → StoreFault
 record_fault refused.TooLarge = TooLarge
 record_fault refused.OutOfMemory = OutOfMemory
 
--- A refusal that comes only where contents are too large, something is too many or contents collide, or where memory or
--- the database refuses.
+-- A refusal that comes only if contents are too large, something is too many or contents collide, or if
+-- memory or the database refuses.
 abbrev pub IsRefusal : Type 0 → Type 0 → Type 0 → StoreFault → Type 0
 IsRefusal large many collides NotAStore = ⊥
 IsRefusal large many collides Damaged = ⊥
@@ -47,7 +49,7 @@ IsRefusal large many collides Collision = collides
 IsRefusal large many collides TooLarge = large
 IsRefusal large many collides TooMany = many
 
--- A refusal of stored rows that comes only where they break a rule, or where memory or the database refuses.
+-- A refusal of stored rows that comes only if they break a rule, or if memory or the database refuses.
 abbrev pub IsDamage : Type 0 → StoreFault → Type 0
 IsDamage broken NotAStore = ⊥
 IsDamage broken Damaged = broken

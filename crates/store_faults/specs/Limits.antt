@@ -1,4 +1,4 @@
--- How much a store takes.
+-- How much a store takes (docs/REFERENCE.md, "Limits").
 use Rattle.std.specs.Prelude.{ℕ, ◌≤◌, List, length, sum_by}
 use Rattle.hook_base.specs.Limits.{most_file_bytes}
 use Rattle.hook_base.specs.declared.file.File.{File}
@@ -18,32 +18,32 @@ most_tree_path_bytes = 8388608
 abbrev pub most_content_bytes : ℕ
 most_content_bytes = most_file_bytes
 
--- the most that the exit code of a child is
+-- the greatest exit code of a child
 abbrev pub most_status : ℕ
 most_status = 255
 
--- the most answers that a store may be told to remember
+-- the highest limit on cached answers
 abbrev pub most_answers : ℕ
 most_answers = 100000
 
--- a store may be told to remember so many answers
+-- the limit on cached answers is one that a store accepts
 pub record IsLimit (limit : ℕ) : Type 0 where
   pub at_least : 1 ≤ limit
   pub at_most : limit ≤ most_answers
 
--- how many answers a new store remembers
+-- the limit on cached answers of a new store
 abbrev pub first_limit : ℕ
 first_limit = 10000
 
--- the bytes of the paths together
+-- the bytes of all paths together
 abbrev pub path_bytes : List File → ℕ
 path_bytes files = sum_by (λ (file : File). length file.path) files
 
--- the files may be a staged tree
+-- the files can be a staged tree
 pub record Fits (files : List File) : Type 0 where
   pub files_fit : length files ≤ most_files
   pub paths_fit : path_bytes files ≤ most_tree_path_bytes
 
--- the bytes may be contents, and the message of a commit
+-- the bytes can be a file's contents, and the message of a commit
 abbrev pub IsSmall : List ℕ → Type 0
 IsSmall bytes = length bytes ≤ most_content_bytes

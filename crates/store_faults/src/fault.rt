@@ -1,4 +1,4 @@
-//! The refusals of the calls on a store.
+//! The refusals of the calls on a store, with the numbers and names of docs/REFERENCE.md, "The store".
 
 use answer_records::RecordFault;
 use hook_base::OutOfMemory;
@@ -6,18 +6,19 @@ use sqlite::ErrorCode;
 use std::alloc::{AllocError, AllocFailed};
 use thiserror::Error;
 
-/// Why a call on a store is refused. What the store shows is as before the call, and so are the tables while the connection
-/// is open. Where a fault of the disk has shut it, and after a crash, the file holds what stood before or all of the change.
+/// Why a call on a store is refused. What the store shows is as it was before the call. So are the tables, as
+/// long as the connection is open. After a crash, and when a fault of the disk has shut the connection, the
+/// file holds the state before the call or all of its change.
 #[derive(Clone, Copy, Debug, PartialEq, Eq, Error)]
 pub enum StoreFault {
-    /// The database that is opened has no store in it, or one of a version that isn't known.
+    /// The opened database holds no store, or one of an unknown version.
     #[error("the database holds no store of a version that is known")]
     NotAStore,
-    /// The tables of the database that is opened hold what no store holds.
+    /// The tables of the opened database break a rule of a store.
     #[error("the store is damaged")]
     Damaged,
-    /// The database refused, for another reason than want of memory; no contract says when. Or a store is made where
-    /// there are tables, indexes or views already: then it is SQL's `NameTaken`.
+    /// The database refused, for another reason than lack of memory; no contract says when. It is the error
+    /// code `NameTaken` if a store is made in a database that has tables, indexes or views already.
     #[error("{0}")]
     Sql(sqlite::Error),
     /// Memory was refused.
@@ -26,10 +27,11 @@ pub enum StoreFault {
     /// Other bytes are kept under the same digest.
     #[error("other contents have the same digest")]
     Collision,
-    /// Contents, a message or a record of an answer of more than 16 MiB.
+    /// Contents, a message or a record of a cached answer have more than 16 MiB.
     #[error("contents, a message or a record of more than 16 MiB")]
     TooLarge,
-    /// More than 100,000 commits, or a staged tree of more than 100,000 files or 8 MiB of paths.
+    /// There would be more than 100,000 commits, or a staged tree of more than 100,000 files or 8 MiB of
+    /// paths.
     #[error("more commits, staged files or paths than a store takes")]
     TooMany,
 }
@@ -75,7 +77,7 @@ impl From<sqlite::Error> for StoreFault {
 
     ghost from_gives = { λ error fault. fault ≡ fault_of error };
 
-    /// Want of memory is `OutOfMemory`, and every other error of the database is `Sql`.
+    /// Lack of memory becomes `OutOfMemory`, and every other error of the database becomes `Sql`.
     fn from(error: sqlite::Error) -> StoreFault {
         fault_of(error)
     }
@@ -98,7 +100,7 @@ impl From<RecordFault> for StoreFault {
 
     ghost from_gives = { λ refused fault. fault ≡ record_fault refused };
 
-    /// A record over its limit is `TooLarge`, and want of memory is `OutOfMemory`.
+    /// A record over its limit becomes `TooLarge`, and lack of memory becomes `OutOfMemory`.
     fn from(refused: RecordFault) -> StoreFault {
         match refused {
             RecordFault::TooLarge => StoreFault::TooLarge,
@@ -133,7 +135,7 @@ ghost use Rattle.std.specs.Prelude.{◌≡◌};
 ghost use Rattle.store_faults.specs.Faults.{IsRefusal};
 ghost use Rattle.store_faults.specs.Faults as spec;
 
-/// The refusal that an error of the database is: want of memory is `OutOfMemory`, and every other error is `Sql`.
+/// The refusal for an error of the database: lack of memory becomes `OutOfMemory`, every other error `Sql`.
 pub fn fault_of(error: sqlite::Error) -> StoreFault
     ensures exact { result ≡ spec.fault_of error }
     ensures why { IsRefusal ⊥ ⊥ ⊥ result }

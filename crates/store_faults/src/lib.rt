@@ -1,7 +1,8 @@
 //! Why a store refuses a call, and how much it takes.
 //!
-//! `StoreFault` says why a call is refused, and the constants are the limits. The contracts cite `specs/Faults` and
-//! `specs/Limits`; [`laws`] says that the limits of the code are those of the definitions.
+//! `StoreFault` says why a call is refused, and the constants are the limits. The contracts cite
+//! `specs/Faults` and `specs/Limits`; [`laws`] proves that the limits of the code are those of the
+//! definitions.
 #![tactic(auto)]
 
 mod fault;

@@ -1,4 +1,5 @@
-//! How much a store takes. `specs/Limits` has the same limits for the contracts; [`crate::laws`] says that they are the same.
+//! How much a store takes (docs/REFERENCE.md, "Limits"). `specs/Limits` has the same limits for the
+//! contracts, and [`crate::laws`] proves that they agree.
 
 use hook_base::MOST_FILE_BYTES;
 
@@ -14,8 +15,8 @@ pub const MOST_TREE_PATH_BYTES: usize = 8_388_608;
 /// The most commits.
 pub const MOST_COMMITS: usize = 100_000;
 
-/// The most answers that a store may be told to remember.
+/// The highest limit on cached answers that a store accepts.
 pub const MOST_ANSWERS: u32 = 100_000;
 
-/// How many answers a new store remembers.
+/// The limit on cached answers of a new store.
 pub const FIRST_LIMIT: u32 = 10_000;

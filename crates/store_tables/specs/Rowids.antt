@@ -1,4 +1,4 @@
--- Serves private functions only, those of the module `rowids`: numbers of which none comes twice.
+-- For private functions of the module `rowids`: numbers of which none comes twice.
 use Rattle.std.specs.Prelude.{◌≡◌, ◌≢◌, ℤ, List, map, Option, None, Some}
 use Rattle.std.specs.Ordering.{int_cmp}
 use Rattle.std.specs.declared.cmp.Ordering.TheVariants.{Less}
@@ -6,18 +6,18 @@ use Rattle.sqlite_trees.specs.Tree.{IsAscending}
 use Rattle.sqlite_value.specs.declared.value.Value.TheVariants.{Int}
 use Rattle.sqlite_value.specs.Order.{Row, column}
 
--- each number is below each later one
+-- each number is less than every later one
 abbrev pub IsRising : List ℤ → Type 0
 IsRising = IsAscending (λ a b. int_cmp a b ≡ Less)
 
 abbrev pub AreDistinct : List ℤ → Type 0
 AreDistinct = IsAscending (λ a b. a ≢ b)
 
--- the last number, if there is one, is below the next
+-- the last number, if there is one, is less than the next
 abbrev pub IsBelow : Option ℤ → ℤ → Type 0
 IsBelow None next = Unit {0}
 IsBelow (Some last) next = int_cmp last next ≡ Less
 
--- each row shows a number first, and no two show the same
+-- each row has a number in its first column, and no two have the same
 abbrev pub ShowRowids : List Row → Type 0
 ShowRowids rows = (rowids : List ℤ) × (map Int rowids ≡ map (λ row. column row 0) rows) × AreDistinct rowids

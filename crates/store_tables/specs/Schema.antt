@@ -1,5 +1,6 @@
--- The seven tables of a store, as SQLite's schema of them. STRICT makes each column of a PRIMARY KEY NOT NULL, also where
--- the statement doesn't say so, but for the one that is the rowid.
+-- The seven tables of version 1 of a store, as SQLite's schema of them (docs/REFERENCE.md, "The store").
+-- STRICT makes each column of a PRIMARY KEY NOT NULL, even if the statement doesn't say so, except the one
+-- that is the rowid (SQLite's "STRICT Tables").
 use Rattle.std.specs.Prelude.{◌≡◌, true, false, Bool, List, [], ◌∷◌, ◌++◌, ◌+◌, ℕ, map, Option, Some, None, codes}
 use Rattle.std.specs.List.{AllByRecursion}
 use Rattle.sqlite_value.specs.declared.value.Value.TheVariants.{Null}
@@ -19,12 +20,13 @@ abbrev pub column_of : List ℕ → Kind → Bool → Column
 column_of name kind not_null =
     record { name = name; kind = kind; is_strict = true; not_null = not_null; default = Null; collation = Binary }
 
--- a reference to the primary key of another table, which refuses to be broken
+-- a reference to the primary key of another table, checked at once and without actions
 abbrev pub refers_to : ℕ → List ℕ → Reference
 refers_to place parent =
     record { columns = place ∷ []; parent = parent; parent_columns = []; on_delete = NoAction; on_update = NoAction; is_deferred = false }
 
--- A table by its name, its tree, its columns, the places of its PRIMARY KEY, the keys that have an index, and its references.
+-- A table by its name, its b-tree, its columns, the places of its PRIMARY KEY, the keys that have an index,
+-- and its references.
 abbrev pub table_of : List ℕ → ℕ → List Column → Option ℕ → List ℕ → List (List ℕ) → List Reference → Table
 table_of name tree columns key primary uniques references = record {
   name = name;
@@ -73,7 +75,7 @@ answers =
     ∷ column_of (codes "status") Integer true ∷ []) None (1 ∷ 2 ∷ [])
     ((1 ∷ 2 ∷ []) ∷ []) (refers_to 1 (codes "blobs") ∷ refers_to 2 (codes "blobs") ∷ refers_to 3 (codes "blobs") ∷ refers_to 4 (codes "blobs") ∷ [])
 
--- the index that SQLite makes for a PRIMARY KEY that is not the rowid
+-- the index that SQLite makes for a PRIMARY KEY that isn't the rowid (SQLite's file format, section 2.6)
 abbrev pub key_index : List ℕ → ℕ → List ℕ → Index
 key_index name table columns =
     record { name = codes "sqlite_autoindex_" ++ (name ++ codes "_1"); tree = table + 1; table = table; columns = columns; order = plain; is_unique = true }
@@ -89,9 +91,9 @@ store_schema = record {
   views = [];
 }
 
--- ---- a store with more tables, as a later version of it has them
+-- ---- a store with more tables, as a later version has them
 
--- no reference acts where a row of its parent is deleted
+-- no reference acts when a row of its parent is deleted
 abbrev pub NoneActs : List Table → Type 0
 NoneActs = AllByRecursion (λ t. AllByRecursion (λ (ref : Reference). ref.on_delete ≡ NoAction) t.references)
 
@@ -115,6 +117,7 @@ uses =
     ((3 ∷ []) ∷ (1 ∷ 2 ∷ []) ∷ []) []
 
 -- the indexes that SQLite makes for its UNIQUE column and for its PRIMARY KEY, in the order of the statement
+-- (SQLite's file format, section 2.6)
 abbrev pub uses_indexes : List Index
 uses_indexes =
     record { name = codes "sqlite_autoindex_uses_1"; tree = 14; table = 13; columns = 3 ∷ []; order = plain; is_unique = true }
@@ -124,6 +127,6 @@ uses_indexes =
 abbrev pub uses_then : MoreTables → MoreTables
 uses_then more = record { tables = uses ∷ more.tables; indexes = uses_indexes ++ more.indexes; rests = (tt, more.rests) }
 
--- version 2 of a store
+-- the schema of version 2 of a store
 abbrev pub schema_with_uses : Schema
 schema_with_uses = store_with (uses_then no_more)

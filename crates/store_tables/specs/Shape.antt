@@ -1,9 +1,9 @@
--- Serves private functions only, those of the module `schema`: parts of what a table of a store is.
+-- For private functions of the module `schema`: parts of what a table of a store is.
 use Rattle.std.specs.Prelude.{◌≡◌, ℕ, false, List, [], map, Option}
 use Rattle.sqlite_value.specs.Keys.{plain}
 use Rattle.sqlite_schema.specs.declared.schema.Table.{Table}
 
--- the table has this name and tree, and no rules but those of its columns, its keys and its references
+-- the table has this name and b-tree, and no rules except those of its columns, its keys and its references
 pub record IsPlain (table : Table) (name : List ℕ) (tree : ℕ) : Type 0 where
   pub name_is : table.name ≡ name
   pub tree_is : table.tree ≡ tree

@@ -1,4 +1,4 @@
--- What the trees of a database hold, table by table.
+-- What the b-trees of a database hold, table by table.
 use Rattle.std.specs.Prelude.{◌≡◌, ◌≢◌, ◌<◌, ℕ, Bool, true, false, not, ◌&&◌, List, [], ◌∷◌, map, filter, take, pos, Option, None, Some, IsPermutation}
 use Rattle.std.specs.Borrow.{Bor}
 use Rattle.std.specs.Ordering.{is_eq}
@@ -46,7 +46,7 @@ answer_cells row = Blob row.words ∷ Blob row.seen ∷ Blob row.output ∷ Blob
 
 -- ---- the tables
 
--- The rows of each table. Their order says nothing.
+-- The rows of each table, in no particular order.
 pub record Tables : Type 0 where
   pub meta : List MetaRow
   pub blobs : List BlobRow
@@ -59,7 +59,7 @@ pub record Tables : Type 0 where
 abbrev pub no_rows : Tables
 no_rows = record { meta = []; blobs = []; staged = []; fixes = []; commits = []; entries = []; answers = [] }
 
--- the columns at these places of each row show these rows, in some order
+-- the columns at these places of all rows are these rows, in some order
 abbrev pub Stored : {X : Type 0} → (X → Row) → List ℕ → List X → List Row → Type 0
 Stored cells places xs rows = IsPermutation (map cells xs) (map (λ r. map (column r) places) rows)
 
@@ -70,13 +70,13 @@ have_one_rowid a b = is_eq (value_cmp (rowid a) (rowid b))
 abbrev pub AreApart : List Row → Type 0
 AreApart = IsAscending (λ a b. have_one_rowid a b ≡ false)
 
--- Each row has a rowid of its own, by which it can be taken out.
+-- Each row has a rowid of its own, by which it can be removed.
 pub record AreKeyed (rows : List Row) : Type 0 where
   pub numbered : have_rowids rows ≡ true
   pub apart : AreApart rows
 
--- The database has the tables that are listed, obeys their rules, and has these rows in those of a store. A later version
--- of a store lists more of them.
+-- The database has the listed tables, obeys their rules, and has these rows in the tables of a store. A later
+-- version of a store lists more tables.
 pub record HoldsIn (listed : Schema) (db : Database) (t : Tables) : Type 0 where
   pub schema : db.schema ≡ listed
   pub sound : IsDatabase db
@@ -91,22 +91,22 @@ pub record HoldsIn (listed : Schema) (db : Database) (t : Tables) : Type 0 where
   pub answers : Stored answer_cells (1 ∷ 2 ∷ 3 ∷ 4 ∷ 5 ∷ []) t.answers (db.trees 11)
   pub answers_keyed : AreKeyed (db.trees 11)
 
--- the database has the tables of a store and no others, obeys their rules, and has these rows in them
+-- the database has exactly the tables of a store, obeys their rules, and has these rows in them
 abbrev pub Holds : Database → Tables → Type 0
 Holds = HoldsIn store_schema
 
--- the database of these trees, where they list the tables of a store
+-- the database of these trees, if they list the tables of a store
 abbrev pub with_schema : Trees → Database
 with_schema trees = record { schema = store_schema; trees = trees }
 
 -- ---- what a statement leaves as it was
 
--- the trees of all tables that are listed, but for that of one of them, are as they were
+-- the trees of all listed tables except one are as they were
 abbrev pub KeepsOthers : Schema → ℕ → Trees → Trees → Type 0
 KeepsOthers listed own old new = AllByRecursion (λ t. t.tree ≢ own → new t.tree ≡ old t.tree) listed.tables
 
--- Of the tables that are listed only this one changes: the same are listed, and all others have the rows that they had.
--- Where each of its own rows had a rowid of its own, each still has.
+-- Of the listed tables only this one changes: the same are listed, and all others have the rows that they
+-- had. If each of its own rows had a rowid of its own, each still has.
 pub record ChangesOnly (own : Table) (listed : Schema) (old new : Database) : Type 0 where
   pub schema : new.schema ≡ listed
   pub others : KeepsOthers listed own.tree old.trees new.trees
@@ -116,8 +116,8 @@ pub record ChangesOnly (own : Table) (listed : Schema) (old new : Database) : Ty
 abbrev pub greatest_tree : ℕ
 greatest_tree = 12
 
--- The same tables are listed, and the trees of those behind the tables of a store are as they were. Where each row of `meta` had a
--- rowid of its own, each still has.
+-- The same tables are listed, and the trees after those of the tables of a store are as they were. If each
+-- row of `meta` had a rowid of its own, each still has.
 pub record KeepsMore (listed : Schema) (old new : Database) : Type 0 where
   pub schema : new.schema ≡ listed
   pub trees : AllByRecursion (λ t. greatest_tree < t.tree → new.trees t.tree ≡ old.trees t.tree) listed.tables
@@ -128,7 +128,7 @@ ChangesNothing listed old new = new ≡ old
 
 -- ---- what the statements make of the tables
 
--- It makes this of the tables of a store, where each row of the one that it changes has a rowid of its own.
+-- It makes this of the tables of a store, if each row of the one that it changes has a rowid of its own.
 abbrev pub MakesIfKeyed : Table → (Tables → Tables) → Schema → Database → Database → Type 0
 MakesIfKeyed own makes listed old new = (t : Tables) → HoldsIn listed old t → AreKeyed (old.trees own.tree) → HoldsIn listed new (makes t)
 
@@ -154,7 +154,7 @@ without_staged path t = record t { staged = filter (λ row. not (bytes_eq row.pa
 abbrev pub without_all_staged : Tables → Tables
 without_all_staged t = record t { staged = [] }
 
--- the fix of a path: the digest of its new contents, or none where the file is gone
+-- the fix of a path: the digest of its new contents, or none if the file is gone
 abbrev pub fix_row : List ℕ → Option (Bor (List ℕ)) → FixRow
 fix_row path None = record { path = path; gone = pos 1; digest = None }
 fix_row path (Some digest) = record { path = path; gone = pos 0; digest = Some digest.now }
@@ -174,7 +174,7 @@ with_entry row t = record t { entries = row ∷ t.entries }
 abbrev pub with_answer : AnswerRow → Tables → Tables
 with_answer row t = record t { answers = row ∷ t.answers }
 
--- an answer's key is the words of its command and the files that it saw
+-- an answer's key is the words of its command and the files that its child saw, by their digests
 abbrev pub without_answer : List ℕ → List ℕ → Tables → Tables
 without_answer words seen t = record t { answers = filter (λ row. not (bytes_eq row.words words && bytes_eq row.seen seen)) t.answers }
 
@@ -191,6 +191,6 @@ pub record IsBare (schema : Schema) (db : Database) : Type 0 where
 abbrev pub first_tables : ℕ → ℕ → Schema
 first_tables tables indexes = record { tables = take tables store_schema.tables; indexes = take indexes store_schema.indexes; views = [] }
 
--- the tables of a store and no others, in which nothing stands
+-- exactly the tables of a store, without any rows
 abbrev pub IsEmptyStore : Database → Type 0
 IsEmptyStore db = IsBare store_schema db × Holds db no_rows

@@ -1,5 +1,6 @@
--- The table that version 2 of a store has behind the seven: how lately each remembered answer was used. Its statements
--- keep the rows of all other tables, of those too that a later version lists after it.
+-- The table of version 2 of a store that is listed after the seven of version 1: how lately each cached
+-- answer was used. Its statements keep the rows of all other tables, also of those that a later version lists
+-- after it.
 use Rattle.std.specs.Prelude.{◌≡◌, ℕ, List, [], ◌∷◌, filter, not, ◌&&◌, Result, IfOk, IsTrue}
 use Rattle.std.specs.List.{AllByRecursion}
 use Rattle.std.specs.Str.{bytes_eq}
@@ -20,7 +21,7 @@ use Rattle.store_tables.specs.Tables.{Tables, AreKeyed, ChangesOnly, HoldsIn, St
 abbrev pub use_cells : UseRow → Row
 use_cells row = Blob row.words ∷ Blob row.seen ∷ Int row.tick ∷ []
 
--- These rows stand in the table, in an order that says nothing, and each has a rowid of its own.
+-- The table has these rows, in no particular order, and each has a rowid of its own.
 pub record HoldsUses (trees : Trees) (rows : List UseRow) : Type 0 where
   pub stored : Stored use_cells (1 ∷ 2 ∷ 3 ∷ []) rows (trees 13)
   pub keyed : AreKeyed (trees 13)
@@ -29,7 +30,7 @@ pub record HoldsUses (trees : Trees) (rows : List UseRow) : Type 0 where
 abbrev pub ListsUses : Schema → Type 0
 ListsUses listed = (more : MoreTables) × (listed ≡ store_with (uses_then more))
 
--- the database has the tables of version 2 and no others, obeys their rules, and has these rows in them
+-- the database has exactly the tables of version 2, obeys their rules, and has these rows in them
 abbrev pub HoldsWithUses : Database → Tables → List UseRow → Type 0
 HoldsWithUses db t rows = HoldsIn schema_with_uses db t × HoldsUses db.trees rows
 
@@ -37,7 +38,7 @@ HoldsWithUses db t rows = HoldsIn schema_with_uses db t × HoldsUses db.trees ro
 abbrev pub HoldsRows : Database → Tables → List UseRow → Type 0
 HoldsRows db t rows = HoldsWithUses db t rows × AreKeyed (db.trees 0)
 
--- the database of these trees, where they list the tables of version 2
+-- the database of these trees, if they list the tables of version 2
 abbrev pub as_store : Trees → Database
 as_store trees = record { schema = schema_with_uses; trees = trees }
 
@@ -48,23 +49,24 @@ abbrev pub MakesUses : (List UseRow → List UseRow) → Schema → Database →
 MakesUses makes listed old new =
     ListsUses listed → (t : Tables) (rows : List UseRow) → HoldsIn listed old t → HoldsUses old.trees rows → HoldsIn listed new t × HoldsUses new.trees (makes rows)
 
--- Of the tables that are listed only this one changes.
+-- Of the listed tables only this one changes.
 abbrev pub ChangesUses : Schema → Database → Database → Type 0
 ChangesUses listed old new = ListsUses listed → ChangesOnly uses listed old new
 
 abbrev pub with_use : UseRow → List UseRow → List UseRow
 with_use row rows = row ∷ rows
 
--- a use has the key of its answer: the words of its command and the files that it saw
+-- a use has the key of its answer: the words of its command and the files that its child saw, by their
+-- digests
 abbrev pub without_use : List ℕ → List ℕ → List UseRow → List UseRow
 without_use words seen rows = filter (λ row. not (bytes_eq row.words words && bytes_eq row.seen seen)) rows
 
 abbrev pub without_uses : List UseRow → List UseRow
 without_uses rows = []
 
--- ---- the table made, behind those of version 1 and their rows
+-- ---- the table made after those of version 1
 
--- No use stands in it, and the seven keep their rows.
+-- It has no rows, and the seven keep theirs.
 abbrev pub MakesBareUses : Schema → Database → Database → Type 0
 MakesBareUses listed old new = listed ≡ store_schema → (t : Tables) → HoldsIn store_schema old t → HoldsIn schema_with_uses new t × HoldsUses new.trees []
 

@@ -1,4 +1,4 @@
-//! One column of a row that a query shows, as the type that its table has there.
+//! One column of a query's row, read as the type that its table gives it.
 
 ghost use Rattle.std.specs.Prelude.{◌≡◌, ◌≤◌, length, map, drop, IfOk, OnOk};
 ghost use Rattle.sqlite_value.specs.declared.value.Value.TheVariants.{Int, Text, Blob};
@@ -10,7 +10,7 @@ use sqlite::types::{Type, ValueRef};
 use sqlite::{Error, Row};
 use std::alloc::Global;
 
-/// What a row of an answer shows from a column on.
+/// What a row of a query's result holds from a given column on.
 pub(crate) trait FromColumns: Drop {
     ghost use Rattle.sqlite_value.specs.Order.{Row as SqlRow};
 
@@ -37,7 +37,7 @@ pub(crate) fn number_at(row: &Row, at: usize) -> Result<i64, Error>
     row.get(at)
 }
 
-/// The bytes of a text, whether or not they are UTF-8.
+/// The bytes of a text, whether or not they are valid UTF-8.
 pub(crate) fn text_at(alloc: Global, row: &Row, at: usize) -> Result<Bytes, Error>
     ensures { IfOk result (λ text. column row.now at ≡ Text text) }
 {
@@ -66,8 +66,8 @@ pub(crate) fn blob_if_any(alloc: Global, row: &Row, at: usize) -> Result<Option<
     }
 }
 
-/// Each row of an answer, from a column on. A row is let go as soon as it is decoded, so that its contents stand in
-/// memory once.
+/// Decodes each row of a query's result from a given column on. A row is freed as soon as it is decoded, so
+/// that no more than one row's contents are in memory twice.
 pub(crate) fn decoded<T: FromColumns>(
     alloc: Global,
     rows: Vec<Row>,

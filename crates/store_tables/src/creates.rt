@@ -1,4 +1,5 @@
-//! One statement for each table, and all of them in the order in which the tables refer to one another.
+//! The statements that make the seven tables of version 1, each after those that it refers to
+//! (docs/REFERENCE.md, "The store").
 
 ghost use Rattle.std.specs.Prelude.{◌≡◌};
 ghost use Rattle.store_tables.specs.Schema.{no_schema};
@@ -84,7 +85,7 @@ fn make_answers<S: Alter>(tx: &mut Transaction<'_, S>) -> Result<(), Error>
     Ok(())
 }
 
-/// Makes the seven tables of a store in a database that has none.
+/// Makes the seven tables of version 1 in a database without tables, indexes and views.
 pub fn make_tables<S: Alter>(tx: &mut Transaction<'_, S>) -> Result<(), Error>
     ensures same_reference { tx.new.conn.ghost_name ≡ tx.old.conn.ghost_name }
     ensures made { IsMade S.Store tx.old.conn.now tx.new.conn.now result (IsBare no_schema) IsEmptyStore }

@@ -1,4 +1,4 @@
-//! Each row of a table from the columns that a query shows of it.
+//! Each row of a table, decoded from the columns of a query's row.
 
 use crate::columns::{FromColumns, blob_at, blob_if_any, has_columns, number_at, text_at};
 use crate::rows::{AnswerRow, BlobRow, CommitRow, EntryRow, FixRow, MetaRow, StagedRow, UseRow};

@@ -1,8 +1,13 @@
-//! The tables of a store, and each statement on them: `make_tables`, the functions that put rows in and take them out
-//! inside a transaction, and those that read a table back. Contracts cite `specs/Schema` (the tables as SQL has them),
-//! `specs/Tables` (the rows that a database holds, as lists) and `specs/Steps` (what a statement in a transaction
-//! leaves, also after a crash). The table of uses, which version 2 of a store has too, has its statements in `uses` and
-//! its definitions in `specs/Uses`. `specs/Rowids` and `specs/Shape` serve private functions only.
+//! The tables of a store (docs/REFERENCE.md, "The store"), and every statement on them. `make_tables` makes
+//! them; the other functions put rows in and take them out inside a transaction, or read a table back.
+//!
+//! Contracts cite these definitions:
+//! - `specs/Schema`: the tables as SQL has them;
+//! - `specs/Tables`: the rows that a database holds, as lists;
+//! - `specs/Steps`: what a statement in a transaction leaves, also after a crash;
+//! - `specs/Uses`: the table of uses, which only version 2 of a store has, with its statements in `uses`.
+//!
+//! `specs/Rowids` and `specs/Shape` serve private functions only.
 #![tactic(auto)]
 
 mod columns;

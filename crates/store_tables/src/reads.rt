@@ -1,7 +1,9 @@
-//! One query for each table. A contract says which rows are answered; that they come in the order that is asked for is
-//! shown by a test. An error is the database's own or want of memory, or where it says so `InvalidQuery`; nothing is
-//! changed. `NoRowid` comes where a row of any table but `commits`, whose rowids are its numbers, has the greatest rowid
-//! that there is: no row could be put in after it.
+//! One query for each table. A contract says which rows are returned; a test shows that they come in the
+//! requested order. An error is the database's own or lack of memory, or `InvalidQuery` where a function says
+//! so; nothing is changed.
+//!
+//! `NoRowid` comes if a row has the greatest rowid, since no row could be added after it. This isn't tested
+//! for `commits`, whose rowids are its numbers.
 
 ghost use Rattle.std.specs.Prelude.{◌≡◌, [], ◌∷◌, true};
 ghost use Rattle.sqlite_rules.specs.Edit.{have_rowids};
@@ -14,8 +16,8 @@ use crate::rows::{AnswerRow, BlobRow, CommitRow, EntryRow, FixRow, MetaRow, Stag
 use sqlite::{Alter, Error, Transaction};
 use std::alloc::Global;
 
-/// Every number that the store keeps about itself, asked for in the order of their names. `InvalidQuery` comes where
-/// two rows show one rowid, which a table excludes.
+/// All numbers that the store keeps about itself, in the order of their names. `InvalidQuery` comes if two
+/// rows have the same rowid, which a table excludes.
 pub fn read_meta<S: Alter>(
     alloc: Global,
     tx: &mut Transaction<'_, S>,
@@ -28,7 +30,7 @@ pub fn read_meta<S: Alter>(
     decoded_apart(alloc, shown)
 }
 
-/// All contents, asked for in the order of their digests.
+/// All blobs, in the order of their digests.
 pub fn read_blobs<S: Alter>(
     alloc: Global,
     tx: &mut Transaction<'_, S>,
@@ -44,7 +46,7 @@ pub fn read_blobs<S: Alter>(
     decoded(alloc, shown, 1)
 }
 
-/// All commits, asked for in the order of their numbers.
+/// All commits, in the order of their numbers.
 pub fn read_commits<S: Alter>(
     alloc: Global,
     tx: &mut Transaction<'_, S>,
@@ -56,7 +58,7 @@ pub fn read_commits<S: Alter>(
     decoded(alloc, shown, 0)
 }
 
-/// The files of all commits, asked for in the order of the commits' numbers and the paths.
+/// The files of all commits, in the order of the commits' numbers and then of the paths.
 pub fn read_entries<S: Alter>(
     alloc: Global,
     tx: &mut Transaction<'_, S>,
@@ -72,8 +74,8 @@ pub fn read_entries<S: Alter>(
     decoded(alloc, shown, 1)
 }
 
-/// The staged files, asked for in the order of their paths. `InvalidQuery` comes where two rows show one rowid, which a
-/// table excludes.
+/// The staged files, in the order of their paths. `InvalidQuery` comes if two rows have the same rowid, which
+/// a table excludes.
 pub fn read_staged<S: Alter>(
     alloc: Global,
     tx: &mut Transaction<'_, S>,
@@ -88,7 +90,7 @@ pub fn read_staged<S: Alter>(
     decoded_apart(alloc, shown)
 }
 
-/// The fixes, asked for in the order of their paths.
+/// The fixes, in the order of their paths.
 pub fn read_fixes<S: Alter>(
     alloc: Global,
     tx: &mut Transaction<'_, S>,
@@ -104,7 +106,7 @@ pub fn read_fixes<S: Alter>(
     decoded(alloc, shown, 1)
 }
 
-/// The remembered answers, asked for in the order of their keys. `InvalidQuery` comes where two rows show one rowid,
+/// The cached answers, in the order of their keys. `InvalidQuery` comes if two rows have the same rowid,
 /// which a table excludes.
 pub fn read_answers<S: Alter>(
     alloc: Global,

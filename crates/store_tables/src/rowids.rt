@@ -1,4 +1,4 @@
-//! The rowids that a query shows, whether each is another, and whether one is left for a row more.
+//! The rowids in the rows of a query: whether all are distinct, and whether one more row could be added.
 
 ghost use Rattle.std.specs.Prelude.{◌≡◌, drop, map, IfOk, IsTrue};
 ghost use Rattle.sqlite_value.specs.declared.value.Value.TheVariants.{Int};
@@ -9,8 +9,8 @@ use crate::columns::{FromColumns, decoded, number_at};
 use sqlite::{Error, ErrorCode, Row};
 use std::alloc::Global;
 
-/// The numbers that the rows show first. `NoRowid` comes where one of them is the greatest rowid: a new row is put in
-/// after all others, so none could be.
+/// The rowid in the first column of each row. `NoRowid` comes if one of them is the greatest rowid: a row is
+/// added after all others, so no further row could be.
 pub(crate) fn rowids_in(alloc: Global, rows: &[Row]) -> Result<Vec<i64>, Error>
     ensures { IfOk result (λ rowids. map Int rowids.items ≡ map (λ row. column row 0) rows.now) }
 {
@@ -47,7 +47,7 @@ fn rises(numbers: &[i64]) -> bool
     true
 }
 
-// Whether no number comes twice. It sorts them.
+// Whether no number comes twice. Sorts the numbers.
 fn are_apart(numbers: &mut Vec<i64>) -> bool
     ensures { IsTrue result → AreDistinct numbers.old.items }
 {
@@ -55,8 +55,8 @@ fn are_apart(numbers: &mut Vec<i64>) -> bool
     rises(numbers)
 }
 
-/// Each row of an answer that shows the rowids first, from the column after them on. `InvalidQuery` comes where two
-/// rows show one rowid, and `NoRowid` where one shows the greatest.
+/// Decodes each row of a query's result, whose first column is the rowid, from the second column on.
+/// `InvalidQuery` comes if two rows have the same rowid, and `NoRowid` if one has the greatest.
 pub(crate) fn decoded_apart<T: FromColumns>(alloc: Global, shown: Vec<Row>) -> Result<Vec<T>, Error>
     ensures rows { IfOk result (λ items. map T.cells items.items ≡ map (drop 1) shown.items) }
     ensures apart { IfOk result (λ items. ShowRowids shown.items) }

@@ -1,21 +1,21 @@
-//! The rows of the tables, as they are read. The ranges are those of a store that isn't damaged; a row that is read may be
-//! out of them.
+//! The rows of the tables as they are read (docs/REFERENCE.md, "The store"). The ranges given here hold in a
+//! store that isn't damaged; a row that is read may lie outside them.
 
 use owned_lists::Bytes;
 
-/// A number that the store keeps about itself, as the version of its tables.
+/// A number that the store keeps about itself, such as the version of its tables.
 #[derive(Debug, Drop)]
 pub struct MetaRow {
     /// In UTF-8: `version` or `limit`.
     pub name: Bytes,
-    /// The version, or how many answers are remembered at most.
+    /// The version, or how many answers are cached at most.
     pub value: i64,
 }
 
-/// Contents, under the digest of them.
+/// A blob: contents under their digest.
 #[derive(Debug, Drop)]
 pub struct BlobRow {
-    /// SHA-256 of the bytes, 32 bytes.
+    /// SHA-256 of the bytes (FIPS 180-4), 32 bytes.
     pub digest: Bytes,
     /// At most 16 MiB.
     pub bytes: Bytes,
@@ -37,7 +37,7 @@ pub struct StagedRow {
 pub struct FixRow {
     /// In UTF-8, at most 4,096 bytes.
     pub path: Bytes,
-    /// 1 where the file is gone, with no digest; else 0, with one.
+    /// 1 if the file is gone, without a digest; otherwise 0, with one.
     pub gone: i64,
     /// SHA-256 of the new contents, which `blobs` has.
     pub digest: Option<Bytes>,
@@ -65,27 +65,27 @@ pub struct EntryRow {
     pub digest: Bytes,
 }
 
-/// A remembered answer of a child. `blobs` has the contents of its four digests.
+/// A cached answer of a child. `blobs` has the contents of its four digests.
 #[derive(Debug, Drop)]
 pub struct AnswerRow {
-    /// The digest of the words of its command.
+    /// The digest of the record of its command's words.
     pub words: Bytes,
-    /// The digest of the files that it saw.
+    /// The digest of the record of the files that it saw.
     pub seen: Bytes,
-    /// The digest of what it wrote.
+    /// The digest of its output.
     pub output: Bytes,
-    /// The digest of what became of its files.
+    /// The digest of the record of its changes.
     pub changes: Bytes,
     /// Its exit code, from 0 to 255.
     pub status: i64,
 }
 
-/// How lately an answer was used: of two answers, the one with the greater tick the later.
+/// How lately an answer was used: of two answers, the one with the greater tick was used later.
 #[derive(Debug, Drop)]
 pub struct UseRow {
-    /// The digest of the words of its command.
+    /// The digest of the record of its command's words.
     pub words: Bytes,
-    /// The digest of the files that it saw.
+    /// The digest of the record of the files that it saw.
     pub seen: Bytes,
     /// From 1 to 4,611,686,018,427,387,904; no two are equal.
     pub tick: i64,

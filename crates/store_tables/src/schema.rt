@@ -1,5 +1,5 @@
-//! Whether a database has the tables of a store, of one version or the other, and no others: its schema is compared part
-//! by part.
+//! Whether a database has exactly the tables of a store, of version 1 or of version 2: its schema is compared
+//! part by part.
 
 ghost use Rattle.std.specs.Prelude.{◌≡◌, ◌↔◌, ◌+◌, ◌∷◌, [], ◌<◌, ◌^◌, None, Some, true, false, drop, IsTrue};
 ghost use Rattle.sqlite_value.specs.Keys.{plain};
@@ -16,7 +16,8 @@ use sqlite_schema::schema::{Action, Column, Index, Kind, Reference, Stamps, Tabl
 use sqlite_value::keys::{Collation, Order};
 use sqlite_value::value::Value;
 
-// Whether this is the column of these words in a STRICT table.
+// Whether this is the column of this name and type in a STRICT table, without a default and compared as
+// BINARY.
 fn is_column(column: &Column, name: &str, kind: Kind, not_null: bool) -> bool
     ensures { IsTrue result ↔ (column.now ≡ column_of name.now kind not_null) }
 {
@@ -28,7 +29,8 @@ fn is_column(column: &Column, name: &str, kind: Kind, not_null: bool) -> bool
         && column.collation == Collation::Binary
 }
 
-// Whether this refers to the primary key of a table, and refuses to be broken.
+// Whether this is a reference to a table's primary key, checked at once and without ON DELETE and ON UPDATE
+// actions. Its rules are those of SQLite's "SQLite Foreign Key Support", sections 4.2 and 4.3.
 fn is_reference(reference: &Reference, place: usize, parent: &str) -> bool
     ensures { IsTrue result ↔ (reference.now ≡ refers_to place parent.now) }
 {
@@ -52,7 +54,7 @@ fn has_no_stamps(stamps: &Stamps) -> bool
     stamps.places.is_empty() && has_no_terms(&stamps.terms) && stamps.formats.is_empty()
 }
 
-// Whether a table has this name and tree, and no rules but its columns, keys and references.
+// Whether a table has this name and b-tree, and no rules except its columns, keys and references.
 fn is_plain(table: &Table, name: &str, tree: u32) -> bool
     ensures { IsTrue result ↔ IsPlain table.now name.now tree }
 {
@@ -94,7 +96,7 @@ fn is_only_order(orders: &[Order]) -> bool
     }
 }
 
-// Whether the primary key of a table is these places, with an index of its own.
+// Whether these places are the primary key of a table, with an index of its own.
 fn has_index_key(table: &Table, places: &[usize]) -> bool
     ensures { IsTrue result ↔ IsKeyed table.now None places.now (places.now ∷ []) }
 {
@@ -104,7 +106,8 @@ fn has_index_key(table: &Table, places: &[usize]) -> bool
         && is_only_order(table.orders.as_slice())
 }
 
-// Whether the primary key of a table is its first column, which is the rowid.
+// Whether the primary key of a table is its first column, as the rowid (SQLite's "CREATE TABLE", "ROWIDs and
+// the INTEGER PRIMARY KEY").
 fn has_rowid_key(table: &Table) -> bool
     ensures { IsTrue result ↔ IsKeyed table.now (Some 0) (0 ∷ []) [] }
 {
@@ -206,7 +209,7 @@ fn is_entries(table: &Table) -> bool
     }
 }
 
-// Whether the first four columns of a table refer to contents.
+// Whether the first four columns of a table refer to `blobs`.
 fn are_four_digests(references: &[Reference]) -> bool
     ensures { IsTrue result ↔ (references.now ≡ spec.answers.references) }
 {
@@ -245,7 +248,7 @@ fn is_answers(table: &Table) -> bool
         && are_four_digests(table.references.as_slice())
 }
 
-// Whether this is the index of a primary key.
+// Whether this is the index that SQLite makes for a primary key (SQLite's file format, section 2.6).
 fn is_key_index(index: &Index, name: &str, table: u32, columns: &[usize]) -> bool
     requires { table < 2 ^ 31 }
     ensures { IsTrue result ↔ (index.now ≡ record { name = name.now; tree = table + 1; table = table; columns = columns.now; order = plain; is_unique = true }) }
@@ -311,7 +314,7 @@ fn are_indexes(indexes: &[Index]) -> bool
     }
 }
 
-/// Whether a connection shows the tables of a store, and no others.
+/// Whether a connection shows exactly the tables of a store of version 1.
 pub fn has_store_tables<S: Alter>(conn: &Connection<S>) -> bool
     ensures ours { IsTrue result ↔ ((state S.Store conn.now).now.schema ≡ store_schema) }
     ensures live { IsTrue (state S.Store conn.now).is_open → IsDatabase (state S.Store conn.now).now }
@@ -442,7 +445,7 @@ fn are_indexes_and_uses(indexes: &[Index]) -> bool
     }
 }
 
-/// Whether a connection shows the tables of a store and that of its uses, and no others.
+/// Whether a connection shows exactly the tables of a store of version 2.
 pub fn has_uses_tables<S: Alter>(conn: &Connection<S>) -> bool
     ensures ours { IsTrue result ↔ ((state S.Store conn.now).now.schema ≡ schema_with_uses) }
     ensures live { IsTrue (state S.Store conn.now).is_open → IsDatabase (state S.Store conn.now).now }

@@ -1,6 +1,7 @@
-//! The statements on the table of uses, which version 2 of a store has behind the seven: it is made, read and changed.
-//! At an error, which is the database's own or in a read want of memory, a statement isn't done, or the whole
-//! transaction is rolled back. Nothing is committed, and all other tables stay as they were.
+//! The statements that make, read and change the table of uses, which only version 2 of a store has
+//! (docs/REFERENCE.md, "The store"). An error is the database's own, or in a read lack of memory. Then the
+//! statement isn't done, or the whole transaction is rolled back. Nothing is committed, and all other tables
+//! stay as they were.
 
 ghost use Rattle.std.specs.Prelude.{◌≡◌};
 ghost use Rattle.store_tables.specs.Steps.{IsChange};
@@ -11,7 +12,7 @@ use crate::rows::UseRow;
 use sqlite::{Alter, Error, Transaction, params};
 use std::alloc::Global;
 
-/// Makes the table behind the seven of version 1, whose rows stay.
+/// Makes the table after the seven of version 1, which keep their rows.
 pub fn make_uses<S: Alter>(tx: &mut Transaction<'_, S>) -> Result<(), Error>
     ensures same_reference { tx.new.conn.ghost_name ≡ tx.old.conn.ghost_name }
     ensures step { IsChange S.Store tx.old.conn.now tx.new.conn.now result MakesBareUses }
@@ -24,8 +25,8 @@ pub fn make_uses<S: Alter>(tx: &mut Transaction<'_, S>) -> Result<(), Error>
     Ok(())
 }
 
-/// The uses, asked for in the order of their keys. `InvalidQuery` comes where two rows show one rowid, which a table
-/// excludes, and `NoRowid` where one has the greatest that there is: no row could be put in after it.
+/// The uses, in the order of their keys. `InvalidQuery` comes if two rows have the same rowid, which a table
+/// excludes. `NoRowid` comes if one has the greatest rowid, since no row could be added after it.
 pub fn read_uses<S: Alter>(alloc: Global, tx: &mut Transaction<'_, S>) -> Result<Vec<UseRow>, Error>
     ensures same_reference { tx.new.conn.ghost_name ≡ tx.old.conn.ghost_name }
     ensures read { IsReadOfUses S.Store tx.old.conn.now tx.new.conn.now result (λ rows trees. HoldsUses trees rows.items) }
@@ -37,7 +38,8 @@ pub fn read_uses<S: Alter>(alloc: Global, tx: &mut Transaction<'_, S>) -> Result
     decoded_apart(alloc, shown)
 }
 
-/// The uses, asked for in the order of their ticks, the answer that was used least lately first; else as `read_uses`.
+/// The uses in the order of their ticks, that of the least recently used answer first; otherwise as
+/// `read_uses`.
 pub fn read_uses_by_tick<S: Alter>(
     alloc: Global,
     tx: &mut Transaction<'_, S>,
@@ -70,7 +72,7 @@ pub fn put_use<S: Alter>(
     Ok(())
 }
 
-/// Takes out the use of the answer under a key, where it is there.
+/// Removes the use of the answer under a key, if there is one.
 pub fn take_use<S: Alter>(
     tx: &mut Transaction<'_, S>,
     words: &[u8],
@@ -87,7 +89,7 @@ pub fn take_use<S: Alter>(
     Ok(())
 }
 
-/// Takes out all uses.
+/// Removes all uses.
 pub fn clear_uses<S: Alter>(tx: &mut Transaction<'_, S>) -> Result<(), Error>
     ensures same_reference { tx.new.conn.ghost_name ≡ tx.old.conn.ghost_name }
     ensures step { IsChange S.Store tx.old.conn.now tx.new.conn.now result (MakesUses without_uses) }

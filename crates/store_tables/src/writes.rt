@@ -1,7 +1,7 @@
-//! One statement for each change of a table, but two where a number is replaced. Each is done at `Ok`; at an error,
-//! which is the database's own, that statement isn't done, or the whole transaction is rolled back. Nothing is
-//! committed. All tables but its own stay as they were, also those that a later version of a store lists after the
-//! seven.
+//! One statement for each change of a table, or two where a number is replaced. At `Ok` the statement is
+//! done. An error is the database's own: then that statement isn't done, or the whole transaction is rolled
+//! back. Nothing is committed. All other tables stay as they were, also those that a later version of a store
+//! lists after the seven.
 
 ghost use Rattle.std.specs.Prelude.{◌≡◌, pos};
 ghost use Rattle.store_tables.specs.Schema as spec;
@@ -23,7 +23,7 @@ pub fn put_meta<S: Alter>(tx: &mut Transaction<'_, S>, name: &str, value: u32) -
     Ok(())
 }
 
-// Takes out the number under a name, where there is one.
+// Removes the number under a name, if there is one.
 fn take_meta<S: Alter>(tx: &mut Transaction<'_, S>, name: &str) -> Result<(), Error>
     ensures same_reference { tx.new.conn.ghost_name ≡ tx.old.conn.ghost_name }
     ensures step { IsChange S.Store tx.old.conn.now tx.new.conn.now result (MakesIfKeyed spec.meta (without_meta name.now)) }
@@ -33,8 +33,8 @@ fn take_meta<S: Alter>(tx: &mut Transaction<'_, S>, name: &str) -> Result<(), Er
     Ok(())
 }
 
-/// Keeps a number under a name, in place of the one that stands there, if any does. These are two statements: after an
-/// error the old number may be out, so the transaction isn't to be committed.
+/// Keeps a number under a name, in place of the one there, if any. These are two statements: after an error
+/// the old number may be removed already, so the transaction must not be committed.
 pub fn replace_meta<S: Alter>(
     tx: &mut Transaction<'_, S>,
     name: &str,
@@ -48,7 +48,7 @@ pub fn replace_meta<S: Alter>(
     put_meta(tx, name, value)
 }
 
-/// Keeps contents under their digest, where none are yet.
+/// Keeps a blob under its digest, which has none yet.
 pub fn put_blob<S: Alter>(
     tx: &mut Transaction<'_, S>,
     digest: &[u8],
@@ -100,7 +100,7 @@ pub fn put_commit<S: Alter>(
     Ok(())
 }
 
-/// Adds a file to a commit that lacks the path.
+/// Adds a file to a commit that has none at its path.
 pub fn put_entry<S: Alter>(
     tx: &mut Transaction<'_, S>,
     n: u32,
@@ -119,7 +119,7 @@ pub fn put_entry<S: Alter>(
     Ok(())
 }
 
-/// Remembers an answer under a key that has none.
+/// Caches an answer under a key that has none.
 pub fn put_answer<S: Alter>(
     tx: &mut Transaction<'_, S>,
     words: &[u8],
@@ -139,7 +139,7 @@ pub fn put_answer<S: Alter>(
     Ok(())
 }
 
-/// Adds a fix of a path that has none: the digest of its new contents, or none where the file is gone.
+/// Adds a fix of a path that has none: the digest of its new contents, or `None` if the file is gone.
 pub fn put_fix<S: Alter>(
     tx: &mut Transaction<'_, S>,
     path: &str,
@@ -156,7 +156,7 @@ pub fn put_fix<S: Alter>(
     Ok(())
 }
 
-/// Takes a path out of the staged files, where it is there.
+/// Removes a path from the staged files, if it is there.
 pub fn take_staged<S: Alter>(tx: &mut Transaction<'_, S>, path: &str) -> Result<(), Error>
     ensures same_reference { tx.new.conn.ghost_name ≡ tx.old.conn.ghost_name }
     ensures step { IsStep S.Store tx.old.conn.now tx.new.conn.now result (without_staged path.now) }
@@ -166,7 +166,7 @@ pub fn take_staged<S: Alter>(tx: &mut Transaction<'_, S>, path: &str) -> Result<
     Ok(())
 }
 
-/// Takes out all staged files.
+/// Removes all staged files.
 pub fn clear_staged<S: Alter>(tx: &mut Transaction<'_, S>) -> Result<(), Error>
     ensures same_reference { tx.new.conn.ghost_name ≡ tx.old.conn.ghost_name }
     ensures step { IsStep S.Store tx.old.conn.now tx.new.conn.now result without_all_staged }
@@ -176,7 +176,7 @@ pub fn clear_staged<S: Alter>(tx: &mut Transaction<'_, S>) -> Result<(), Error>
     Ok(())
 }
 
-/// Takes out all fixes.
+/// Removes all fixes.
 pub fn clear_fixes<S: Alter>(tx: &mut Transaction<'_, S>) -> Result<(), Error>
     ensures same_reference { tx.new.conn.ghost_name ≡ tx.old.conn.ghost_name }
     ensures step { IsStep S.Store tx.old.conn.now tx.new.conn.now result (without_fixes) }
@@ -186,7 +186,7 @@ pub fn clear_fixes<S: Alter>(tx: &mut Transaction<'_, S>) -> Result<(), Error>
     Ok(())
 }
 
-/// Takes the answer under a key out of those that are remembered, where it is there.
+/// Removes the cached answer under a key, if there is one.
 pub fn take_answer<S: Alter>(
     tx: &mut Transaction<'_, S>,
     words: &[u8],
@@ -203,7 +203,7 @@ pub fn take_answer<S: Alter>(
     Ok(())
 }
 
-/// Takes out all remembered answers.
+/// Removes all cached answers.
 pub fn clear_answers<S: Alter>(tx: &mut Transaction<'_, S>) -> Result<(), Error>
     ensures same_reference { tx.new.conn.ghost_name ≡ tx.old.conn.ghost_name }
     ensures step { IsStep S.Store tx.old.conn.now tx.new.conn.now result (without_answers) }
@@ -213,7 +213,7 @@ pub fn clear_answers<S: Alter>(tx: &mut Transaction<'_, S>) -> Result<(), Error>
     Ok(())
 }
 
-/// Runs an empty statement, which changes nothing. Only a database that is open answers `Ok`.
+/// Runs an empty statement, which changes nothing. It is `Ok` only if the database is open.
 pub fn change_nothing<S: Alter>(tx: &mut Transaction<'_, S>) -> Result<(), Error>
     ensures same_reference { tx.new.conn.ghost_name ≡ tx.old.conn.ghost_name }
     ensures step { IsStep S.Store tx.old.conn.now tx.new.conn.now result (λ t. t) }

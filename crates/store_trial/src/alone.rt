@@ -1,4 +1,5 @@
-//! Commands on a disk with no store: what a database costs by itself, and what the layers below a store answer.
+//! Commands on a disk without a store: what a database costs by itself, and what the layers below a store
+//! answer.
 
 use crate::answer::Answer;
 use crate::bulk::{contents_of, number};
@@ -8,13 +9,13 @@ use crate::tables_play::play_tables;
 use repo_store::StoreFault;
 use sqlite::{Alter, Connection, Error, ErrorCode};
 
-/// The commands that are a line by themselves.
+/// The commands that are a whole line.
 pub(crate) const COMMANDS: &[&str] = &["connect", "read-tables", "play-tables"];
 
-/// The commands whose word something follows.
+/// The commands that are followed by arguments.
 pub(crate) const COMMANDS_OF: &[&str] = &["insert-alone", "execute"];
 
-/// Plays a command over a connection, and gives back what it is kept in.
+/// Plays a command over a connection, and gives back the object in which the database is kept.
 pub(crate) fn play_alone<S: Alter + Drop>(
     conn: Connection<S>,
     word: &str,
@@ -48,7 +49,7 @@ fn play_on<S: Alter>(
     Ok(())
 }
 
-/// The refusals of a store, each as it is answered.
+/// Adds the refusals of a store, each as it is answered.
 pub(crate) fn add_faults(answer: &mut Answer) {
     let faults = [
         StoreFault::NotAStore,

@@ -1,5 +1,5 @@
-//! The line that answers a command: `ok` and what the call gave, or `refused` with the refusal's number, its name and
-//! what it says. Tabs part the fields.
+//! The line that answers a command: `ok` and what the call gave, or `refused` with the refusal's number, its
+//! name and its text. Tabs separate the fields.
 
 use crate::stop::Stop;
 use crate::text::write_text;
@@ -9,8 +9,9 @@ use repo_store::{LogEntry, StoreFault};
 use std::alloc::Global;
 use std::fmt::Display;
 
-/// The answer to a line. It is one for the whole play, so that no call owns it. A field for which there is no memory is
-/// remembered, so that only the line's end asks whether all went well, since each question costs the checker more than a field.
+/// The answer to a line. There is one for the whole play, so that no call owns it. If there is no memory for
+/// a field, that is noted, and only `end` asks for it: each such question costs the checker more than a
+/// field.
 #[derive(Drop)]
 pub(crate) struct Answer {
     alloc: Global,
@@ -31,7 +32,7 @@ impl Answer {
         self.alloc
     }
 
-    /// Begins an answer by its first field.
+    /// Begins an answer with its first field.
     pub(crate) fn begin(&mut self, word: &str) {
         self.line.clear();
         self.push(word.as_bytes());
@@ -43,7 +44,7 @@ impl Answer {
         }
     }
 
-    /// The answer to a call that gives nothing.
+    /// The answer to a call without a result.
     pub(crate) fn done(&mut self, given: Result<(), StoreFault>) {
         match given {
             Ok(()) => self.begin("ok"),
@@ -67,7 +68,8 @@ impl Answer {
         self.add_fault(fault)
     }
 
-    /// The refusal of a host's command: its number, its name, and the number of the fault that it hands on or `none`.
+    /// Answers the refusal of a host's command: its number, its name, and the number of the inner fault or
+    /// `none`.
     pub(crate) fn refused_command(&mut self, refusal: &HostRefusal) {
         self.begin("refused");
         self.show(refusal.number());
@@ -78,14 +80,14 @@ impl Answer {
         }
     }
 
-    /// Adds a refusal's number, its name and what it says.
+    /// Adds a refusal's number, its name and its text.
     pub(crate) fn add_fault(&mut self, fault: &StoreFault) {
         self.show(fault.number());
         self.add(fault.name().as_bytes());
         self.show(fault)
     }
 
-    /// Adds a field of these bytes.
+    /// Adds a field with these bytes.
     pub(crate) fn add(&mut self, bytes: &[u8]) {
         self.push(b"\t");
         if write_text(&mut self.line, bytes).is_err() {
@@ -93,14 +95,14 @@ impl Answer {
         }
     }
 
-    /// Adds a field of each of these bytes.
+    /// Adds a field for each of these.
     pub(crate) fn add_all(&mut self, fields: &[&[u8]]) {
         for field in fields {
             self.add(field);
         }
     }
 
-    /// Adds a field of what a value shows.
+    /// Adds a field with what a value shows.
     pub(crate) fn show(&mut self, value: impl Display + Drop) {
         match value.to_string(self.alloc) {
             Ok(text) => self.add(text.as_bytes()),
@@ -157,7 +159,7 @@ impl Answer {
         }
     }
 
-    /// The line, with its end. `OutOfMemory` where there was none for a field, or is none for the end.
+    /// The line, with its end. `OutOfMemory` if there was no memory for a field, or is none for the end.
     pub(crate) fn end(&mut self) -> Result<&[u8], Stop> {
         self.push(b"\n");
         if self.is_refused {

@@ -1,5 +1,5 @@
-//! Plays what a store remembers of children, as a book, and how many answers it remembers at most. A line says an answer as a row
-//! of children does, in `children`.
+//! Plays the calls on a store's cached results, as a book, and on their limit. A line describes an answer as
+//! a row of children (`children.rt`).
 
 ghost use Rattle.std.specs.Prelude.{IfOk};
 ghost use Rattle.store_faults.specs.Limits.{IsLimit};
@@ -13,7 +13,7 @@ use repo_store::{MOST_ANSWERS, Store, StoreFault};
 use result_book::{Book, BookFault};
 use sqlite::Alter;
 
-/// Remembers an answer, which has to keep to its seen files.
+/// Caches an answer, which must change only its seen files.
 pub(crate) fn remember<S: Alter>(
     store: &mut Store<S>,
     rest: &str,
@@ -30,7 +30,8 @@ pub(crate) fn remember<S: Alter>(
     Ok(())
 }
 
-/// What is remembered for words and seen files: the exit code, what was written, and the changes; or `none`. It is in front then.
+/// The result cached for words and seen files: the exit code, the output and the changes, or `none`. It
+/// becomes the most recently used.
 pub(crate) fn recall<S: Alter>(
     store: &mut Store<S>,
     rest: &str,
@@ -44,7 +45,7 @@ pub(crate) fn recall<S: Alter>(
     Ok(())
 }
 
-/// Sets how many answers are remembered at most.
+/// Sets how many results are cached at most.
 pub(crate) fn set_limit<S: Alter>(
     store: &mut Store<S>,
     rest: &str,
@@ -55,7 +56,7 @@ pub(crate) fn set_limit<S: Alter>(
     Ok(())
 }
 
-/// A limit of remembered answers, from 1 to 100,000.
+/// A limit of cached results, from 1 to 100,000.
 pub(crate) fn read_limit(word: &str) -> Result<u32, Stop>
     ensures { IfOk result IsLimit }
 {

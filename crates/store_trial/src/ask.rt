@@ -1,17 +1,18 @@
-//! What a line needs of the disk that its database lies on.
+//! What a line needs from the disk with its database.
 
 use sqlite::{Alter, Connection};
 
 /// What is left to do for a line.
 pub(crate) enum Ask<S: Alter> {
-    /// Nothing: it is answered.
+    /// Nothing: the line is answered.
     Nothing,
-    /// To open the database, and to go on with the connection.
+    /// To open the database, and to continue with the connection.
     Connection,
     /// To close a database.
     Closing(Connection<S>),
-    /// To take back what a database was kept in that is used no more, and to close nothing.
+    /// To take back the object in which an unused database was kept. Nothing has to be closed.
     GiveBack(S),
-    /// To stop the machine and start it again, which ends the use of what a store was kept in.
+    /// To stop the machine and start it again, after which the object in which a store was kept can't be
+    /// used.
     Crash(Option<S>),
 }

@@ -1,4 +1,4 @@
-//! Calls by the thousand, for the benchmark.
+//! Calls in great numbers, for the benchmark.
 
 ghost use Rattle.std.specs.Prelude.{◌≢◌, IfOk};
 ghost use Rattle.hook_base.specs.Paths.{message_path};
@@ -10,7 +10,7 @@ use repo_store::{Store, StoreFault};
 use sqlite::Alter;
 use std::alloc::Global;
 
-/// Contents of a size: the seed and the number of the file, and dots.
+/// Contents of a size: the seed, the number of the file, and dots.
 pub(crate) fn contents_of(alloc: Global, size: u32, seed: u32, at: u32) -> Result<Vec<u8>, Stop> {
     let head = format!(in alloc; "{seed} {at} ")?;
     let mut bytes = vec![in alloc; b'.'; size as usize]?;
@@ -20,7 +20,8 @@ pub(crate) fn contents_of(alloc: Global, size: u32, seed: u32, at: u32) -> Resul
     Ok(bytes)
 }
 
-/// Stages so many files of a size, whose contents the seed sets apart, and stops at the first refusal.
+/// Stages a number of files of a size until the first refusal. The seed makes their contents different from
+/// others.
 pub(crate) fn stage_many<S: Alter>(
     store: &mut Store<S>,
     rest: &str,
@@ -62,7 +63,7 @@ pub(crate) fn staged_path(alloc: Global, text: &str) -> Result<RepoPath, Stop>
     Ok(path)
 }
 
-/// The number that a word is.
+/// Reads a word as a number.
 pub(crate) fn number(word: &str) -> Result<u32, Stop> {
     word.parse().map_err(|_| Stop::BadLine)
 }

@@ -1,4 +1,4 @@
-//! Plays a call on a store that is open. Contents and messages are texts as `read_text` reads them.
+//! Plays a call on an open store. Contents and messages are texts as `read_text` reads them.
 
 use crate::answer::Answer;
 use crate::answers::{recall, remember, set_limit};
@@ -11,13 +11,13 @@ use hook_base::{Mode, RepoPath};
 use repo_store::Store;
 use sqlite::Alter;
 
-/// The calls that are a line by themselves.
+/// The calls that are a whole line.
 pub(crate) const CALLS: &[&str] = &[
     "set", "accept", "staged", "head", "fixes", "log", "trees", "weigh", "count", "walk",
     "answers", "forget", "limit",
 ];
 
-/// The calls whose word something follows.
+/// The calls that are followed by arguments.
 pub(crate) const CALLS_OF: &[&str] = &[
     "stage",
     "unstage",
@@ -57,8 +57,8 @@ pub(crate) fn play_call<S: Alter>(
     }
 }
 
-// The calls that keep something, and those that only read. They stand in several functions, since one with many arms takes
-// the checker long.
+// Plays the calls that store something, and those that only read. They are spread over several functions,
+// since one with many arms takes the checker long.
 fn play_further<S: Alter>(
     store: &mut Store<S>,
     word: &str,
@@ -94,7 +94,7 @@ fn play_answers<S: Alter>(
     }
 }
 
-/// Adds what a call answers that only reads.
+/// Adds the answer to a call that only reads.
 fn show<S: Alter>(
     store: &Store<S>,
     word: &str,
@@ -165,7 +165,7 @@ fn add_tree_of<S: Alter>(store: &Store<S>, number: u32, answer: &mut Answer) -> 
     Ok(())
 }
 
-/// Adds the number of each commit, and its files after it.
+/// Adds the number of each commit, followed by its files.
 fn add_trees<S: Alter>(store: &Store<S>, answer: &mut Answer) -> Result<(), Stop> {
     for commit in store.log()?.as_slice() {
         answer.show(commit.number);
@@ -174,7 +174,7 @@ fn add_trees<S: Alter>(store: &Store<S>, answer: &mut Answer) -> Result<(), Stop
     Ok(())
 }
 
-/// Adds how many files are staged, and their bytes.
+/// Adds how many files are staged, and their total bytes.
 fn weigh<S: Alter>(store: &Store<S>, answer: &mut Answer) -> Result<(), Stop> {
     let tree = store.staged()?;
     let mut bytes = 0u64;
@@ -196,7 +196,7 @@ fn stage<S: Alter>(store: &mut Store<S>, rest: &str, answer: &mut Answer) -> Res
     Ok(())
 }
 
-/// The mode of a word.
+/// The mode that a word names.
 pub(crate) fn read_mode(word: &str) -> Result<Mode, Stop> {
     match word {
         "plain" => Ok(Mode::Plain),

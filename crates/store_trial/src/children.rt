@@ -1,6 +1,7 @@
-//! Children that answer by a table, of which a line adds a row: the words of the command, the files that its child has seen,
-//! those that it changes, its exit status and what it writes, which may be left out and then is nothing. Bars part these, and
-//! blanks what stands within them. A file is written `PATH=TEXT`, and `PATH` alone is one that is gone.
+//! Children that answer from a table, to which a line adds a row. The row has the words of the command, the
+//! files that its child has seen, those that it changes, and its exit status. Then comes its output, which
+//! may be left out and is then empty. Bars separate these, and blanks what is within them. A file is written
+//! `PATH=TEXT`, and `PATH` alone is one that is gone.
 
 use crate::stop::Stop;
 use crate::text::read_text;
@@ -8,10 +9,10 @@ use child_port::{Answer, TableChildren, TableRow};
 use hook_base::{Bytes, Change, Changes, Content, FileEntry, Items, Mode, RepoPath, Text, Tree};
 use std::alloc::Global;
 
-/// What a commit's message is called, among the files of its stages.
+/// The path of a commit's message, among the files of its stages.
 const MESSAGE: &str = ".git/COMMIT_EDITMSG";
 
-/// Children that answer by the rows that these texts are. They have told nothing yet.
+/// Children that answer from the rows in these texts. They have reported nothing yet.
 pub(crate) fn children_of(alloc: Global, texts: &[Text]) -> Result<TableChildren, Stop> {
     let mut rows = Vec::new(alloc);
     for text in texts {
@@ -20,7 +21,7 @@ pub(crate) fn children_of(alloc: Global, texts: &[Text]) -> Result<TableChildren
     Ok(TableChildren::new(Items::from(rows)))
 }
 
-/// The row that a text is.
+/// Reads a text as a row.
 pub(crate) fn read_row(alloc: Global, text: &str) -> Result<TableRow, Stop> {
     let (words, rest) = text.split_once('|').ok_or(Stop::BadLine)?;
     let (seen, rest) = rest.split_once('|').ok_or(Stop::BadLine)?;
@@ -37,7 +38,7 @@ pub(crate) fn read_row(alloc: Global, text: &str) -> Result<TableRow, Stop> {
     })
 }
 
-/// The words and the seen files that a text is, parted by a bar.
+/// Reads a text as words and seen files, separated by a bar.
 pub(crate) fn key_of(alloc: Global, text: &str) -> Result<(Vec<Text>, Tree), Stop> {
     let (words, seen) = text.split_once('|').ok_or(Stop::BadLine)?;
     Ok((words_in(alloc, words)?, tree_in(alloc, seen)?))
@@ -80,12 +81,12 @@ fn read_change(alloc: Global, text: &str) -> Result<Change, Stop> {
     Ok(Change { path, now })
 }
 
-/// The contents of a text.
+/// Reads a text as contents.
 pub(crate) fn read_content(alloc: Global, text: &str) -> Result<Content, Stop> {
     Ok(Content::new(alloc, Bytes::from(read_text(alloc, text)?))?)
 }
 
-/// A path that a tree may hold.
+/// A path that a tree may have.
 fn read_path(alloc: Global, text: &str) -> Result<RepoPath, Stop> {
     if text == MESSAGE {
         return Ok(RepoPath::message(alloc)?);

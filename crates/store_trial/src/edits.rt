@@ -1,5 +1,5 @@
-//! Several changes of the staged files at once. A line names them in order, parted by ` | `: `add`, a mode or `-` for none, the path
-//! and the contents, or `remove` and the path. Neither has a ` | ` in it.
+//! Several changes of the staged files at once. A line lists them in order, separated by ` | `: `add`, a mode
+//! or `-` for none, the path and the contents, or `remove` and the path. None of them may contain ` | `.
 
 use crate::answer::Answer;
 use crate::calls::read_mode;
@@ -11,8 +11,8 @@ use repo_store::{StagingEdit, StagingFault, Store};
 use sqlite::Alter;
 use std::alloc::Global;
 
-/// Makes the changes by the store itself. A refusal is answered by its name, the number of the fault that it hands on or `none`,
-/// and the index of the change that is refused or `none`.
+/// Makes the changes by the store itself. A refusal is answered by its name, the number of the inner fault or
+/// `none`, and the index of the refused change or `none`.
 pub(crate) fn stage_all<S: Alter>(
     store: &mut Store<S>,
     rest: &str,
@@ -33,7 +33,8 @@ pub(crate) fn stage_all<S: Alter>(
     Ok(())
 }
 
-/// Makes the changes by a host. A refusal is answered as that of one of its commands, and the index is added.
+/// Makes the changes by a host. A refusal is answered like that of one of its commands, followed by the
+/// index.
 pub(crate) fn edit_all<S: Alter>(
     host: &mut Host<S>,
     rest: &str,
@@ -103,7 +104,7 @@ fn read_edit(alloc: Global, word: &str, rest: &str) -> Result<StagingEdit, Stop>
     }
 }
 
-/// The mode of a word, or none of `-`.
+/// The mode that a word names, or none for `-`.
 pub(crate) fn read_asked_mode(word: &str) -> Result<Option<Mode>, Stop> {
     match word {
         "-" => Ok(None),

@@ -10,7 +10,7 @@ use sqlite::Alter;
 use std::alloc::Global;
 use std::mem;
 
-/// Plays `fix` and `fix-gone`, which put a fix beside those that wait.
+/// Plays `fix` and `fix-gone`, which add a fix to those that wait.
 pub(crate) fn collect(
     fixes: &mut Vec<Change>,
     word: &str,
@@ -38,7 +38,7 @@ fn read_fix(alloc: Global, rest: &str) -> Result<Change, Stop> {
     })
 }
 
-/// Sets the fixes that wait. Two of one path can't be set.
+/// Sets the fixes that wait. Two fixes of one path can't be set.
 pub(crate) fn set<S: Alter>(
     store: &mut Store<S>,
     fixes: &mut Vec<Change>,

@@ -16,10 +16,10 @@ use sqlite::Alter;
 use std::alloc::Global;
 use std::fmt::Display;
 
-/// The commands that are a line by themselves.
+/// The commands that are a whole line.
 pub(crate) const COMMANDS: &[&str] = &["accept-fixes", "forget-answers", "answer-limit"];
 
-/// The commands whose word something follows.
+/// The commands that are followed by arguments.
 pub(crate) const COMMANDS_OF: &[&str] = &[
     "add",
     "remove",
@@ -30,8 +30,8 @@ pub(crate) const COMMANDS_OF: &[&str] = &[
     "commit-unverified",
 ];
 
-/// Plays a command, with children that answer by these rows. A refusal is answered by its number, its name, and the number
-/// of the fault that it hands on or `none`.
+/// Plays a command, with children that answer from these rows. A refusal is answered by its number, its name,
+/// and the number of the inner fault or `none`.
 pub(crate) fn play_command<S: Alter>(
     host: &mut Host<S>,
     rows: &[Text],
@@ -57,7 +57,7 @@ pub(crate) fn play_command<S: Alter>(
     }
 }
 
-// The commands that look at the remembered answers, or change them alone.
+// The commands that only read or change the cached results.
 fn play_answers<S: Alter>(
     host: &mut Host<S>,
     word: &str,
@@ -79,7 +79,7 @@ fn play_answers<S: Alter>(
     Ok(())
 }
 
-// Adds a file of a mode, or of none where its word is `-`.
+// Adds a file with a mode, or without one if its word is `-`.
 fn add<S: Alter>(host: &mut Host<S>, rest: &str, answer: &mut Answer) -> Result<(), Stop> {
     let (mode, rest) = rest.split_once(' ').ok_or(Stop::BadLine)?;
     let (path, text) = rest.split_once(' ').ok_or(Stop::BadLine)?;
@@ -142,7 +142,7 @@ fn read_ask(alloc: Global, which: &str) -> Result<HostAsk, Stop> {
     })
 }
 
-// Whether no hook failed, and the fixes.
+// Adds whether no hook failed, and the fixes.
 fn add_run(ran: &StagedRun, answer: &mut Answer) {
     answer.begin("ok");
     answer.add(if ran.passed { b"passed" } else { b"failed" });
@@ -171,7 +171,8 @@ fn commit<S: Alter>(
     Ok(())
 }
 
-// The commit's number, and whether the hooks behind it were told of or stopped; or the stage in which a hook failed.
+// Adds the commit's number and whether the post-commit hooks were reported or stopped, or the stage in which
+// a hook failed.
 fn add_ending(ending: &CommitEnding, answer: &mut Answer) {
     answer.begin("ok");
     match ending {

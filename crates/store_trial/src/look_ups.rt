@@ -6,8 +6,9 @@ use hook_base::RepoPath;
 use repo_store::Store;
 use sqlite::Alter;
 
-/// Adds what the store says of a path: whether it is staged, with its mode and its contents or `none`, whether it clashes
-/// with a staged one, whether HEAD has it, and whether it differs from HEAD there.
+/// Adds what the store says of a path. That is whether it is staged, with its mode and its contents or
+/// `none`, and whether it clashes with a staged one. Then come whether HEAD has it, and whether it differs
+/// from HEAD there.
 pub(crate) fn look<S: Alter>(
     store: &Store<S>,
     path: &str,

@@ -1,5 +1,6 @@
-//! The program `store_trial`: plays calls on the store in a file and commands of a host over it, one a line of standard
-//! input, and answers each by a line. Scripts drive, time and stop a store by it.
+//! The program `store_trial` (docs/REFERENCE.md, "`store_trial`"): plays calls on the store in a file, and
+//! commands of a host over it. Each is a line of standard input and is answered by a line. Scripts use it to
+//! drive, time and stop a store.
 #![tactic(auto)]
 
 mod alone;
@@ -39,7 +40,7 @@ fn main(rt: HostRuntime) -> ExitCode {
     }
 }
 
-/// Plays over the disk that the program's words name.
+/// Plays over the disk that the program's arguments name.
 fn run(rt: &HostRuntime) -> Result<(), Stop> {
     let mut words = env::args(rt)?;
     let _program = words.next();

@@ -1,4 +1,4 @@
-//! Plays lines, whatever disk the database lies on.
+//! Plays lines, whichever disk the database is on.
 
 use crate::alone::{COMMANDS, COMMANDS_OF, add_faults, play_alone};
 use crate::answer::Answer;
@@ -14,7 +14,8 @@ use repo_store::{Store, StoreFault};
 use sqlite::{Alter, Connection, Error};
 use std::alloc::Global;
 
-/// The store that is open, if one is, the fixes that wait, and the rows by which children answer, as their lines say them.
+/// The store if one is open, the fixes that wait, and the rows from which children answer, as their lines
+/// describe them.
 #[derive(Drop)]
 pub(crate) struct Play<S: Alter + Drop> {
     store: Option<Store<S>>,
@@ -50,7 +51,7 @@ impl<S: Alter + Drop> Play<S> {
         }
     }
 
-    /// Goes on with a line over a connection to the database.
+    /// Continues a line with a connection to the database.
     pub(crate) fn go_on(
         &mut self,
         line: &str,
@@ -97,7 +98,7 @@ impl<S: Alter + Drop> Play<S> {
         }
     }
 
-    /// What the store that was open is kept in.
+    /// The object in which the open store was kept.
     fn kept(&mut self) -> Option<S> {
         match self.store.take() {
             None => None,
@@ -133,7 +134,7 @@ impl<S: Alter + Drop> Play<S> {
         }
     }
 
-    /// Keeps a row by which children answer. It needs no store.
+    /// Keeps a row from which children answer. It needs no store.
     fn child(&mut self, line: &str, answer: &mut Answer) -> Result<(), Stop> {
         let (_word, rest) = parted(line);
         let _row = read_row(answer.alloc(), rest)?;
@@ -142,7 +143,7 @@ impl<S: Alter + Drop> Play<S> {
         Ok(())
     }
 
-    /// Hands the store to a host for one command.
+    /// Gives the store to a host for one command.
     fn command(&mut self, line: &str, answer: &mut Answer) -> Result<(), Stop> {
         match self.store.take() {
             None => {
@@ -160,7 +161,7 @@ impl<S: Alter + Drop> Play<S> {
     }
 }
 
-/// Whether a line is one of some words, or begins with one of others and goes on after a blank.
+/// Whether a line is one of `whole`, or begins with one of `words` and a blank.
 fn is_of(line: &str, whole: &[&str], words: &[&str]) -> bool {
     match line.split_once(' ') {
         None => whole.contains(&line),
@@ -173,7 +174,7 @@ fn parted(line: &str) -> (&str, &str) {
     line.split_once(' ').unwrap_or((line, ""))
 }
 
-/// The store that is made in a database, or opened in it. A refusal gives the connection back.
+/// The store that is created in a database, or opened in it. A refusal gives the connection back.
 fn begun<S: Alter + Drop>(
     alloc: Global,
     conn: Connection<S>,

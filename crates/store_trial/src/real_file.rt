@@ -1,4 +1,4 @@
-//! A real file, which the store of a play is in.
+//! A real file, for the store of a play.
 
 use crate::answer::Answer;
 use crate::ask::Ask;
@@ -9,7 +9,7 @@ use repo_store::StoreFault;
 use sqlite::{Connection, File, FileStore};
 use std::io::{BufRead, BufReader};
 
-/// Plays the lines of standard input over the file of this name.
+/// Plays the lines of standard input over the file with this name.
 pub(crate) fn play_file(rt: &HostRuntime, name: &str) -> Result<(), Stop> {
     let mut play = Play::new(rt.alloc());
     let mut answer = Answer::new(rt.alloc());

@@ -7,15 +7,15 @@ use std::io;
 
 #[derive(Clone, Copy)]
 pub(crate) enum Stop {
-    /// The words of the program name no disk.
+    /// The program's arguments name no disk.
     Usage,
-    /// The line is no command, or one that can't be played.
+    /// The line isn't a command, or is one that can't be played.
     BadLine,
     /// The program itself was refused memory, outside the store's calls.
     OutOfMemory,
-    /// Standard input can't be read, or standard output takes nothing.
+    /// Standard input can't be read, or standard output can't be written.
     Io,
-    /// The database refused what no line asks for.
+    /// The database refused something that no line asks for.
     Database,
 }
 
@@ -29,7 +29,7 @@ impl Stop {
         }
     }
 
-    /// What is said on standard error.
+    /// The text on standard error.
     pub(crate) fn message(self) -> &'static str {
         match self {
             Stop::Usage =>

@@ -1,5 +1,6 @@
-//! A disk that stops: two files in memory, one of which takes so many operations and then none, until the machine
-//! crashes and comes back. As those of `hookhost`, they are waited for only where something was written, and cut late.
+//! A disk that stops: two files in memory, one of which accepts a number of operations and then none, until
+//! the machine crashes and comes back. Like the files of `hookhost`, they are only waited for if something
+//! was written, and are cut late.
 
 use crate::answer::Answer;
 use crate::ask::Ask;
@@ -13,7 +14,7 @@ use sqlite_disk::{Crash, Disk, Fuse, Memory};
 use std::alloc::Global;
 use std::io::{BufRead, BufReader};
 
-/// Few, so that the log is copied into the database file within a short play.
+/// Small, so that the log is copied into the database file within a short play.
 const CHECKPOINT_FRAMES: usize = 8;
 
 type StoppingFile = LazyDisk<Fuse<Memory>>;
@@ -21,7 +22,8 @@ type StoppingFile = LazyDisk<Fuse<Memory>>;
 /// The files, while no database is open in them.
 type Kept<D> = Option<Files<D>>;
 
-/// Plays the lines of standard input over files of which the log or the database takes so many operations.
+/// Plays the lines of standard input over files of which the log or the database accepts a number of
+/// operations.
 pub(crate) fn play_stopping(rt: &HostRuntime, which: &str, at: &str) -> Result<(), Stop> {
     let mut files = Some(files_of(rt.alloc(), which, at)?);
     let mut play = Play::new(rt.alloc());
@@ -76,7 +78,7 @@ fn play_line<D: Disk + Crash + Drop>(
     }
 }
 
-/// Opens the database of the files. Where it is refused, the files are there for the next line.
+/// Opens the database in the files. If that is refused, the next line can use the files again.
 fn connect<D: Disk + Drop>(
     alloc: Global,
     kept: &mut Kept<D>,

@@ -1,5 +1,5 @@
-//! Reads and writes the tables of a database with no store, so that what a store costs can be told from what its
-//! database costs, and the rows that a store left can be counted.
+//! Reads and writes the tables of a database without a store. So the cost of a store can be separated from
+//! that of its database, and the rows that a store left can be counted.
 
 use crate::answer::Answer;
 use sha2::{Digest as _, Sha256};
@@ -15,7 +15,7 @@ use store_tables::{
 struct Counts {
     rows: usize,
     contents: usize,
-    /// Contents that don't stand under their digest.
+    /// Contents whose digest isn't the one that they are stored with.
     strays: usize,
 }
 
@@ -45,7 +45,7 @@ fn read_tables<S: Alter>(alloc: Global, conn: &mut Connection<S>) -> Result<Coun
     })
 }
 
-/// How many rows the tables have but for the contents.
+/// How many rows the tables have, without the contents.
 fn count_rows<S: Alter>(alloc: Global, tx: &mut Transaction<'_, S>) -> Result<usize, Error> {
     let mut rows = read_meta(alloc, tx)?.len();
     rows = rows.saturating_add(read_staged(alloc, tx)?.len());
@@ -55,7 +55,7 @@ fn count_rows<S: Alter>(alloc: Global, tx: &mut Transaction<'_, S>) -> Result<us
     Ok(rows.saturating_add(read_answers(alloc, tx)?.len()))
 }
 
-/// Keeps contents under their digest, in a transaction of their own.
+/// Stores contents with their digest, in a transaction of their own.
 pub(crate) fn insert_contents<S: Alter>(
     conn: &mut Connection<S>,
     bytes: &[u8],

@@ -1,6 +1,6 @@
-//! A play of the statements on the tables: rows are put in, in no order, read back, taken out, and read back again, all
-//! in one transaction that is not committed. Each row is added to the answer: its table's name, its texts and digests, and
-//! its numbers.
+//! A play of the statements on the tables. Rows are inserted in no order, read back, removed, and read back
+//! again, all in one transaction that isn't committed. For each row the answer has its table's name, its
+//! texts and digests, and its numbers.
 
 use crate::answer::Answer;
 use crate::stop::Stop;
@@ -36,7 +36,7 @@ pub(crate) fn play_tables<S: Alter>(
     Ok(Ok(()))
 }
 
-// The tables of version 1, and the one that version 2 has beside them.
+// Makes the tables of version 1, and the one that version 2 adds.
 fn make_all<S: Alter>(tx: &mut Transaction<'_, S>) -> Result<(), Error> {
     make_tables(tx)?;
     make_uses(tx)
@@ -79,7 +79,7 @@ fn change_some<S: Alter>(tx: &mut Transaction<'_, S>) -> Result<(), Error> {
     change_uses(tx)
 }
 
-// The use of the answer that was taken out goes, and the other answer is used once more.
+// Removes the use of the answer that was removed, and uses the other answer once more.
 fn change_uses<S: Alter>(tx: &mut Transaction<'_, S>) -> Result<(), Error> {
     take_use(tx, b"two", b"two")?;
     take_use(tx, b"one", b"two")?;
@@ -173,7 +173,7 @@ fn add_answers<S: Alter>(tx: &mut Transaction<'_, S>, answer: &mut Answer) -> Re
     Ok(())
 }
 
-// The uses, the earliest first.
+// Adds the uses, the earliest first.
 fn add_uses<S: Alter>(tx: &mut Transaction<'_, S>, answer: &mut Answer) -> Result<(), Stop> {
     for row in &read_uses_by_tick(answer.alloc(), tx)? {
         answer.add_all(&[b"uses", row.words.as_slice(), row.seen.as_slice()]);

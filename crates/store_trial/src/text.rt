@@ -1,10 +1,10 @@
-//! Contents as a line shows them: a backslash, a line end and a tab are written `\\`, `\n` and `\t`, and every other
-//! byte as it is.
+//! Contents as a line shows them: a backslash, a line end and a tab are written `\\`, `\n` and `\t`, and
+//! every other byte as it is.
 
 use crate::stop::Stop;
 use std::alloc::{AllocError, Global};
 
-/// The bytes that a text stands for. A backslash before any other byte is no text.
+/// The bytes that a text means. A text with a backslash before any other byte is refused.
 pub(crate) fn read_text(alloc: Global, text: &str) -> Result<Vec<u8>, Stop> {
     let mut bytes = Vec::new(alloc);
     let mut is_escaped = false;

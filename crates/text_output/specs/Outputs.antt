@@ -1,8 +1,8 @@
--- What a writer took in a call. Of a writer that doesn't tell its bytes nothing is claimed.
+-- What a writer took in a call. Nothing is claimed of a writer whose bytes aren't known.
 use Rattle.std.specs.Prelude.{◌≡◌, ◌++◌, ℕ, List, Option}
 use Rattle.std.specs.Io.KnownBytes.{Appends, Keeps}
 
--- the bytes that a writer held before a call, and those that it holds after it, where they are known
+-- the bytes that a writer had before a call and has after it, if they are known
 pub record Output : Type 0 where
   pub held : Option (List ℕ)
   pub holds : Option (List ℕ)
@@ -15,8 +15,8 @@ IsSilent output = Keeps output.held output.holds
 abbrev pub Has : Output → List ℕ → Type 0
 Has output text = Appends output.held output.holds text
 
--- A part of the text from its beginning on was written, and nothing else: what a writer took before it gave an error. Where
--- it gave one only when it was flushed, the part is the whole.
+-- A beginning of the text was written, and nothing else: what a writer took before it gave an error. If only
+-- the flush gave it, that may be the whole text.
 pub record HasBeginning (output : Output) (text : List ℕ) : Type 0 where
   pub part : List ℕ
   pub rest : List ℕ

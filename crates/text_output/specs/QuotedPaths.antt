@@ -1,12 +1,13 @@
--- A path as it is told on a line: in double quotes, with the escapes of C, where its own bytes would end the line or mislead.
+-- A path within a line: in double quotes, with the escapes of C, if its own bytes would end the line or
+-- mislead. This is what Git writes if `core.quotePath` is `false` (git-config(1), "core.quotePath").
 use Rattle.std.specs.Prelude.{ℕ, ◌+◌, ◌/◌, ◌%◌, ◌==◌, ◌||◌, Bool, List, [], ◌∷◌, ◌++◌, Option, None, Some, if◌then◌else◌, nat_lt}
 use Rattle.std.specs.List.{flat_map, list_any}
 
 abbrev pub is_control_byte : ℕ → Bool
 is_control_byte byte = nat_lt byte 32 || byte == 127
 
--- the byte that stands behind a backslash for this one: 7 to 13 have the letters a, b, t, n, v, f, r, and a double quote and a
--- backslash stand for themselves
+-- the byte that follows a backslash for this one. For 7 to 13 it is one of the letters a, b, t, n, v, f, r,
+-- and for a double quote or a backslash the byte itself
 abbrev pub escape_of : ℕ → Option ℕ
 escape_of byte =
     if byte == 7 then Some 97
@@ -19,11 +20,11 @@ escape_of byte =
     else (if byte == 34 then Some 34
     else (if byte == 92 then Some 92 else None))))))))
 
--- a byte in three octal digits behind a backslash
+-- a backslash and the byte in three octal digits
 abbrev pub octal : ℕ → List ℕ
 octal byte = 92 ∷ (48 + byte / 64) ∷ (48 + byte / 8 % 8) ∷ (48 + byte % 8) ∷ []
 
--- a byte without an escape of its own
+-- a byte without a letter as its escape
 abbrev pub plain_or_octal : ℕ → List ℕ
 plain_or_octal byte = if is_control_byte byte then octal byte else byte ∷ []
 
@@ -35,10 +36,10 @@ escaped_by None byte = plain_or_octal byte
 abbrev pub escaped : ℕ → List ℕ
 escaped byte = escaped_by (escape_of byte) byte
 
--- the byte can't stand without quotes
+-- a path with this byte needs quotes
 abbrev pub wants_quotes : ℕ → Bool
 wants_quotes byte = is_control_byte byte || (byte == 34 || byte == 92)
 
--- the path as it is told
+-- the path as it is printed
 abbrev pub told_path : List ℕ → List ℕ
 told_path path = if list_any wants_quotes path then 34 ∷ (flat_map escaped path ++ 34 ∷ []) else path

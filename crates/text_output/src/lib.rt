@@ -1,8 +1,8 @@
-//! Texts that go out to a writer whole ([`write_out`], [`write_pieces`]), and how much of one a writer took that gave an
-//! error; and paths, which are told within a line ([`write_path`]).
+//! Texts that are written to a writer whole ([`write_out`], [`write_pieces`]), how much of a text is out
+//! after an error, and paths within a line ([`write_path`]).
 //!
-//! The contracts cite `specs/Outputs.antt` and `specs/QuotedPaths.antt`. `specs/OutputLemmas.antt` says of texts that follow one another what holds of
-//! both, for callers' proofs.
+//! The contracts cite `specs/Outputs.antt` and `specs/QuotedPaths.antt`. `specs/OutputLemmas.antt` is for
+//! callers' proofs: it says what holds of texts that follow one another.
 #![tactic(auto)]
 
 mod quoted_path;

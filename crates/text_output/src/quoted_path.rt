@@ -10,9 +10,10 @@ ghost use Rattle.text_output.specs.QuotedPaths.{escape_of, escaped, plain_or_oct
 use crate::{Unwritten, write_out};
 use std::io::Write;
 
-/// Writes a path as it is told on a line. One with control bytes, double quotes or backslashes stands in double quotes, with the
-/// escapes of C, as Git writes it: so it never ends the line, and no two paths look alike. An error leaves what one of
-/// `write_pieces` does.
+/// Writes a path as it is printed within a line. A path with control bytes, double quotes or backslashes is
+/// in double quotes, with the escapes of C, as Git writes it (git-config(1), "core.quotePath", if that is
+/// `false`). So it never ends the line, and no two paths look the same. An error leaves what an error of
+/// `write_pieces` leaves.
 pub fn write_path<W: Write>(writer: &mut W, path: &str) -> Result<(), Unwritten>
     ensures ok { OnOk result (Has (record { held = W.contents writer.old; holds = W.contents writer.new }) (told_path path.now)) }
     ensures err { OnErr result (HasBeginning (record { held = W.contents writer.old; holds = W.contents writer.new }) (told_path path.now)) }
@@ -78,7 +79,7 @@ fn write_plain_or_octal<W: Write>(writer: &mut W, byte: u8) -> Result<(), Unwrit
     }
 }
 
-// The byte that stands behind a backslash for this one, if it has one.
+// The byte that follows a backslash for this one, if it has such an escape.
 fn escape_of(byte: u8) -> Option<u8>
     ensures { result ≡ escape_of byte }
 {

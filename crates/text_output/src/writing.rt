@@ -1,4 +1,4 @@
-//! Texts that go out to a writer.
+//! Texts that are written to a writer.
 //!
 //! The contracts cite `specs/Outputs.antt`.
 
@@ -12,8 +12,8 @@ use std::io::{ErrorKind, Write};
 #[derive(Clone, Copy, Debug)]
 pub struct Unwritten;
 
-/// Writes a text, piece by piece, and flushes the writer. After an error a beginning of the text is out, maybe all of it,
-/// where the writer gave its error only when it was flushed.
+/// Writes a text, piece by piece, and flushes the writer. After an error a beginning of the text is out; it
+/// may be all of it, if only the flush gave the error.
 pub fn write_pieces<'a, W: Write>(writer: &mut W, pieces: &'a [&'a str]) -> Result<(), Unwritten>
     ensures ok { OnOk result (Has (record { held = W.contents writer.old; holds = W.contents writer.new }) (concat (map (λ s. s.now) pieces.entry.now))) }
     ensures err { OnErr result (HasBeginning (record { held = W.contents writer.old; holds = W.contents writer.new }) (concat (map (λ s. s.now) pieces.entry.now))) }
@@ -24,7 +24,7 @@ pub fn write_pieces<'a, W: Write>(writer: &mut W, pieces: &'a [&'a str]) -> Resu
     flush(writer)
 }
 
-/// Writes a text and flushes the writer. An error leaves what one of `write_pieces` does.
+/// Writes a text and flushes the writer. An error leaves what an error of `write_pieces` leaves.
 pub fn write_out<W: Write>(writer: &mut W, text: &[u8]) -> Result<(), Unwritten>
     ensures ok { OnOk result (Has (record { held = W.contents writer.old; holds = W.contents writer.new }) text.now) }
     ensures err { OnErr result (HasBeginning (record { held = W.contents writer.old; holds = W.contents writer.new }) text.now) }
@@ -33,7 +33,8 @@ pub fn write_out<W: Write>(writer: &mut W, text: &[u8]) -> Result<(), Unwritten>
     flush(writer)
 }
 
-// Writes a text, as `write_all` does, whose contract leaves open what an error leaves: here it is the text's beginning.
+// Writes a text as `write_all` does. The contract of that one doesn't say what an error leaves; here it is a
+// beginning of the text.
 fn write_piece<W: Write>(writer: &mut W, text: &[u8]) -> Result<(), Unwritten>
     ensures ok { OnOk result (Has (record { held = W.contents writer.old; holds = W.contents writer.new }) text.now) }
     ensures err { OnErr result (HasBeginning (record { held = W.contents writer.old; holds = W.contents writer.new }) text.now) }
@@ -48,7 +49,7 @@ fn write_piece<W: Write>(writer: &mut W, text: &[u8]) -> Result<(), Unwritten>
     Err(Unwritten)
 }
 
-// Writes once, and answers how many bytes the writer took: none where it was interrupted.
+// Writes once, and answers how many bytes the writer took: 0 if the call was interrupted.
 fn write_some<W: Write>(writer: &mut W, text: &[u8]) -> Result<usize, Unwritten>
     ensures count { IfOk result (λ count. count ≤ length text.now) }
     ensures ok { IfOk result (λ count. Has (record { held = W.contents writer.old; holds = W.contents writer.new }) (take count text.now)) }

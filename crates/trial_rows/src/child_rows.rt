@@ -1,9 +1,9 @@
 //! Children that answer by the rows of a table.
 //!
-//! A row is a text of lines: `answer STATUS`; the words of the command; the files that the child has seen; what it changes;
-//! and its output. Words are parted by tabs, and so are files, each `PATH=LINE`: its bytes are the line and a line feed, where
-//! the byte 1 stands for a line feed too. `PATH` alone, of what is changed, is a file that is gone; behind the byte 2, of what
-//! is seen, stands one that is executable.
+//! A row is a text of lines: `answer STATUS`; the words of the command; the files that the child has seen;
+//! what it changes; and its output. Words are separated by tabs, and so are files, each `PATH=LINE`: its
+//! bytes are the line and a line feed. The byte 1 in a line means a line feed too. Among the changes,
+//! `PATH` alone is a file that is gone. Among the seen files, an executable one follows the byte 2.
 
 use crate::arguments::{number_of, text_of};
 use crate::stop::Stop;
@@ -11,16 +11,17 @@ use child_port::{Answer, Fault, TableRow};
 use hook_base::{Bytes, Change, Changes, Content, FileEntry, Items, Mode, RepoPath, Text, Tree};
 use std::alloc::Global;
 
-// The message of a commit, among the files of its stages.
+// The path of a commit's message, among the files of its stages.
 const MESSAGE: &str = ".git/COMMIT_EDITMSG";
 
-// What stands for a line feed in the bytes of a file.
+// The byte that means a line feed in the bytes of a file.
 const FURTHER_LINE: u8 = 1;
 
-// What stands before the path of an executable file.
+// The mark before the path of an executable file.
 const EXECUTABLE: &str = "\u{2}";
 
-/// The row of a table of children that a text is. `BadLine` where it is none, `OutOfMemory` where memory is refused.
+/// The row of a table of children, from a text. `BadLine` if the text is no row, `OutOfMemory` if memory is
+/// refused.
 pub fn row_of(alloc: Global, text: &str) -> Result<TableRow, Stop> {
     let (head, rest) = line_of(text)?;
     let (words, rest) = line_of(rest)?;
@@ -45,7 +46,7 @@ fn status_of(text: &str) -> Result<u8, Stop> {
     }
 }
 
-/// The fault of a child that has this name. `BadLine` where none has it.
+/// The fault of a child with this name. `BadLine` if no fault has it.
 pub fn fault_of(word: &[u8]) -> Result<Fault, Stop> {
     match text_of(word)? {
         "not started" => Ok(Fault::NotStarted),

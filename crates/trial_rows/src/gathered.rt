@@ -5,8 +5,9 @@ use crate::stop::Stop;
 use std::alloc::Global;
 use std::fmt::{Debug, Display};
 
-/// The answer to a call, put together piece by piece. A piece for which there is no memory is remembered, so that only the end
-/// asks whether all went well, since each question costs the checker more than a piece.
+/// The answer to a call, put together piece by piece. If there is no memory for a piece, the answer keeps
+/// this, and only the end asks whether all went well: each such question takes longer to check than a
+/// piece.
 #[derive(Drop)]
 pub struct Answer {
     alloc: Global,
@@ -24,31 +25,31 @@ impl Answer {
         }
     }
 
-    /// What gives the answer its memory.
+    /// The allocator of the answer.
     pub fn alloc(&self) -> Global {
         self.alloc
     }
 
-    /// Puts bytes behind the answer.
+    /// Appends bytes to the answer.
     pub fn add(&mut self, bytes: &[u8]) {
         if self.bytes.extend_from_slice(bytes).is_err() {
             self.is_refused = true;
         }
     }
 
-    /// The answer with these bytes behind it.
+    /// The answer with these bytes appended.
     pub fn bytes(self, bytes: &[u8]) -> Answer {
         let mut answer = self;
         answer.add(bytes);
         answer
     }
 
-    /// The answer with a text behind it.
+    /// The answer with a text appended.
     pub fn text(self, text: &str) -> Answer {
         self.bytes(text.as_bytes())
     }
 
-    /// The answer with these texts behind it.
+    /// The answer with these texts appended.
     pub fn texts(self, texts: &[&str]) -> Answer {
         let mut answer = self;
         answer.add_all(texts);
@@ -61,7 +62,7 @@ impl Answer {
         }
     }
 
-    /// The answer with what a value is shown as behind it.
+    /// The answer with a value appended, as `Display` shows it.
     pub fn shown(self, value: impl Display + Drop) -> Answer {
         match value.to_string(self.alloc) {
             Ok(text) => self.text(text.as_str()),
@@ -69,7 +70,7 @@ impl Answer {
         }
     }
 
-    /// The answer with what `Debug` shows a value as behind it.
+    /// The answer with a value appended, as `Debug` shows it.
     pub fn debug(self, value: impl Debug + Drop) -> Answer {
         match format!(in self.alloc; "{value:?}") {
             Ok(text) => self.text(text.as_str()),
@@ -77,7 +78,7 @@ impl Answer {
         }
     }
 
-    /// The answer, for a piece of which there was no memory.
+    /// The answer, marked: there was no memory for a piece of it.
     pub fn refused(self) -> Answer {
         let mut answer = self;
         answer.is_refused = true;
@@ -89,7 +90,8 @@ impl Answer {
         self.bytes.as_slice()
     }
 
-    /// The line that answers so, without its end. `OutOfMemory` where memory was refused to a piece, or is to the line.
+    /// The line of this answer, without its end. `OutOfMemory` if memory was refused for a piece, or is
+    /// refused for the line.
     pub fn line(&self) -> Result<String, Stop> {
         if self.is_refused {
             return Err(Stop::OutOfMemory);

@@ -1,10 +1,13 @@
-//! The rows that programs for tests are asked by, one a line of standard input, and the lines by which they answer.
+//! The rows by which programs for tests are asked, one per line of standard input, and the lines by which
+//! they answer.
 //!
-//! A [`Row`] is a call's name and its arguments, which stand in the line in hexadecimal digits, `-` for one without bytes,
-//! parted by single blanks. A program is [`play`] over its [`Answers`], each an [`Answer`] that is put together piece by
-//! piece; `answer_line` makes a line of bytes that are one. A [`Stop`] says why a play ends before its last row. [`Words`] are
-//! arguments that are taken one after another, [`row_of`] and [`fault_of`] say how children answer or fail, and [`verdict_of`] how a
-//! run ended. It serves tests alone, and has no contracts.
+//! A [`Row`] is a call's name and its arguments. In the line they are separated by single blanks, and each
+//! argument is in hexadecimal digits, or `-` if it has no bytes. A program is [`play`] over its
+//! [`Answers`], each an [`Answer`] that is put together piece by piece; `answer_line` makes a line of an
+//! answer's bytes. A [`Stop`] says why a play ends before its last row.
+//!
+//! [`Words`] are arguments that are taken one after another. [`row_of`] and [`fault_of`] say how children
+//! answer or fail, and [`verdict_of`] how a run ended. Only tests use this crate, and it has no contracts.
 #![tactic(auto)]
 
 mod answer;

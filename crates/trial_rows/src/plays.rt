@@ -9,12 +9,14 @@ use std::process::ExitCode;
 
 /// What answers the rows of a play.
 pub trait Answers {
-    /// The answer to a row. `NoCall` where no call has its name, `BadLine` where the call doesn't take its arguments,
-    /// `TwoAnswers` where two ways to ask for the same differ, and `OutOfMemory` where the program itself is refused memory.
+    /// The answer to a row. It is `NoCall` if no call has its name, and `BadLine` if the call doesn't take
+    /// its arguments. It is `TwoAnswers` if two ways to ask for the same differ, and `OutOfMemory` if the
+    /// program itself is refused memory.
     fn answer_to(&self, alloc: Global, row: &Row) -> Result<Answer, Stop>;
 }
 
-/// Answers each line of standard input by a line, and says how the program ends. What stops the play is told on standard error.
+/// Answers each line of standard input by a line, and returns the exit status of the program. What stops
+/// the play is reported on standard error.
 pub fn play(rt: &(impl Input + Print + Eprint + AllocGlobal), answers: &impl Answers) -> ExitCode {
     match played(rt, answers) {
         Ok(()) => ExitCode::SUCCESS,

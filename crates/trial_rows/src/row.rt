@@ -13,7 +13,8 @@ pub struct Row {
 }
 
 impl Row {
-    /// The row of a line. `BadLine` where an argument is no hexadecimal digits, `OutOfMemory` where memory is refused.
+    /// The row of a line. `BadLine` if an argument isn't hexadecimal digits, `OutOfMemory` if memory is
+    /// refused.
     pub fn read(alloc: Global, line: &str) -> Result<Row, Stop> {
         let mut words = line.split(' ');
         let call = String::from_str(alloc, words.next().unwrap_or(""))?;

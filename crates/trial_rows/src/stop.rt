@@ -5,24 +5,25 @@ use hook_base::{OutOfMemory, PathFault};
 use std::alloc::{AllocError, AllocFailed};
 use std::io;
 
-/// Why a play ends before its last row. It holds nothing, so that what may end a play costs the checker little.
+/// Why a play ends before its last row. It holds nothing, so a function that may end a play is quick to
+/// check.
 #[derive(Clone, Copy)]
 pub enum Stop {
-    /// No call has the line's first word for its name.
+    /// No call has the line's first word as its name.
     NoCall,
     /// The line isn't a name and hexadecimal digits, or the call doesn't take these arguments.
     BadLine,
-    /// Two ways to ask for the same gave two answers.
+    /// Two ways to ask for the same gave different answers.
     TwoAnswers,
     /// The program itself was refused memory.
     OutOfMemory,
-    /// Standard input can't be read, or standard output takes nothing.
+    /// Standard input can't be read, or standard output can't be written.
     Io,
 }
 
 impl Stop {
-    /// The exit status of the program: 2 for a line that is no call, 3 for want of memory, 4 for two answers, 1 for input
-    /// or output that failed.
+    /// The exit status of the program: 1 if input or output failed, 2 for a line that is no call, 3 if
+    /// memory was refused, 4 for two answers.
     pub fn status(self) -> u8 {
         match self {
             Stop::NoCall | Stop::BadLine => 2,
@@ -32,7 +33,7 @@ impl Stop {
         }
     }
 
-    /// What is said on standard error.
+    /// The message on standard error.
     pub fn message(self) -> &'static str {
         match self {
             Stop::NoCall => "no call has this name",

@@ -1,4 +1,4 @@
-//! How a run ended, in a word.
+//! How a run ended, as a word.
 
 /// The word for whether every hook passed.
 pub fn verdict_of(passed: bool) -> &'static str {

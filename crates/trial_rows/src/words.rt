@@ -21,7 +21,8 @@ impl<'a> Words<'a> {
         Some(word.as_slice())
     }
 
-    /// Takes the next word if it is this one, and says whether it is. `BadLine` where the next word isn't UTF-8.
+    /// Takes the next word if it is this one, and says whether it is. `BadLine` if the next word isn't
+    /// UTF-8.
     pub fn take(&mut self, word: &str) -> Result<bool, Stop> {
         let [next, others @ ..] = self.left else {
             return Ok(false);
@@ -33,23 +34,24 @@ impl<'a> Words<'a> {
         Ok(true)
     }
 
-    /// Takes the next word. `BadLine` where there is none.
+    /// Takes the next word. `BadLine` if there is none.
     pub fn bytes(&mut self) -> Result<&'a [u8], Stop> {
         self.next().ok_or(Stop::BadLine)
     }
 
-    /// Takes the next word, as its text. `BadLine` where there is none, or it isn't UTF-8.
+    /// Takes the next word, as its text. `BadLine` if there is none, or it isn't UTF-8.
     pub fn text(&mut self) -> Result<&'a str, Stop> {
         text_of(self.bytes()?)
     }
 
-    /// Takes the next word, as its number. `BadLine` where there is none, or it is no number of 32 bits.
+    /// Takes the next word, as its number. `BadLine` if there is none, or it is no number of 32 bits.
     pub fn number(&mut self) -> Result<u32, Stop> {
         number_of(self.bytes()?)
     }
 }
 
-/// Takes the next word, and answers the mode that it names, or none for `none`. `BadLine` for any other word, or where there is none.
+/// Takes the next word, and returns the mode that it names, or none for `none`. `BadLine` for any other
+/// word, or if there is none.
 pub fn mode_of(words: &mut Words<'_>) -> Result<Option<Mode>, Stop> {
     match words.text()? {
         "plain" => Ok(Some(Mode::Plain)),

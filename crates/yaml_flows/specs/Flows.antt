@@ -1,5 +1,5 @@
--- What a flow means: lists in brackets and tables in braces. (YAML 1.2.2, sections 7.4.1 "Flow Sequences" and 7.4.2
--- "Flow Mappings".) What a reading gives is a value, and the characters that follow it.
+-- What a flow means: lists in brackets and tables in braces. (YAML 1.2.2, sections 7.4.1 "Flow Sequences"
+-- and 7.4.2 "Flow Mappings".) Reading gives a value, and the characters that follow it.
 use Rattle.std.specs.Prelude.{ℕ, zero, suc, Bool, not, ◌&&◌, ◌||◌, List, [], ◌∷◌, Option, Some, None, option_map, option_and_then, length, drop, ◌==◌, if◌then◌else◌}
 use Rattle.std.specs.List.{list_any}
 use Rattle.yaml_lines.specs.Characters.{begins_with, is_nil}
@@ -13,38 +13,38 @@ pub record Found (A : Type 0) : Type 0 where
   pub value : A
   pub rest : List ℕ
 
--- the same rest behind another value
+-- another value with the same rest
 abbrev pub mapped : {A B : Type 0} → (A → B) → Found A → Found B
 mapped f found = record { value = f found.value; rest = found.rest }
 
 -- ---- parts between commas
 
--- Where the next part or the closing bracket stands, if these characters follow a part and its gap: behind the comma, or
--- at the bracket.
+-- What begins with the next part or the closing bracket, if these characters follow a part and its gap:
+-- what follows the comma, or the bracket itself. A comma may come before the closing bracket.
 abbrev pub next_part : ℕ → List ℕ → Option (List ℕ)
 next_part close [] = None
 next_part close (c ∷ cs) = if c == 44 then Some (after_gap cs) else (if c == close then Some (c ∷ cs) else None)
 
--- the part that stands first, and what follows it from the next part or the closing bracket on
+-- the first part, and what follows it from the next part or the closing bracket on
 abbrev pub part : {A : Type 0} → ℕ → (List ℕ → Option (Found A)) → List ℕ → Option (Found A)
 part close read cs =
     option_and_then (λ found. option_map (λ rest. record { value = found.value; rest = rest }) (next_part close (after_gap found.rest))) (read cs)
 
--- the parts up to the closing bracket, of which there are fewer than `most`
+-- the parts up to the closing bracket; there are fewer than `most`
 unfoldable pub parts_within : {A : Type 0} → ℕ → (List ℕ → Option (Found A)) → ℕ → List ℕ → Option (Found (List A))
 parts_within close read zero cs = None
 parts_within close read (suc most) cs =
     if begins_with close cs then Some (record { value = []; rest = drop 1 cs })
     else option_and_then (λ found. option_map (mapped (λ more. found.value ∷ more)) (parts_within close read most found.rest)) (part close read cs)
 
--- All parts behind an opening bracket. Each takes a character and so does the closing bracket, so there are fewer than
--- characters.
+-- All parts after an opening bracket. Each takes a character, and so does the closing bracket, so there are
+-- fewer parts than characters.
 abbrev pub parts : {A : Type 0} → ℕ → (List ℕ → Option (Found A)) → List ℕ → Option (Found (List A))
 parts close read cs = parts_within close read (length (after_gap cs)) (after_gap cs)
 
 -- ---- a table's entries
 
--- what follows a key's colon; behind a plain key the colon is one that ends it
+-- What follows a key's colon. After a plain key the colon must be one that ends it.
 abbrev pub behind_colon : Bool → List ℕ → Option (List ℕ)
 behind_colon quoted [] = None
 behind_colon quoted (c ∷ cs) = if is_key_end quoted c cs then Some cs else None
@@ -58,7 +58,7 @@ row_of node key =
 abbrev pub entry : (List ℕ → Option (Found Meaning)) → List ℕ → Option (Found Row)
 entry node cs = option_and_then (row_of node) (text_at cs)
 
--- a table's rows, of which no key stands twice
+-- a table's rows, if no key occurs twice
 abbrev pub distinct : Found (List Row) → Option (Found (List Row))
 distinct found = if keys_differ found.value then Some found else None
 
@@ -76,8 +76,8 @@ text_node t = record { value = text t.text t.quoted; rest = t.rest }
 abbrev pub text_node_at : List ℕ → Option (Found Meaning)
 text_node_at cs = option_map text_node (text_at cs)
 
--- The node that the characters begin with: a list behind `[`, a table behind `{`, else a text. At most `room` nodes may
--- lie within one another there; keys aren't nodes.
+-- The node that the characters begin with: a list after `[`, a table after `{`, otherwise a text. At most
+-- `room` nodes may be nested there; keys aren't nodes.
 unfoldable pub node : ℕ → List ℕ → Option (Found Meaning)
 node zero cs = None
 node (suc room) [] = None
@@ -88,14 +88,14 @@ node (suc room) (c ∷ cs) =
 abbrev pub begins_flow : List ℕ → Bool
 begins_flow cs = begins_with 91 cs || begins_with 123 cs
 
--- behind the last bracket: blanks and a comment at most, and no further line
+-- after the last bracket: blanks and a comment at most, and no further line
 abbrev pub is_end : List ℕ → Bool
 is_end cs = is_nil (after_gap cs) && not (list_any is_feed cs)
 
 abbrev pub whole : Found Meaning → Option Meaning
 whole found = if is_end found.rest then Some found.value else None
 
--- What the whole text of a flow means, its lines joined by line feeds, where at most `room` nodes may lie within one
--- another.
+-- What the whole text of a flow means, its lines joined by line feeds, if at most `room` nodes may be
+-- nested.
 unfoldable pub flow_meaning : ℕ → List ℕ → Option Meaning
 flow_meaning room cs = if begins_flow cs then option_and_then whole (node room cs) else None

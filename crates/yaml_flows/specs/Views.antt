@@ -1,5 +1,5 @@
--- What the answers of the reader's inner calls stand for, which no reader of `read_flow` needs: what was read with what
--- follows it, and a row that is read while some keys were seen.
+-- What the answers of the reader's inner calls mean, which no reader of `read_flow` needs: what was read
+-- with what follows it, and a row that is read while some keys were seen.
 use Rattle.std.specs.Prelude.{ℕ, Bool, true, ◌||◌, List, Option, Some, None, String, take, nat_lt, string_bytes, if◌then◌else◌}
 use Rattle.std.specs.List.{list_any}
 use Rattle.std.specs.Str.{bytes_eq}
@@ -11,7 +11,7 @@ use Rattle.yaml_flows.specs.Keys.{Row}
 use Rattle.yaml_flows.specs.declared.found.Found.{Found as FoundIn}
 use Rattle.yaml_flows.specs.declared.found.FlowText.{FlowText as TextIn}
 
--- so many rows of a table are looked through for a key; the keys of later ones are kept apart
+-- so many rows of a table are searched for a key; the keys of later ones are kept apart
 abbrev pub few : ℕ
 few = 8
 
@@ -19,11 +19,11 @@ few = 8
 abbrev pub is_among : List (String Global × Node) → List ℕ → Bool
 is_among rows key = list_any (λ row. bytes_eq key (string_bytes row.0)) rows
 
--- one of the rows has this key, by the keys that are kept of the later ones
+-- one of the rows has this key; `later` has the keys of the later rows
 unfoldable pub is_seen : List (String Global × Node) → (List ℕ → Bool) → List ℕ → Bool
 is_seen rows later key = is_among (take few rows) key || later key
 
--- a later row has the key `q`, once a row with this key stands behind `count` others
+-- a later row has the key `q`, once a row with this key follows `count` others
 abbrev pub seen_later : ℕ → List ℕ → (List ℕ → Bool) → List ℕ → Bool
 seen_later count key later q =
     if nat_lt count few then later q else (if bytes_eq key q then true else later q)

@@ -1,4 +1,6 @@
-//! What may stand behind a flow.
+//! What may follow a flow.
+//!
+//! The contracts cite `specs/Flows.antt`.
 
 ghost use Rattle.std.specs.Prelude.{◌≡◌, ◌↔◌, IsOk, true};
 ghost use Rattle.std.specs.List.{list_any};
@@ -14,8 +16,8 @@ fn has_feed(text: &[char]) -> bool
     text.iter().any(|c| *c == '\n')
 }
 
-/// What stands behind a flow's last bracket is blanks and a comment at most, and no further line. Anything else is
-/// `Layout` where it stands.
+/// What follows a flow's last bracket is blanks and a comment at most, and no further line. Anything else
+/// is `Layout` at its first character, or in the last line.
 pub(crate) fn end(rest: &[char]) -> Result<(), FlowFault>
     ensures { IsOk result ↔ (is_end rest.now ≡ true) }
 {

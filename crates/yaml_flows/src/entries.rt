@@ -1,4 +1,6 @@
-//! What stands between the parts of a flow: commas, colons and closing brackets.
+//! What comes between the parts of a flow: commas, colons and closing brackets. (YAML 1.2.2, section 7.4.)
+//!
+//! The contracts cite `specs/Flows.antt`.
 
 ghost use Rattle.std.specs.Prelude.{◌≡◌, false, true, MatchOption, drop, option_map};
 ghost use Rattle.yaml_flows.specs.Flows as flows;
@@ -18,7 +20,8 @@ pub(crate) fn behind(mark: char, text: &[char]) -> Option<&[char]>
     }
 }
 
-/// Where the next part or the closing bracket stands, if these characters follow a part and its gap.
+/// The characters from the next part or the closing bracket on, if these characters follow a part and its
+/// gap.
 pub(crate) fn next_part(close: char, text: &[char]) -> Option<&[char]>
     ensures { option_map (λ rest. rest.now) result ≡ flows.next_part close text.now }
 {
@@ -29,7 +32,7 @@ pub(crate) fn next_part(close: char, text: &[char]) -> Option<&[char]>
     }
 }
 
-/// What follows a key's colon. Behind a plain key the colon must end it.
+/// What follows a key's colon. After a plain key the colon must end it. (YAML 1.2.2, section 7.4.2.)
 pub(crate) fn behind_colon(quoted: bool, text: &[char]) -> Option<&[char]>
     ensures { option_map (λ rest. rest.now) result ≡ flows.behind_colon quoted text.now }
 {
@@ -39,7 +42,8 @@ pub(crate) fn behind_colon(quoted: bool, text: &[char]) -> Option<&[char]>
     }
 }
 
-/// Why no item follows the item `item`, behind whose gap `rest` stands: as `Unsupported` where the item is the key of a pair.
+/// Why no further item follows the item `item`, after whose gap `rest` comes. It is `Unsupported` if the
+/// item is the key of a pair (YAML 1.2.2, section 7.4.1), otherwise `Layout`.
 pub(crate) fn no_next_item(item: &[char], rest: &[char]) -> FlowFault {
     let is_key = match item {
         ['[' | '{', ..] => false,
@@ -54,8 +58,8 @@ pub(crate) fn no_next_item(item: &[char], rest: &[char]) -> FlowFault {
     fault_at(kind, rest)
 }
 
-/// Why no colon follows a key, behind whose gap `rest` stands: as `Unsupported` where the key ends without a colon at one of
-/// `, [ ] { }`, as `Layout` where another text follows it or nothing.
+/// Why no colon follows a key, after whose gap `rest` comes. It is `Unsupported` if the key ends without a
+/// colon at one of `, [ ] { }`, and `Layout` if another text or nothing follows it.
 pub(crate) fn no_colon(rest: &[char]) -> FlowFault {
     let kind = match rest {
         [',' | '[' | ']' | '{' | '}', ..] => YamlKind::Unsupported,

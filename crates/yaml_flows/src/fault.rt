@@ -6,10 +6,10 @@ use std::alloc::{AllocError, AllocFailed};
 use thiserror::Error;
 use yaml_lines::YamlKind;
 
-/// Where in the text of a flow a fault is.
+/// The place of a fault in the text of a flow.
 #[derive(Clone, Copy, Debug, PartialEq, Eq)]
 pub enum FaultPlace {
-    /// At a character. From it on, `feeds_left` line feeds stand in the text.
+    /// At a character. `feeds_left` counts the line feeds in the text from it on.
     Within { feeds_left: usize },
     /// At the end of the text: a closing bracket is missing. The kind is `Layout` there.
     End,
@@ -21,7 +21,7 @@ pub enum FaultPlace {
 pub struct FlowFault {
     /// Why it can't be read.
     pub kind: YamlKind,
-    /// It says nothing where memory was refused.
+    /// Where. It says nothing if memory was refused.
     pub place: FaultPlace,
 }
 
@@ -70,7 +70,8 @@ pub(crate) fn in_last_line(kind: YamlKind) -> FlowFault
     }
 }
 
-/// Why no text begins here: as `Unsupported` where a form begins that this profile leaves out, else as `Layout`.
+/// Why no text begins here: `Unsupported` if a form begins that this profile leaves out, otherwise
+/// `Layout`.
 pub(crate) fn no_text(rest: &[char]) -> FlowFault {
     let kind = match rest {
         ['&' | '*' | '!' | '%' | '@' | '`', ..] | ['?', ' ' | '\t', ..] => YamlKind::Unsupported,
@@ -79,7 +80,7 @@ pub(crate) fn no_text(rest: &[char]) -> FlowFault {
     fault_at(kind, rest)
 }
 
-/// Why no node is read where no further one may lie within the others. An empty place is no node.
+/// Why no node is read when no further one may be nested. An empty place is no node.
 pub(crate) fn no_room(rest: &[char]) -> FlowFault {
     let kind = match rest {
         [] | [',' | ']' | '}', ..] => YamlKind::Layout,

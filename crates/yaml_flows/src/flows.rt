@@ -1,4 +1,6 @@
 //! The nodes of a flow: lists, tables and texts.
+//!
+//! The contracts cite `specs/Flows.antt`.
 
 ghost use Rattle.std.specs.Prelude.{◌≡◌, ◌≤◌, ℕ, List, [], ◌∷◌, IfOk, if◌then◌else◌, true, string_bytes, length};
 ghost use Rattle.std.specs.BTreeSet.{contains_text};
@@ -18,19 +20,22 @@ use std::alloc::Global;
 use std::collections::BTreeSet;
 use yaml_lines::{Node, YamlKind, after_gap};
 
-/// The node of a whole flow: of the content of its lines, the first from the bracket on, joined by line feeds. At most `room`
-/// nodes may lie within one another, the flow itself among them; keys aren't nodes. There is room for
-/// [`MOST_NODES`](yaml_lines::MOST_NODES) at most, which bounds the depth of the calls.
+/// The node of a whole flow. `text` is the content of its lines, the first from the bracket on, joined by
+/// line feeds. At most `room` nodes may be nested, the flow itself among them; keys aren't nodes. `room` is
+/// at most [`MOST_NODES`](yaml_lines::MOST_NODES), which bounds the depth of the calls.
 ///
-/// The text begins with `[` or `{`. Comments may stand in it behind a blank or at a line's start, and behind the flow's last
-/// bracket stand blanks and a comment at most. Any other text is a fault, at the first place at which it can't be read:
+/// The text begins with `[` or `{`. Comments may come after a blank or at a line's start. Only blanks and a
+/// comment follow the flow's last bracket. Any other text is a fault, at the first place at which it can't
+/// be read:
 ///
-/// - `Unsupported` at a form that this profile leaves out: `[key: value]`, a key without a colon, an anchor and its like,
-///   `? `, and an escape that [`read_quoted`](yaml_lines::read_quoted) doesn't read;
-/// - `Quote` at a quoted text that doesn't end on its line;
-/// - `DoubledKey` at a key that stands in its table already, quoted or not;
+/// - `Unsupported` at a form that this profile leaves out: `[key: value]`, a key without a colon, an anchor
+///   and its like, `? `, and an escape that [`read_quoted`](yaml_lines::read_quoted) doesn't read;
+/// - `Quote` at a quoted text that doesn't end on its line, and at the code of a surrogate;
+/// - `DoubledKey` at a key that its table already has, quoted or not;
 /// - `TooDeep` at a node for which there is no room;
-/// - `Layout` else, and at the end of the text if a closing bracket is missing.
+/// - `Layout` otherwise, and at the end of the text if a closing bracket is missing.
+///
+/// `OutOfMemory` says nothing of the text.
 ///
 /// (YAML 1.2.2, sections 7.3.3 "Plain Style", 7.4.1 "Flow Sequences" and 7.4.2 "Flow Mappings".)
 #[tactic(auto, unfolding(crate::specs::Flows::flow_meaning))]
@@ -81,8 +86,8 @@ fn text_node<'a>(alloc: Global, text: &'a [char]) -> Result<Found<'a, Node>, Flo
     })
 }
 
-// The list behind whose opening bracket the characters stand. Each item takes a character, and so does the closing bracket,
-// so a turn for each character is enough.
+// The list whose opening bracket these characters follow. Each item takes a character, and so does the
+// closing bracket, so one turn per character is enough.
 #[cycle(flows)]
 fn list<'a>(alloc: Global, inner: &'a [char], room: usize) -> Result<Found<'a, Node>, FlowFault>
     ensures { Gives (seen_by view) result (flows.list_at (flows.node room) inner.now) }
@@ -117,10 +122,11 @@ fn item<'a>(alloc: Global, text: &'a [char], room: usize) -> Result<Found<'a, No
     }
 }
 
-// Room for so many rows is taken at once: most tables in a flow have one or two, and a row takes much memory.
+// Room for so many rows is taken at once: most tables in a flow have one or two, and a row takes much
+// memory.
 const FIRST_ROWS: usize = 2;
 
-// The same for a table.
+// The table whose opening brace these characters follow. One turn per character is enough here too.
 #[cycle(flows)]
 fn table<'a>(alloc: Global, inner: &'a [char], room: usize) -> Result<Found<'a, Node>, FlowFault>
     ensures { Gives (seen_by view) result (flows.table_at (flows.node room) inner.now) }
@@ -143,8 +149,8 @@ fn table<'a>(alloc: Global, inner: &'a [char], room: usize) -> Result<Found<'a, 
     Err(fault_at(YamlKind::Layout, rest))
 }
 
-// A row of a table behind these rows, and what follows it from the next row or the closing brace on. `later` has the keys
-// of the later ones of them.
+// A further row of a table, after these rows, and what follows it from the next row or the closing brace
+// on. `later` has the keys of the later ones of these rows.
 #[cycle(flows)]
 fn row<'a>(
     alloc: Global,
@@ -166,8 +172,8 @@ fn row<'a>(
     }
 }
 
-// The same without the gap and the comma: a key with its value. The key counts as seen before its value is read, so a
-// doubled key is named before a fault of its value.
+// A key with its value, without the gap and the comma after it. The key counts as seen before its value is
+// read, so a doubled key is reported before a fault of its value.
 #[cycle(flows)]
 fn entry<'a>(
     alloc: Global,

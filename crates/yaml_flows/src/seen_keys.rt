@@ -1,4 +1,6 @@
 //! The keys of a table that were seen.
+//!
+//! The contracts cite `specs/Views.antt`.
 
 ghost use Rattle.std.specs.Prelude.{◌≡◌, ◌≢◌, ℕ, List, length, take, true, false, OnOk, IfErr, if◌then◌else◌};
 ghost use Rattle.std.specs.BTreeSet.{contains_text};
@@ -11,7 +13,8 @@ use std::alloc::Global;
 use std::collections::BTreeSet;
 use yaml_lines::{Node, YamlKind};
 
-// The keys of so many rows are compared one by one. Those of later rows stand in a set too, which most tables never need.
+// The keys of so many rows are compared one by one. Those of later rows are also in a set, which most
+// tables never need.
 const FEW: usize = 8;
 
 // The rows whose keys are compared one by one.
@@ -28,7 +31,7 @@ fn is_among(rows: &[(String, Node)], key: &str) -> bool
     rows.iter().any(|row| row.0.as_str() == key)
 }
 
-// The set holds the key from now on. One that it held before is `DoubledKey`.
+// Adds the key to the set. A key that the set already has is `DoubledKey` at `place`.
 fn put(
     alloc: Global,
     later: &mut BTreeSet<String>,
@@ -48,8 +51,9 @@ fn put(
     }
 }
 
-/// The key that stands first in `place` is that of the row behind these rows. `later` has the keys of the later ones of
-/// them, and from now on this one where it's among those. A key that was seen before is `DoubledKey` there.
+/// Marks the key, which `place` begins with, as that of the row after these rows. `later` has the keys of
+/// the later ones of these rows; this key is added if its row is a later one too. A key that was seen
+/// before is `DoubledKey` at `place`.
 #[tactic(auto, unfolding(crate::specs::Views::is_seen))]
 pub(crate) fn see(
     alloc: Global,

@@ -1,4 +1,6 @@
 //! The texts of a flow, plain or quoted.
+//!
+//! The contracts cite `FlowTexts.antt` of `yaml_lines`.
 
 ghost use Rattle.std.specs.Prelude.{◌≡◌};
 ghost use Rattle.yaml_flows.specs.Faults.{Gives};
@@ -39,7 +41,7 @@ fn quoted_at<'a>(alloc: Global, text: &'a [char]) -> Result<FlowText<'a>, FlowFa
     }
 }
 
-/// The text, plain or quoted, that the characters begin with.
+/// The text, plain or quoted, that the characters begin with. (YAML 1.2.2, sections 7.3.1 to 7.3.3.)
 #[tactic(auto, unfolding(yaml_lines::specs::FlowTexts::text_at))]
 pub(crate) fn text_at<'a>(alloc: Global, text: &'a [char]) -> Result<FlowText<'a>, FlowFault>
     ensures { Gives text_seen result (texts.text_at text.now) }

@@ -1,5 +1,5 @@
--- What the law of literal block texts speaks of: lines that are all indented alike, and the text that they are. (YAML
--- 1.2.2, section 8.1.2 "Literal Style".)
+-- Words of the law of literal block texts: lines that are all indented alike, and the text that they are.
+-- (YAML 1.2.2, section 8.1.2 "Literal Style".)
 use Rattle.std.specs.Prelude.{ℕ, Bool, true, false, not, ◌&&◌, ◌++◌, List, [], ◌∷◌, map, replicate, encode_utf8_all}
 use Rattle.std.specs.List.{flat_map}
 use Rattle.yaml_lines.specs.BlockTexts.{LineText}
@@ -11,7 +11,7 @@ use Rattle.yaml_lines.specs.declared.header.Header.{Header}
 abbrev pub literal : Chomping → Header
 literal chomping = record { folded = false; chomping = chomping }
 
--- the line behind so many spaces, with an end
+-- the line after so many spaces, with an end
 abbrev pub indented : ℕ → List ℕ → LineText
 indented margin line = record { text = replicate margin 32 ++ line; ended = true }
 

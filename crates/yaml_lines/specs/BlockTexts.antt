@@ -1,5 +1,5 @@
--- Block texts: their headers, the lines that belong to them, and their text. (YAML 1.2.2, section 8.1 "Block Scalar
--- Styles".)
+-- Block texts: their headers, the lines that belong to them, and their text. (YAML 1.2.2, section 8.1
+-- "Block Scalar Styles".)
 use Rattle.std.specs.Prelude.{ℕ, Bool, true, false, not, suc, ◌&&◌, ◌||◌, ◌++◌, List, [], ◌∷◌, map, length, take, drop, replicate, Option, Some, None, nat_lt, nat_le, ◌==◌, if◌then◌else◌, encode_utf8_all}
 use Rattle.std.specs.List.{prefix_len, list_all, list_any, flat_map}
 use Rattle.yaml_lines.specs.Characters.{is_space, is_blank, is_nil, is_over}
@@ -7,12 +7,12 @@ use Rattle.yaml_lines.specs.declared.header.Chomping.{Chomping}
 use Rattle.yaml_lines.specs.declared.header.Chomping.TheVariants.{Strip, Clip, Keep}
 use Rattle.yaml_lines.specs.declared.header.Header.{Header}
 
--- a line as it stands in the text, without its end, and whether it has one
+-- a line as it is in the text, without its end, and whether it has one
 pub record LineText : Type 0 where
   pub text : List ℕ
   pub ended : Bool
 
--- what stands behind a header's `|` or `>`
+-- the header, from what follows its `|` or `>`
 abbrev pub header_behind : Bool → List ℕ → Option Header
 header_behind folded [] = Some (record { folded = folded; chomping = Clip })
 header_behind folded (c ∷ cs) =
@@ -36,8 +36,9 @@ all_spaces line = list_all is_space line.text
 abbrev pub spaces : LineText → ℕ
 spaces line = prefix_len is_space line.text
 
--- The indentation of the text whose header belongs to a key or dash at `column`: that of the first line that isn't all
--- spaces, where it is deeper; none where there is no such line, and then the text has no text line.
+-- The indentation of the text whose header belongs to a key or dash at `column`. It is that of the first
+-- line that isn't all spaces, if that line is deeper. Otherwise there is none, and the text has no text
+-- line. (Section 8.1.1.1 "Block Indentation Indicator".)
 unfoldable pub margin_of : ℕ → List LineText → Option ℕ
 margin_of column [] = None
 margin_of column (l ∷ ls) =
@@ -51,13 +52,14 @@ belongs (Some margin) line = all_spaces line || nat_le margin (spaces line)
 abbrev pub extent : Option ℕ → List LineText → ℕ
 extent margin ls = prefix_len (belongs margin) ls
 
--- before the first line that isn't all spaces stands one of more spaces than the margin
+-- Before the first line that isn't all spaces comes one with more spaces than the margin. Section 8.1.1.1
+-- makes that an error.
 unfoldable pub is_ragged : Option ℕ → List LineText → Bool
 is_ragged None ls = false
 is_ragged (Some margin) [] = false
 is_ragged (Some margin) (l ∷ ls) = all_spaces l && (nat_lt margin (length l.text) || is_ragged (Some margin) ls)
 
--- a line's part behind the margin
+-- a line's part after the margin
 abbrev pub behind_margin : Option ℕ → LineText → List ℕ
 behind_margin None line = []
 behind_margin (Some margin) line = drop margin line.text
@@ -84,9 +86,9 @@ abbrev pub next_begins_blank : List LineText → Bool
 next_begins_blank [] = false
 next_begins_blank (line ∷ lines) = if is_nil line.text then next_begins_blank lines else begins_blank line.text
 
--- What the end of a line becomes where one of the lines behind it is a text line. It stays a line feed, but for that of a
--- folded text line: if neither it nor the next text line begins with a blank, its end is a space, or nothing before empty
--- lines, whose own ends stay. (Section 8.1.3 "Folded Style".)
+-- What the end of a line becomes if one of the lines after it is a text line. It stays a line feed, except
+-- in folded text between two text lines that don't begin with a blank. There it is a space, or nothing
+-- before empty lines, whose own ends stay. (Section 8.1.3 "Folded Style".)
 abbrev pub line_end : Bool → LineText → List LineText → List ℕ
 line_end folded line later =
     if not folded || is_nil line.text || begins_blank line.text || next_begins_blank later then 10 ∷ []
@@ -96,8 +98,8 @@ line_end folded line later =
 abbrev pub feeds_of : List LineText → List ℕ
 feeds_of lines = flat_map (λ line. if line.ended then 10 ∷ [] else []) lines
 
--- What the ends of the last text line and of the empty lines behind it become. Where there is no text line, these are the
--- ends of all lines. (Section 8.1.1.2 "Block Chomping Indicator".)
+-- What the ends of the last text line and of the empty lines after it become. If there is no text line,
+-- these are the ends of all lines. (Section 8.1.1.2 "Block Chomping Indicator".)
 abbrev pub last_ends : Chomping → LineText → List LineText → List ℕ
 last_ends Strip line later = []
 last_ends Clip line later = if is_nil line.text then [] else take 1 (feeds_of (line ∷ later))
@@ -114,16 +116,17 @@ joined header (line ∷ later) =
 abbrev pub block_text : Header → Option ℕ → List LineText → List ℕ
 block_text header margin ls = joined header (map (without_margin margin) ls)
 
--- ---- for contracts of private functions alone
+-- ---- only for contracts of private functions
 
--- What stands before a text line with k empty lines before it. `before` says of the text line before those whether it
--- begins with a blank, none if there is none, and `blank` whether this one does.
+-- What comes before a text line with k empty lines before it. `before` says whether the text line before
+-- those begins with a blank; it is none if there is no such line. `blank` says whether this text line
+-- begins with one.
 abbrev pub between : Bool → Option Bool → ℕ → Bool → List ℕ
 between folded None k blank = replicate k 10
 between folded (Some before) k blank =
     if not folded || before || blank then replicate (suc k) 10 else (if k == 0 then 32 ∷ [] else replicate k 10)
 
--- what stands behind the last text line, from which on `ends` lines have an end
+-- What follows the last text line. `ends` counts the line ends from that line on.
 abbrev pub behind_last : Chomping → Option Bool → ℕ → List ℕ
 behind_last Strip before ends = []
 behind_last Clip None ends = []

@@ -1,7 +1,8 @@
--- Which lines stand within a flow: those before which one of its brackets is open. What is open is counted over the
--- flow's tokens, in the words that say what a flow means: brackets, commas, the colons of keys, and texts, with gaps
--- between them. No token goes over a line's end. The count is right for a flow that is read; of another it doesn't
--- matter, since the reader of flows refuses it. (YAML 1.2.2, section 7.4 "Flow Collection Styles".)
+-- Which lines are within a flow: those before which one of its brackets is open. What is open is counted
+-- over the flow's tokens: brackets, commas, the colons of keys, and texts, with gaps between them. The
+-- meaning of a flow uses the same definitions. No token goes over a line's end. The count is right for a
+-- flow that is read. For another it doesn't matter, since the reader of flows refuses it. (YAML 1.2.2,
+-- section 7.4 "Flow Collection Styles".)
 use Rattle.std.specs.Prelude.{ℕ, zero, suc, Bool, false, ◌-◌, ◌||◌, List, [], ◌∷◌, Option, Some, None, length, nat_lt, ◌==◌, if◌then◌else◌}
 use Rattle.yaml_lines.specs.FlowGaps.{after_gap, after_start}
 use Rattle.yaml_lines.specs.FlowTexts.{FlowText, is_key_end, text_at}
@@ -24,7 +25,8 @@ outside = state 0 false
 abbrev pub is_closed : Open → Bool
 is_closed s = s.depth == 0
 
--- one bracket more: in no flow that is read are more open than nodes may lie within one another, and no more are counted
+-- One bracket more. Brackets are counted up to the most nodes that may be nested: a flow that is read never
+-- has more open.
 abbrev pub one_deeper : ℕ → ℕ
 one_deeper depth = if nat_lt depth most_nodes then suc depth else depth
 
@@ -36,18 +38,18 @@ is_opening c = c == 91 || c == 123
 abbrev pub is_closing : ℕ → Bool
 is_closing c = c == 93 || c == 125
 
--- what is open behind a token, and the characters that follow it
+-- what is open after a token, and the characters that follow it
 pub record Behind : Type 0 where
   pub state : Open
   pub rest : List ℕ
 
--- behind the text, if one stands first, else behind one character
+-- after the text, if one comes first, otherwise after one character
 abbrev pub behind_text : ℕ → List ℕ → Option FlowText → Behind
 behind_text depth cs None = record { state = state depth false; rest = cs }
 behind_text depth cs (Some text) = record { state = state depth text.quoted; rest = text.rest }
 
--- Behind the token that the characters begin with: a bracket, a comma, the colon of a key, or a text. A character that
--- begins none of them is passed over.
+-- After the token that the characters begin with: a bracket, a comma, the colon of a key, or a text. A
+-- character that begins none of them is skipped.
 unfoldable pub behind_token : Open → List ℕ → Behind
 behind_token s [] = record { state = s; rest = [] }
 behind_token s (c ∷ cs) =
@@ -56,7 +58,7 @@ behind_token s (c ∷ cs) =
     else (if c == 44 || is_key_end s.quoted c cs then record { state = state s.depth false; rest = cs }
     else behind_text s.depth cs (text_at (c ∷ cs))))
 
--- Behind these tokens, of which there are at most so many. Where no bracket is open any more the flow is over.
+-- After these tokens, at most `most` of them. The flow is over once no bracket is open.
 unfoldable pub behind_tokens : ℕ → Open → List ℕ → Behind
 behind_tokens zero s cs = record { state = s; rest = cs }
 behind_tokens (suc most) s [] = record { state = s; rest = [] }
@@ -64,11 +66,11 @@ behind_tokens (suc most) s (c ∷ cs) =
     let next = behind_token s (c ∷ cs) in
     if is_closed next.state then next else behind_tokens most next.state (after_gap next.rest)
 
--- behind all tokens of these characters, each of which takes a character, or behind the flow's last bracket
+-- after all tokens of these characters, each of which takes a character, or after the flow's last bracket
 abbrev pub behind_all : Open → List ℕ → Behind
 behind_all s cs = behind_tokens (length cs) s cs
 
--- what is open behind a line with these characters, of a flow of which so much was open before it
+-- what is open after a line with these characters, if `s` was open before it
 unfoldable pub skim : Open → List ℕ → Open
 skim s line = (behind_all s (after_start line)).state
 
@@ -76,6 +78,6 @@ abbrev pub begins_flow : List ℕ → Bool
 begins_flow [] = false
 begins_flow (c ∷ _) = is_opening c
 
--- what is open behind a line that stands in no flow and has this as its last value
+-- what is open after a line outside of flows that has this as its last value
 abbrev pub state_behind : List ℕ → Open
 state_behind value = if begins_flow value then skim outside value else outside

@@ -1,5 +1,5 @@
--- What the law of comments and empty lines speaks of: which lines say nothing, and which begin a block text. (YAML 1.2.2,
--- sections 6.6 "Comments" and 8.1 "Block Scalar Styles".)
+-- Words of the law of comments and empty lines: which lines say nothing, and which begin a block text.
+-- (YAML 1.2.2, sections 6.6 "Comments" and 8.1 "Block Scalar Styles".)
 use Rattle.std.specs.Prelude.{ℕ, Bool, true, false, not, ◌&&◌, ◌||◌, ◌==◌, List, drop, Option, Some, None}
 use Rattle.std.specs.List.{filter, list_all}
 use Rattle.yaml_lines.specs.BlockTexts.{LineText, begins_block, spaces}
@@ -18,11 +18,11 @@ abbrev pub is_block : Option ColumnValue → Bool
 is_block None = false
 is_block (Some value) = begins_block value.content
 
--- the value that stands last on the line begins with `|` or `>`
+-- the last value on the line begins with `|` or `>`
 abbrev pub begins_text : LineText → Bool
 begins_text line = is_block (last_value (spaces line) None (drop (spaces line) line.text))
 
--- neither `|` nor `>` stands on the line, so its last value begins with neither
+-- the line has neither `|` nor `>`, so its last value begins with neither
 abbrev pub holds_no_bar : LineText → Bool
 holds_no_bar line = list_all (λ c. not (c == 124 || c == 62)) line.text
 

@@ -1,6 +1,6 @@
--- The lines of a text, and the content lines that they leave once comments, empty lines, the lines of block texts and the
--- document's mark are gone. (YAML 1.2.2, sections 5.4 "Line Break Characters", 6.1 "Indentation Spaces", 6.6 "Comments"
--- and 9.1 "Documents".)
+-- The lines of a text, and the content lines that they leave without comments, empty lines, the lines of
+-- block texts and the document's mark. (YAML 1.2.2, sections 5.4 "Line Break Characters", 6.1 "Indentation
+-- Spaces", 6.6 "Comments" and 9.1 "Documents".)
 use Rattle.std.specs.Prelude.{ℕ, Bool, true, false, not, zero, suc, ◌+◌, ◌&&◌, ◌||◌, List, [], ◌∷◌, take, drop, Option, Some, None, option_map, option_and_then, ◌==◌, if◌then◌else◌}
 use Rattle.std.specs.List.{prefix_len, list_all, list_any}
 use Rattle.yaml_lines.specs.BlockTexts.{LineText, header_of, begins_block, margin_of, extent, is_ragged, block_text}
@@ -11,7 +11,7 @@ use Rattle.yaml_lines.specs.declared.standing.Standing.{Standing}
 use Rattle.yaml_lines.specs.Entries.{ContentLine, KeyAndValue, entry_of}
 use Rattle.yaml_lines.specs.FlowLines.{outside, is_closed, skim, state_behind}
 
--- one character more in front of the first line
+-- one character more before the first line
 abbrev pub before_lines : ℕ → List LineText → List LineText
 before_lines c [] = record { text = c ∷ []; ended = false } ∷ []
 before_lines c (l ∷ ls) = record { text = c ∷ l.text; ended = l.ended } ∷ ls
@@ -33,13 +33,13 @@ pub record ColumnValue : Type 0 where
   pub column : ℕ
   pub content : List ℕ
 
--- the value of the entry that stands at `at`, or of the last dash before it
+-- the value of the entry at `at`; without one, the value of the last dash before it
 abbrev pub value_at : ℕ → Option ℕ → List ℕ → Option KeyAndValue → Option ColumnValue
 value_at at dash content (Some entry) = Some (record { column = at; content = entry.value })
 value_at at dash content None = option_map (λ column. record { column = column; content = content }) dash
 
--- The value that stands last on a line, behind its dashes and its key. `at` is the column of the first character, `dash`
--- that of the last dash before it. None where nothing follows, and where there is neither a dash nor a key.
+-- The last value on a line, after its dashes and its key. `at` is the column of the first character, `dash`
+-- that of the last dash before it. None if nothing follows, and if there is neither a dash nor a key.
 unfoldable pub last_value : ℕ → Option ℕ → List ℕ → Option ColumnValue
 last_value at dash [] = None
 last_value at dash (c ∷ cs) =
@@ -47,7 +47,7 @@ last_value at dash (c ∷ cs) =
     else (if c == 45 && blank_or_end cs then last_value (at + 1) (Some at) cs
     else value_at at dash (c ∷ cs) (entry_of (c ∷ cs)))
 
--- what a line leaves: its content line, or none if it holds only blanks or a comment, and where the next line stands
+-- what a line leaves: where the next line is, and a content line unless it holds only blanks or a comment
 pub record Left : Type 0 where
   pub content_line : Option ContentLine
   pub next : Standing
@@ -55,12 +55,12 @@ pub record Left : Type 0 where
 abbrev pub standing : ℕ → FlowState → Standing
 standing taken flow = record { taken = taken; flow = flow }
 
--- a content line without a block text, behind which this flow is open
+-- a content line without a block text, after which this flow is open
 abbrev pub bare : ℕ → List ℕ → FlowState → Left
 bare indent content flow = record { content_line = Some (record { indent = indent; content = content; block = None }); next = standing 0 flow }
 
--- a content line whose last value is a block text with this header and margin; none where a line before its text is
--- ragged
+-- a content line whose last value is a block text with this header and margin; none if a line before its
+-- text is ragged
 unfoldable pub with_text : ℕ → List ℕ → List LineText → Option ℕ → Header → Option Left
 with_text indent content later margin header =
     if is_ragged margin later then None
@@ -69,8 +69,8 @@ with_text indent content later margin header =
       next = standing (extent margin later) outside;
     })
 
--- a content line with the block text or the flow that its last value begins, if it begins one; none where a header can't be
--- read
+-- a content line with the block text or the flow that its last value begins, if it begins one; none if a
+-- header can't be read
 unfoldable pub with_value : ℕ → List ℕ → List LineText → Option ColumnValue → Option Left
 with_value indent content later None = Some (bare indent content (state_behind content))
 with_value indent content later (Some value) =
@@ -78,13 +78,14 @@ with_value indent content later (Some value) =
     then option_and_then (with_text indent content later (margin_of value.column later)) (header_of value.content)
     else Some (bare indent content (state_behind value.content))
 
--- a content line: within a flow no line has a value of its own
+-- a content line: a line within a flow has no value of its own
 unfoldable pub with_flow : FlowState → ℕ → List ℕ → List LineText → Option Left
 with_flow flow indent content later =
     if is_closed flow then with_value indent content later (last_value indent None content)
     else Some (bare indent content (skim flow content))
 
--- what a line leaves before these later lines; none if it can't be read. A tab can't indent.
+-- What a line leaves, if these lines follow it; none if it can't be read. A tab can't indent. (Section 6.1
+-- "Indentation Spaces".)
 unfoldable pub left_of : FlowState → List ℕ → List LineText → Option Left
 left_of flow text later =
     let n = prefix_len is_space text in
@@ -99,7 +100,7 @@ left_by zero flow text later = left_of flow text later
 left_by (suc taken) flow text later =
     if list_all is_allowed text then Some (record { content_line = None; next = standing taken flow }) else None
 
--- what a line leaves by where it stands
+-- what a line leaves at its place
 unfoldable pub left_at : Standing → List ℕ → List LineText → Option Left
 left_at at text later = left_by at.taken at.flow text later
 
@@ -107,31 +108,32 @@ abbrev pub before_content_lines : Option ContentLine → List ContentLine → Li
 before_content_lines None later = later
 before_content_lines (Some p) later = p ∷ later
 
--- the content lines of all lines, of which the first stands so
+-- the content lines of all lines, the first of which is at this place
 unfoldable pub all_content_lines : Standing → List LineText → Option (List ContentLine)
 all_content_lines at [] = Some []
 all_content_lines at (l ∷ ls) =
     option_and_then (λ left. option_map (before_content_lines left.content_line) (all_content_lines left.next ls)) (left_at at l.text ls)
 
--- three times the character
+-- the first three characters are `m`
 abbrev pub three : ℕ → List ℕ → Bool
 three m (a ∷ b ∷ c ∷ cs) = a == m && b == m && c == m
 three m _ = false
 
--- a line without indentation that marks a document: `---` or `...` before a blank or the end, or a directive
+-- a line without indentation that marks a document: `---` or `...` before a blank or the end, or a
+-- directive (sections 9.1.2 "Document Markers" and 6.8 "Directives")
 abbrev pub is_mark : ContentLine → Bool
 is_mark p =
     p.indent == 0
     && ((three 45 p.content && blank_or_end (drop 3 p.content)) || (three 46 p.content && blank_or_end (drop 3 p.content)) || begins_with 37 p.content)
 
--- `---` alone, but for a comment
+-- `---`, with at most a comment after it (section 9.1.4 "Explicit Documents")
 abbrev pub is_start : ContentLine → Bool
 is_start p = p.indent == 0 && three 45 p.content && is_over (drop 3 p.content)
 
 abbrev pub unmarked : List ContentLine → Option (List ContentLine)
 unmarked ps = if list_any is_mark ps then None else Some ps
 
--- the content lines of the one document: `---` alone may stand first, and no other mark stands anywhere
+-- the content lines of the one document: `---` alone may come first, and no other mark anywhere
 unfoldable pub document : List ContentLine → Option (List ContentLine)
 document [] = Some []
 document (p ∷ ps) = if is_start p then unmarked ps else unmarked (p ∷ ps)

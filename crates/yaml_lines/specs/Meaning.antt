@@ -1,5 +1,5 @@
--- What a YAML text means in this profile: a tree of texts, lists, tables and empty nodes. Texts and keys are the bytes
--- of their characters in UTF-8. (YAML 1.2.2, chapter 3.2.1, "Representation Graph".)
+-- What a YAML text means in this profile: a tree of texts, lists, tables and empty nodes. Texts and keys
+-- are the bytes of their characters in UTF-8. (YAML 1.2.2, section 3.2.1 "Representation Graph".)
 use Rattle.std.specs.Prelude.{ℕ, Bool, List, [], ◌∷◌}
 
 mutual
@@ -26,7 +26,7 @@ abbrev pub members_of : List (List ℕ × Meaning) → Members
 members_of [] = no_members
 members_of (m ∷ ms) = member m.0 m.1 (members_of ms)
 
--- the most nodes that may lie within one another, keys not among them: a node lies within at most 32 others
+-- the most nodes that may be nested, not counting keys: a node lies within at most 32 others
 abbrev pub most_nodes : ℕ
 most_nodes = 33
 

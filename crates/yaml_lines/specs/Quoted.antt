@@ -1,9 +1,9 @@
--- Quoted texts on one line. (YAML 1.2.2, sections 5.7 "Escaped Characters", 7.3.1 "Double-Quoted Style" and 7.3.2
--- "Single-Quoted Style".)
+-- Quoted texts on one line. (YAML 1.2.2, sections 5.7 "Escaped Characters", 7.3.1 "Double-Quoted Style" and
+-- 7.3.2 "Single-Quoted Style".)
 use Rattle.std.specs.Prelude.{ℕ, Bool, false, zero, suc, ◌+◌, ◌*◌, ◌&&◌, ◌||◌, ◌++◌, List, [], ◌∷◌, length, Option, Some, None, option_map, option_and_then, nat_lt, nat_le, ◌==◌, if◌then◌else◌, encode_utf8}
 use Rattle.std.specs.Char.{digit_value}
 
--- one character of a quoted text, or no more characters, and what follows
+-- one character of a quoted text, or none at its end, and what follows
 pub record Step : Type 0 where
   pub character : Option ℕ
   pub rest : List ℕ
@@ -20,7 +20,7 @@ single_step (c ∷ cs) =
     if c == 39 then Some (after_quote cs)
     else (if c == 10 then None else Some (record { character = Some c; rest = cs }))
 
--- the character of a code; none of a surrogate's
+-- the character of a code; none for a surrogate's
 abbrev pub coded : List ℕ → ℕ → Option Step
 coded rest code = if nat_le 0xD800 code && nat_lt code 0xE000 then None else Some (record { character = Some code; rest = rest })
 
@@ -40,7 +40,7 @@ four_digits (a ∷ b ∷ c ∷ d ∷ rest) =
     option_and_then (λ high. option_and_then (λ low. coded rest (high * 256 + low)) (pair_of c d)) (pair_of a b)
 four_digits _ = None
 
--- the character that a letter stands for behind a backslash
+-- the character that a letter names after a backslash (section 5.7 "Escaped Characters" has more of them)
 unfoldable pub named : ℕ → Option ℕ
 named c =
     if c == 92 || c == 34 || c == 47 then Some c
@@ -49,7 +49,7 @@ named c =
     else (if c == 114 then Some 13
     else (if c == 48 then Some 0 else None))))
 
--- what stands behind a backslash
+-- the character of an escape, from what follows its backslash
 unfoldable pub escaped : List ℕ → Option Step
 escaped [] = None
 escaped (c ∷ cs) =

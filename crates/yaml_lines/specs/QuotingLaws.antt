@@ -1,10 +1,11 @@
--- What the law of quoting speaks of: a plain text that stands alone in its content, and the content with quotes around
--- it. (YAML 1.2.2, sections 7.3.1 "Double-Quoted Style", 7.3.2 "Single-Quoted Style" and 7.3.3 "Plain Style".)
+-- Words of the law of quoting: a plain text alone in its content, and the content with quotes around it.
+-- (YAML 1.2.2, sections 7.3.1 "Double-Quoted Style", 7.3.2 "Single-Quoted Style" and 7.3.3 "Plain Style".)
 use Rattle.std.specs.Prelude.{◌≡◌, ℕ, Bool, true, not, ◌||◌, ◌++◌, List, [], ◌∷◌, Some, ◌==◌, if◌then◌else◌}
 use Rattle.std.specs.List.{list_all, flat_map}
 use Rattle.yaml_lines.specs.Plain.{plain_of, trim_end, uncommented}
 
--- the content is a plain text of these bytes and nothing else: it holds no comment, and no blank stands at its end
+-- the content is a plain text of these bytes and nothing else: it holds no comment, and no blank is at its
+-- end
 pub record IsPlainAlone (content bytes : List ℕ) : Type 0 where
   pub plain : plain_of content ≡ Some bytes
   pub without_comment : uncommented true content ≡ content
@@ -26,11 +27,11 @@ fits_double content = list_all (λ c. not (c == 34 || c == 92 || c == 10)) conte
 abbrev pub doubled : ℕ → List ℕ
 doubled c = if c == 39 then 39 ∷ 39 ∷ [] else c ∷ []
 
--- a backslash in front of a double quote and a backslash, and `\n` for a line feed
+-- a backslash before a double quote and before a backslash, and `\n` for a line feed
 abbrev pub escaped : ℕ → List ℕ
 escaped c = if c == 34 || c == 92 then 92 ∷ c ∷ [] else (if c == 10 then 92 ∷ 110 ∷ [] else c ∷ [])
 
--- the characters, each written so
+-- the characters, each written by `write`
 abbrev pub written : (ℕ → List ℕ) → List ℕ → List ℕ
 written write characters = flat_map write characters
 

@@ -5,11 +5,11 @@ use Rattle.yaml_lines.specs.Meaning.{Meaning, text}
 use Rattle.yaml_lines.specs.Plain.{plain_of}
 use Rattle.yaml_lines.specs.Quoted.{Quoted, begins_quoted, quoted_of}
 
--- a quoted text behind which nothing but blanks and a comment stands
+-- a quoted text with nothing but blanks and a comment after it
 abbrev pub alone : Quoted → Option Meaning
 alone quoted = if is_over quoted.rest then Some (text quoted.text true) else None
 
--- what a whole content means as a text; blanks and a comment may stand behind it
+-- what a whole content means as a text; blanks and a comment may follow it
 unfoldable pub scalar_meaning : List ℕ → Option Meaning
 scalar_meaning content =
     if begins_quoted content then option_and_then alone (quoted_of content)

@@ -1,4 +1,4 @@
--- The meaning that a `Node` stands for, wherever its texts and vectors lie in memory.
+-- The meaning of a `Node`, wherever its texts and vectors lie in memory.
 use Rattle.std.specs.Prelude.{ℕ, List, map, String, string_bytes}
 use Rattle.std.specs.declared.alloc.Global.{Global}
 use Rattle.yaml_lines.specs.Meaning.{Meaning, text, list, table, empty, meanings_of, members_of}

@@ -1,4 +1,5 @@
--- Lemmas: what a `Node` stands for, at each of its variants. Proofs of other crates cite them; no contract does.
+-- Lemmas: the meaning of a `Node`, for each of its variants. Proofs of other crates cite them; no contract
+-- does.
 use Rattle.std.specs.Prelude.{◌≡◌, ℕ, Bool, List, [], ◌∷◌, map, String, Vec, string_bytes}
 use Rattle.std.proofs.Common.{rules, refl, ap, ◌∙◌}
 use Rattle.std.specs.declared.alloc.Global.{Global}

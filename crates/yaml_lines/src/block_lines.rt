@@ -1,4 +1,4 @@
-//! The lines of a block text: its header, its indentation, and how far it goes.
+//! The lines of a block text: its header, its indentation, and how many lines belong to it.
 //!
 //! The contracts cite `specs/BlockTexts.antt`.
 
@@ -16,7 +16,8 @@ pub fn begins_block(value: &[char]) -> bool
     matches!(value, ['|' | '>', ..])
 }
 
-// Why what stands behind `|` or `>` is no mark: a digit would give the indentation, which this profile leaves out.
+// Why the characters after `|` or `>` are no mark. A digit would give the indentation (YAML 1.2.2, section
+// 8.1.1.1), which this profile leaves out.
 fn header_fault(text: &[char]) -> YamlKind {
     match text {
         ['0'..='9', ..] | ['-' | '+', '0'..='9', ..] => YamlKind::Unsupported,
@@ -24,7 +25,7 @@ fn header_fault(text: &[char]) -> YamlKind {
     }
 }
 
-// The header of which this stands behind `|` or `>`.
+// The header whose `|` or `>` these characters follow. (YAML 1.2.2, section 8.1.1.)
 fn header_behind(folded: bool, text: &[char]) -> Result<Header, YamlKind>
     ensures { GivesSurely (λ header. header) result (header_behind folded text.now) }
 {
@@ -60,7 +61,8 @@ pub(crate) fn header_of(value: &[char]) -> Result<Header, YamlKind>
     }
 }
 
-// The indentation of the block text that follows a header of a key or dash at `column`, if it has a text line.
+// The indentation of the block text whose header belongs to a key or dash at `column`. None if it has no
+// text line. (YAML 1.2.2, section 8.1.1.1.)
 pub(crate) fn margin_of(column: usize, later: &[RawLine]) -> Option<usize>
     ensures { result ≡ margin_of column later.now }
 {
@@ -99,7 +101,8 @@ pub(crate) fn extent(margin: Option<usize>, later: &[RawLine]) -> usize
     later.len()
 }
 
-// Where the first line stands that has more spaces than the indentation and comes before the first text line.
+// Index of the first line that has more spaces than the indentation, among those before the first text
+// line. YAML 1.2.2, section 8.1.1.1, makes such a line an error.
 pub(crate) fn ragged_at(margin: Option<usize>, later: &[RawLine]) -> Option<usize>
     ensures found { is_some result ≡ is_ragged margin later.now }
     ensures within { IfSome result (λ at. at < length later.now) }

@@ -10,8 +10,8 @@ use crate::{Chomping, Header, RawLine};
 use std::alloc::{AllocError, Global};
 use std::marker::Model;
 
-/// A block text: its header, its indentation if it has a text line, and the lines that belong to it. Contracts see its
-/// text in UTF-8.
+/// A block text: its header, its indentation if it has a text line, and the lines that belong to it.
+/// Contracts see its text in UTF-8.
 #[derive(Debug, Drop)]
 pub struct BlockText<'a, 'b> {
     header: Header,
@@ -40,7 +40,7 @@ impl<'a, 'b> BlockText<'a, 'b> {
         }
     }
 
-    /// The same block text once more.
+    /// A copy of the block text, over the same lines.
     pub fn again(&self) -> BlockText<'a, 'b>
         ensures { result ≡ self.now }
     {
@@ -51,7 +51,7 @@ impl<'a, 'b> BlockText<'a, 'b> {
         }
     }
 
-    /// The text.
+    /// The text, with its lines joined and its last line ends chomped.
     pub fn text(&self, alloc: Global) -> Result<String, AllocError>
         ensures { IfOk result (λ text. string_bytes text ≡ self.now) }
     {
@@ -91,7 +91,7 @@ fn joined(
     Ok(text)
 }
 
-// The line's characters behind the margin. They are none where the text has no text line.
+// The line's characters after the margin. There are none if the text has no text line.
 fn behind_margin<'a>(margin: Option<usize>, line: &RawLine<'a>) -> &'a [char]
     ensures { result.now ≡ behind_margin margin line.now }
 {
@@ -137,7 +137,8 @@ fn push_characters(text: &mut String, characters: &[char]) -> Result<(), AllocEr
     Ok(())
 }
 
-// What stands before a text line: line feeds, or in folded text between two lines that don't begin with a blank a space.
+// What comes before a text line: line feeds, or a space in folded text between two lines that don't begin
+// with a blank. (YAML 1.2.2, section 8.1.3.)
 fn push_between(
     text: &mut String,
     folded: bool,
@@ -160,7 +161,7 @@ fn push_between(
     push_feeds(text, empties)
 }
 
-// What stands behind the last text line.
+// What follows the last text line. (YAML 1.2.2, section 8.1.1.2.)
 fn push_end(
     text: &mut String,
     chomping: Chomping,

@@ -1,4 +1,6 @@
-//! The content lines of a text: what its lines leave without comments, empty lines and the lines of block texts.
+//! The content lines of a text: its lines without comments, empty lines and the lines of block texts.
+//!
+//! The contracts cite `specs/Lines.antt`.
 
 ghost use Rattle.std.specs.Prelude.{◌≡◌, ◌+◌, ◌^◌, ◌<◌, ◌≤◌, IfOk, IfErr, IfSome, length};
 ghost use Rattle.yaml_lines.specs.Characters.{most_bytes};
@@ -20,14 +22,14 @@ use std::marker::Model;
 /// The lines of a text that were read before the first fault.
 #[derive(Drop)]
 pub struct Lines<'a, 'b> {
-    /// All lines that hold something, if there is no fault, else those before it.
+    /// All lines that hold something if there is no fault, otherwise those before it.
     pub lines: Vec<Line<'a, 'b>>,
-    /// The first fault, in one of the text's lines. It is never want of memory.
+    /// The first fault, in one of the text's lines. It is never `OutOfMemory`.
     pub fault: Option<YamlFault>,
 }
 
-// What one line of the text leaves: its line, or none if it holds only blanks or a comment or is a block text's, and
-// where the next line stands.
+// What one line of the text leaves: its content line, and where the next line is. There is no content line
+// if the line holds only blanks or a comment, or belongs to a block text.
 #[derive(Drop)]
 struct LeftLine<'a, 'b> {
     line: Option<Line<'a, 'b>>,
@@ -42,7 +44,7 @@ impl<'a, 'b> Model for LeftLine<'a, 'b> {
     ghost view = { λ left. record { content_line = left.line; next = left.next } };
 }
 
-// A line without a block text, behind which this flow is open.
+// A line without a block text. After it, this flow is open.
 fn bare<'a, 'b>(
     number: usize,
     indent: usize,
@@ -90,7 +92,7 @@ fn with_text<'a, 'b>(
     })
 }
 
-// A line with the block text or the flow that its last value begins, if it begins one.
+// A line, with the block text or the flow that its last value begins, if it begins one.
 #[tactic(auto, unfolding(crate::specs::Lines::with_value))]
 fn with_value<'a, 'b>(
     number: usize,
@@ -123,7 +125,7 @@ fn with_value<'a, 'b>(
     }
 }
 
-// A line that stands within this flow, or outside of flows.
+// A line within this flow, or outside of flows.
 #[tactic(auto, unfolding(crate::specs::Lines::with_flow))]
 fn with_flow<'a, 'b>(
     alloc: Global,
@@ -145,7 +147,7 @@ fn with_flow<'a, 'b>(
     with_value(number, indent, content, later, value)
 }
 
-// What the line leaves before these later lines.
+// What the line leaves, if these lines follow it. A tab can't indent (YAML 1.2.2, section 6.1).
 fn left_of<'a, 'b>(
     alloc: Global,
     flow: FlowState,
@@ -181,7 +183,7 @@ fn left_of<'a, 'b>(
     with_flow(alloc, flow, number, indent, content, later)
 }
 
-// What the line leaves by where it stands: a block text's line leaves nothing.
+// What the line leaves at this place. A line of a block text leaves nothing.
 #[tactic(auto, unfolding(crate::specs::Lines::left_at))]
 fn left_at<'a, 'b>(
     alloc: Global,
@@ -213,7 +215,8 @@ fn left_at<'a, 'b>(
     })
 }
 
-// Whether the line marks a document: by `---`, `...` or a directive.
+// Whether the line is a document mark or a directive: `---`, `...` or `%`. (YAML 1.2.2, sections 9.1.2 and
+// 6.8.)
 fn is_mark(line: &Line) -> bool
     ensures { result ≡ is_mark line.now }
 {
@@ -225,7 +228,7 @@ fn is_mark(line: &Line) -> bool
         }
 }
 
-// Whether the line is `---` alone, but for a comment.
+// Whether the line is `---`, with at most a comment after it. (YAML 1.2.2, section 9.1.4.)
 fn is_start(line: &Line) -> bool
     ensures { result ≡ is_start line.now }
 {
@@ -236,13 +239,18 @@ fn is_start(line: &Line) -> bool
         }
 }
 
-/// The lines that hold something, without a `---` that stands alone before the others and without those of block texts,
-/// up to the first fault.
+/// The lines that hold something, up to the first fault. A `---` alone on the first of them is left out,
+/// and so are the lines of block texts.
 ///
-/// A tab in an indentation is `TabIndent`. A control character other than a tab or a line's end, a carriage return
-/// without a line feed too, a document's mark in any other place and a block text's header with a digit are
-/// `Unsupported`; another header, and a line of more spaces than the first text line of its block text before that line,
-/// are `Layout`.
+/// A tab in an indentation is `TabIndent`.
+///
+/// These are `Unsupported`:
+/// - a control character other than a tab or a line's end, and a carriage return without a line feed;
+/// - a document's mark in any other place;
+/// - a block text's header with a digit.
+///
+/// Any other bad header is `Layout`. So is a line with more spaces than the first text line of its block
+/// text, if it comes before that line.
 pub fn read_lines<'a, 'b>(
     alloc: Global,
     raws: &'a [RawLine<'b>],

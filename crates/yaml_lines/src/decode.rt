@@ -1,4 +1,4 @@
-//! From bytes to characters.
+//! From bytes to characters. (YAML 1.2.2, section 5.2.)
 //!
 //! The contracts cite `specs/Characters.antt` and `specs/Faults.antt`.
 
@@ -20,7 +20,7 @@ fn before(bytes: &[u8], at: usize) -> &[u8]
     &bytes[..at]
 }
 
-// The line in which a byte stands behind these.
+// The line of a byte that follows these bytes.
 fn line_behind(bytes: &[u8]) -> usize
     requires { length bytes.now ≤ most_bytes }
     ensures { result ≡ line_behind bytes.now }
@@ -41,7 +41,7 @@ fn each_a_character(alloc: Global, bytes: &[u8]) -> Result<Vec<char>, AllocError
     bytes.iter().map(|byte| char::from(*byte)).collect(alloc)
 }
 
-// All characters of the text. Those of a text in ASCII are its bytes, which is the quick way for most texts.
+// All characters of the text. Those of an ASCII text are its bytes, which is the quick way for most texts.
 fn all_characters(alloc: Global, text: &str) -> Result<Vec<char>, AllocError>
     ensures value { IfOk result (λ all. all.items ≡ chars text.now) }
     ensures few { IfOk result (λ all. vec_len all ≤ length text.now) }
@@ -65,8 +65,9 @@ fn without_mark(mut all: Vec<char>) -> Vec<char>
 
 /// The characters of the bytes, without a byte order mark at the start.
 ///
-/// More bytes than [`MOST_BYTES`], and nothing else, are `TooLarge` in line 1. Others that aren't UTF-8 are `NotUtf8` in
-/// the line of the first byte that no character holds. `OutOfMemory`, in line 0, may come of any bytes.
+/// More bytes than [`MOST_BYTES`], and nothing else, are `TooLarge` in line 1. Other bytes that aren't
+/// UTF-8 are `NotUtf8` in the line of the first byte that belongs to no character. `OutOfMemory`, in line
+/// 0, is possible for any bytes.
 pub fn characters(alloc: Global, bytes: &[u8]) -> Result<Vec<char>, YamlFault>
     ensures meant { Gives (λ v. v.items) result (characters_of bytes.now) }
     ensures few { IfOk result (λ v. vec_len v ≤ most_bytes) }

@@ -1,4 +1,4 @@
-//! A table's entry: a key and what stands behind its colon.
+//! A table's entry: a key, and what follows its colon. (YAML 1.2.2, section 8.2.2.)
 //!
 //! The contracts cite `specs/Entries.antt`.
 
@@ -14,7 +14,8 @@ use crate::{YamlKind, read_quoted};
 use std::alloc::{AllocError, Global};
 use std::marker::Model;
 
-/// A table's key, and the value behind its colon. Contracts see the key's text in UTF-8 and the value's characters.
+/// A table's key, and the value after its colon. Contracts see the key's text in UTF-8 and the value's
+/// characters.
 #[derive(Debug, Drop)]
 pub struct Entry<'a> {
     key: String,
@@ -39,7 +40,7 @@ impl<'a> Entry<'a> {
         key
     }
 
-    /// The characters that follow the blanks behind the colon. They are empty where nothing or a comment follows.
+    /// The characters that follow the colon and its blanks. They are empty if nothing or a comment follows.
     pub fn value(&self) -> &'a [char]
         ensures { result.now ≡ self.now.value }
     {
@@ -47,7 +48,7 @@ impl<'a> Entry<'a> {
     }
 }
 
-// What follows the colon that the characters begin with, if they begin with one that is followed by a blank or the end.
+// What follows the colon that the characters begin with. None unless a blank or the end follows that colon.
 fn behind_colon<'a>(text: &'a [char]) -> Option<&'a [char]>
     ensures { option_copied result ≡ behind_colon text.now }
 {
@@ -63,7 +64,7 @@ fn behind_colon<'a>(text: &'a [char]) -> Option<&'a [char]>
     }
 }
 
-// The value behind a colon, without the blanks before it. It is empty where nothing or a comment follows.
+// The value after a colon, without the blanks before it. It is empty if nothing or a comment follows.
 fn value_behind<'a>(text: &'a [char]) -> &'a [char]
     ensures { result.now ≡ value_behind text.now }
 {
@@ -109,8 +110,8 @@ fn quoted_entry<'a>(alloc: Global, content: &'a [char]) -> Result<Option<Entry<'
     }))
 }
 
-/// The entry that a content is: a plain or quoted text as its key, a `:` that is followed by a blank or the end, and a
-/// value. None where the content begins in another way.
+/// The entry that a content is. Its key is a plain or quoted text, then comes a `:` before a blank or the
+/// end, then a value. None if the content begins in another way.
 #[tactic(auto, unfolding(crate::specs::Entries::entry_of))]
 pub fn read_entry<'a>(alloc: Global, content: &'a [char]) -> Result<Option<Entry<'a>>, AllocError>
     ensures { IfOk result (λ entry. entry ≡ entry_of content.now) }

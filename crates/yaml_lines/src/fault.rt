@@ -13,22 +13,22 @@ pub enum YamlKind {
     /// The bytes aren't UTF-8.
     #[error("not UTF-8")]
     NotUtf8,
-    /// A tab stands where only spaces can indent.
+    /// A tab where only spaces can indent. (YAML 1.2.2, section 6.1.)
     #[error("a tab in the indentation")]
     TabIndent,
     /// The text uses a form of YAML that this profile leaves out.
     #[error("not supported")]
     Unsupported,
-    /// The lines form no node.
+    /// The lines don't form a node.
     #[error("bad layout")]
     Layout,
-    /// A quoted text doesn't end on its line, or holds no character where it names one.
+    /// A quoted text doesn't end on its line, or an escape names no character.
     #[error("bad quoted text")]
     Quote,
-    /// A key stands in its table already.
+    /// The table already has this key.
     #[error("doubled key")]
     DoubledKey,
-    /// A node lies within too many others.
+    /// A node is nested within too many others.
     #[error("nested too deeply")]
     TooDeep,
     /// The text has too many bytes.
@@ -60,13 +60,13 @@ impl YamlKind {
     }
 }
 
-/// A refusal to read a text, and where.
+/// A refusal to read a text, and its line.
 #[derive(Clone, Copy, Debug, PartialEq, Eq, Error)]
 #[error("line {line}: {kind}")]
 pub struct YamlFault {
     /// Why it can't be read.
     pub kind: YamlKind,
-    /// The first line at which the text can't be read, from 1. It is 0 where memory was refused.
+    /// The first line at which the text can't be read, from 1. It is 0 if memory was refused.
     pub line: usize,
 }
 

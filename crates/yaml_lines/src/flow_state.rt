@@ -1,4 +1,6 @@
-//! Where the lines of a flow end: how many of its brackets are open, kept from line to line.
+//! Where the lines of a flow end: the number of its open brackets, kept from line to line.
+//!
+//! The contracts cite `specs/FlowLines.antt`.
 
 ghost use Rattle.std.specs.Prelude.{◌≡◌, option_map};
 ghost use Rattle.yaml_lines.specs.FlowLines as flows;
@@ -10,7 +12,8 @@ use crate::gap::{after_gap, after_start};
 use crate::quoted_text::begins_quoted;
 use std::marker::Model;
 
-// How many brackets are open, and whether the last token was a quoted text, behind which a colon ends a key in any case.
+// How many brackets are open, and whether the last token was a quoted text. After a quoted text any colon
+// ends the key (YAML 1.2.2, section 7.4.2).
 #[derive(Clone, Copy)]
 pub(crate) struct FlowState {
     depth: usize,
@@ -18,7 +21,7 @@ pub(crate) struct FlowState {
 }
 
 impl FlowState {
-    // Before a flow, or behind its end.
+    // Before a flow, or after its end.
     pub(crate) fn outside() -> FlowState
         ensures { result ≡ flows.outside }
     {
@@ -36,7 +39,7 @@ impl FlowState {
     }
 }
 
-// What is open behind a token, and the characters that follow it.
+// What is open after a token, and the characters that follow it.
 #[derive(Drop)]
 struct Behind<'a> {
     state: FlowState,
@@ -64,14 +67,15 @@ impl<'a> Behind<'a> {
     }
 }
 
-// No more brackets are counted than may be open in a flow that is read.
+// One bracket more. The count stops at the most brackets that a flow can have open and still be read.
 fn one_deeper(depth: usize) -> usize
     ensures { result ≡ flows.one_deeper depth }
 {
     if depth < MOST_NODES { depth + 1 } else { depth }
 }
 
-// Behind the text that the characters begin with, else behind the first of them, which `others` follow.
+// After the text that the characters begin with. If they begin with no text, after the first of them, which
+// `others` follow.
 fn text_token<'a>(depth: usize, text: &'a [char], others: &'a [char]) -> Behind<'a>
     ensures { result ≡ flows.behind_text depth others.now (text_at text.now) }
 {
@@ -81,7 +85,7 @@ fn text_token<'a>(depth: usize, text: &'a [char], others: &'a [char]) -> Behind<
     }
 }
 
-// Behind the token that the characters begin with.
+// After the token that the characters begin with.
 #[tactic(auto, unfolding(crate::specs::FlowLines::behind_token))]
 fn behind_token<'a>(before: FlowState, text: &'a [char]) -> Behind<'a>
     ensures { result ≡ flows.behind_token before text.now }
@@ -97,7 +101,7 @@ fn behind_token<'a>(before: FlowState, text: &'a [char]) -> Behind<'a>
     }
 }
 
-// What is open behind a line with this content.
+// What is open after a line with this content.
 #[tactic(auto, unfolding(crate::specs::FlowLines::skim))]
 pub(crate) fn skim(before: FlowState, content: &[char]) -> FlowState
     ensures { result ≡ flows.skim before content.now }
@@ -105,7 +109,7 @@ pub(crate) fn skim(before: FlowState, content: &[char]) -> FlowState
     behind_all(before, after_start(content))
 }
 
-// What is open behind all tokens of these characters, or behind the flow's last bracket.
+// What is open after all tokens of these characters, or after the flow's last bracket.
 fn behind_all(before: FlowState, text: &[char]) -> FlowState
     ensures { result ≡ (flows.behind_all before text.now).state }
 {
@@ -132,7 +136,7 @@ pub fn begins_flow(value: &[char]) -> bool
     matches!(value, ['[' | '{', ..])
 }
 
-// What is open behind a line whose last value this is, if the line stands in no flow.
+// What is open after a line outside of flows whose last value this is.
 pub(crate) fn state_behind(value: &[char]) -> FlowState
     ensures { result ≡ flows.state_behind value.now }
 {

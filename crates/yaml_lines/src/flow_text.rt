@@ -1,4 +1,6 @@
 //! The texts within a flow, plain or quoted: where they end.
+//!
+//! The contracts cite `specs/FlowTexts.antt`.
 
 ghost use Rattle.std.specs.Prelude.{◌≡◌, ◌≤◌, ⊤, None, Some, false, MatchOption, drop, encode_utf8_all, length, option_map};
 ghost use Rattle.yaml_lines.specs.FlowGaps.{blank_or_line_end};
@@ -19,14 +21,14 @@ fn blank_or_line_end(text: &[char]) -> bool
     }
 }
 
-// One of the characters that separate the parts of a flow.
+// Whether the character is one of those that separate the parts of a flow. (YAML 1.2.2, section 5.3.)
 fn is_flow_indicator(c: char) -> bool
     ensures { result ≡ is_flow_indicator c }
 {
     matches!(c, ',' | '[' | ']' | '{' | '}')
 }
 
-/// Whether a colon that these characters follow ends a plain key of a flow.
+/// Whether a colon before these characters ends a plain key of a flow. (YAML 1.2.2, section 7.3.3.)
 pub fn ends_key(text: &[char]) -> bool
     ensures { result ≡ ends_key text.now }
 {
@@ -36,7 +38,7 @@ pub fn ends_key(text: &[char]) -> bool
     }
 }
 
-// Whether the characters begin as a plain text of a flow may.
+// Whether the characters begin as a plain text of a flow may. (YAML 1.2.2, section 7.3.3.)
 #[tactic(auto, unfolding(crate::specs::FlowTexts::begins_plain))]
 fn begins_plain(text: &[char]) -> bool
     ensures { result ≡ begins_plain text.now }
@@ -49,7 +51,8 @@ fn begins_plain(text: &[char]) -> bool
     }
 }
 
-// Whether a plain text ends where these characters begin, in front of which a blank stands or none.
+// Whether a plain text ends at the first of these characters. `blank` says whether a blank comes before
+// them.
 fn ends_plain(blank: bool, text: &[char]) -> bool
     ensures { result ≡ ends_plain blank text.now }
 {
@@ -64,7 +67,7 @@ fn ends_plain(blank: bool, text: &[char]) -> bool
     }
 }
 
-// How many characters stand before the end of a plain text.
+// How many characters come before the end of a plain text.
 fn plain_extent(text: &[char]) -> usize
     ensures value { result ≡ plain_extent false text.now }
     ensures within { result ≤ length text.now }
@@ -79,8 +82,8 @@ fn plain_extent(text: &[char]) -> usize
     text.len()
 }
 
-/// The characters of the plain text of a flow that these characters begin with, without the blanks at its end. None where
-/// they begin with no plain text.
+/// The characters of the plain text of a flow that these characters begin with, without the blanks at its
+/// end. None if they begin with no plain text.
 #[tactic(auto, unfolding(crate::specs::FlowTexts::plain_at))]
 pub fn plain_part(text: &[char]) -> Option<&[char]>
     ensures value { MatchOption result (plain_at text.now ≡ None) (λ part. plain_at text.now
@@ -94,7 +97,7 @@ pub fn plain_part(text: &[char]) -> Option<&[char]>
     if part.is_empty() { None } else { Some(part) }
 }
 
-// What follows the closing quote of this mark.
+// What follows the closing quote. `mark` is the quote.
 fn behind_closing<'a>(mark: char, text: &'a [char]) -> Option<&'a [char]>
     ensures { option_map (λ rest. rest.now) result
         ≡ option_map (λ q. q.rest) (quoted_within mark (length text.now) text.now) }
@@ -135,7 +138,8 @@ fn behind_plain<'a>(text: &'a [char]) -> Option<&'a [char]>
     Some(skip(text, part.len()))
 }
 
-// What follows the text, plain or quoted, that the characters of a flow begin with. None where they begin with no text.
+// What follows the text, plain or quoted, that the characters of a flow begin with. None if they begin with
+// no text.
 #[tactic(auto, unfolding(crate::specs::FlowTexts::text_at))]
 pub(crate) fn behind_text<'a>(text: &'a [char]) -> Option<&'a [char]>
     ensures { option_map (λ rest. rest.now) result ≡ option_map (λ t. t.rest) (text_at text.now) }

@@ -1,4 +1,6 @@
-//! The gaps between the tokens of a flow.
+//! The gaps between the tokens of a flow. (YAML 1.2.2, sections 6.6 and 6.7.)
+//!
+//! The contracts cite `specs/FlowGaps.antt`.
 
 ghost use Rattle.std.specs.Prelude.{◌≡◌, false};
 ghost use Rattle.yaml_lines.specs.FlowGaps.{after_gap, after_start, behind_gap, in_comment, is_of_gap};
@@ -12,14 +14,14 @@ fn is_of_gap(comment: bool, free: bool, c: char) -> bool
     comment || is_blank(c) || c == '\n' || (free && c == '#')
 }
 
-// Whether the character behind this one of a gap stands in a comment.
+// Whether the character after this one of a gap belongs to a comment.
 fn in_comment(comment: bool, c: char) -> bool
     ensures { result ≡ in_comment comment c }
 {
     (comment || c == '#') && c != '\n'
 }
 
-// What stands behind a gap, with which a comment may begin at once or not.
+// What follows a gap. `begins_free` says whether a comment may begin with the first character.
 fn behind_gap(begins_free: bool, text: &[char]) -> &[char]
     ensures { result.now ≡ behind_gap false begins_free text.now }
 {
@@ -35,15 +37,15 @@ fn behind_gap(begins_free: bool, text: &[char]) -> &[char]
     skip(text, text.len())
 }
 
-/// What stands behind the blanks, line ends and comments that follow a token of a flow. A comment begins behind a blank or
-/// a line's end.
+/// What follows the blanks, line ends and comments after a token of a flow. A comment begins after a blank
+/// or a line's end.
 pub fn after_gap(text: &[char]) -> &[char]
     ensures { result.now ≡ after_gap text.now }
 {
     behind_gap(false, text)
 }
 
-// What stands behind the gap at a line's start, with which a comment may begin at once.
+// What follows the gap at a line's start, where a comment may begin at once.
 pub(crate) fn after_start(text: &[char]) -> &[char]
     ensures { result.now ≡ after_start text.now }
 {

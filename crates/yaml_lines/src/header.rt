@@ -1,17 +1,17 @@
-//! The header of a block text.
+//! The header of a block text. (YAML 1.2.2, section 8.1.1.)
 
-/// What becomes of the line feeds at a block text's end.
+/// What becomes of the line feeds at a block text's end. (YAML 1.2.2, section 8.1.1.2.)
 #[derive(Clone, Copy, Debug, PartialEq, Eq)]
 pub enum Chomping {
-    /// None stays.
+    /// `-`: none stays.
     Strip,
-    /// One stays.
+    /// No mark: one stays.
     Clip,
-    /// All stay.
+    /// `+`: all stay.
     Keep,
 }
 
-/// The header of a block text: `|` or, where its lines are folded, `>`, and its mark.
+/// The header of a block text: `|`, or `>` if its lines are folded, and the mark after it.
 #[derive(Clone, Copy, Debug, PartialEq, Eq)]
 pub struct Header {
     /// Whether the lines are folded.

@@ -1,4 +1,4 @@
-//! A list's item: what stands behind its dash.
+//! A list's item: what follows its dash. (YAML 1.2.2, section 8.2.1.)
 //!
 //! The contracts cite `specs/Entries.antt`.
 
@@ -9,7 +9,7 @@ ghost use Rattle.yaml_lines.specs.Faults.{GivesSurely};
 use crate::scan::{all_spaces, blank_or_end, blanks, comment_or_end, front, skip};
 use crate::{BlockText, Line, YamlFault, YamlKind};
 
-/// Whether the content begins a list's item: with a `-` that is followed by a blank or the end.
+/// Whether the content begins a list's item: with a `-` before a blank or the end.
 #[tactic(auto, unfolding(crate::specs::Entries::is_item))]
 pub fn is_item(content: &[char]) -> bool
     ensures { result ≡ is_item content.now }
@@ -20,7 +20,7 @@ pub fn is_item(content: &[char]) -> bool
     }
 }
 
-// The line's block text once more.
+// A copy of the line's block text, if it has one.
 fn same_block<'a, 'b>(line: &Line<'a, 'b>) -> Option<BlockText<'a, 'b>>
     ensures { result ≡ line.now.block }
 {
@@ -30,8 +30,8 @@ fn same_block<'a, 'b>(line: &Line<'a, 'b>) -> Option<BlockText<'a, 'b>>
     }
 }
 
-/// What follows the dash of an item, as a line whose indentation is the column where it stands, or nothing where nothing
-/// or a comment follows. A tab between is `TabIndent`.
+/// What follows the dash of an item, as a line whose indentation is the column of its first character. None
+/// if nothing or a comment follows. A tab between is `TabIndent`.
 pub fn after_dash<'a, 'b>(line: &Line<'a, 'b>) -> Result<Option<Line<'a, 'b>>, YamlFault>
     requires { is_item line.now.content ≡ true }
     ensures { GivesSurely option_to_list result (item_of line.now) }

@@ -1,4 +1,4 @@
-//! The value that stands last on a line, which may begin a block text or a flow.
+//! The last value on a line, which may begin a block text or a flow.
 //!
 //! The contracts cite `specs/Lines.antt`.
 
@@ -41,7 +41,8 @@ impl<'a> LastValue<'a> {
     }
 }
 
-// The value of the entry that stands at the column `at`, or of the last dash before it.
+// The value of the entry at the column `at`. If there is no entry, it is the value of the last dash before
+// that column.
 fn value_at<'a>(
     alloc: Global,
     at: usize,
@@ -62,7 +63,7 @@ fn value_at<'a>(
     }
 }
 
-// The value that stands last on a line whose content begins at `indent`, behind its dashes and its key.
+// The last value on a line whose content begins at `indent`: what follows its dashes and its key.
 pub(crate) fn last_value<'a>(
     alloc: Global,
     indent: usize,

@@ -1,5 +1,5 @@
-//! Laws of the definitions that the contracts cite, in the words of YAML itself. Each is a function that gives nothing:
-//! what it ensures is a theorem over the definitions alone.
+//! Laws of the definitions that the contracts cite, in YAML's own words. Each law is a function that
+//! returns nothing: what it ensures is a theorem about the definitions alone.
 
 ghost use Rattle.std.specs.Prelude.{◌≡◌, ℕ, ◌++◌, ◌<◌, true, false, List, [], ◌∷◌, length, Option, Some, None, IfSome, codes, encode_utf8_all};
 ghost use Rattle.std.specs.List.{list_all, list_any};
@@ -17,10 +17,12 @@ ghost use Rattle.yaml_lines.specs.Scalars.{scalar_meaning};
 
 use crate::MOST_BYTES;
 
-/// Quoting a text changes nothing but its mark: `make test`, `'make test'` and `"make test"` are the same text, of which
-/// only the second and the third are marked as quoted. It holds of every plain text that holds nothing that the quotes
-/// give a meaning: for single quotes no `'`, for double quotes neither `"` nor a backslash, and for both no line feed. So
-/// `'8080'` and `8080` have the same characters, and a reader that tells texts from numbers sees by the mark which of
+/// Quoting a text changes nothing but its mark. `make test`, `'make test'` and `"make test"` are the same
+/// text; only the second and the third are marked as quoted.
+///
+/// This is true of every plain text without characters to which the quotes give a meaning. For single
+/// quotes that is `'`, for double quotes `"` and a backslash, and for both a line feed. So `'8080'` and
+/// `8080` have the same characters. A reader that separates texts from numbers sees by the mark which of
 /// them may be a number.
 pub fn quoting_keeps_the_text()
     ensures bare { (content bytes : List ℕ) → IsPlainAlone content bytes → scalar_meaning content ≡ Some (text bytes false) }
@@ -30,8 +32,9 @@ pub fn quoting_keeps_the_text()
         → scalar_meaning (in_quotes 34 content) ≡ Some (text bytes true) }
 {}
 
-/// Quoting a key changes nothing at all: `name: app`, `'name': app` and `"name": app` begin the same entry, with the key
-/// `name` and the value `app`. It holds of the keys of which `quoting_keeps_the_text` holds as texts.
+/// Quoting a key changes nothing at all: `name: app`, `'name': app` and `"name": app` begin the same entry,
+/// with the key `name` and the value `app`. This is true of the keys for which `quoting_keeps_the_text` is
+/// true as texts.
 pub fn quoting_a_key_changes_nothing()
     ensures bare { (key bytes behind : List ℕ) → IsPlainAlone key bytes → blank_or_end behind ≡ true
         → entry_of (key ++ 58 ∷ behind) ≡ Some (record { key = bytes; value = value_behind behind }) }
@@ -41,17 +44,17 @@ pub fn quoting_a_key_changes_nothing()
         → entry_of (in_quotes 34 key ++ 58 ∷ behind) ≡ Some (record { key = bytes; value = value_behind behind }) }
 {}
 
-/// Every text can be written in quotes: in single quotes with each `'` twice, if it holds no line feed, and in double
-/// quotes with a backslash in front of each `"` and each backslash, and with `\n` for each line feed. So `it's` is
-/// `'it''s'`, and `say "yes"` is `"say \"yes\""`.
+/// Every text can be written in quotes. Single quotes need each `'` twice, and a text without a line feed.
+/// Double quotes need a backslash before each `"` and each backslash, and `\n` for each line feed. So
+/// `it's` is `'it''s'`, and `say "yes"` is `"say \"yes\""`.
 pub fn every_text_can_be_quoted()
     ensures single { (characters : List ℕ) → holds_no_feed characters ≡ true
         → scalar_meaning (in_quotes 39 (written doubled characters)) ≡ Some (text (encode_utf8_all characters) true) }
     ensures double { (characters : List ℕ) → scalar_meaning (in_quotes 34 (written escaped characters)) ≡ Some (text (encode_utf8_all characters) true) }
 {}
 
-/// Comments and empty lines say nothing: without the lines that hold only blanks, or blanks and a comment, a text leaves
-/// the same content lines, or can't be read for want of the same. So
+/// Comments and empty lines say nothing. Without the lines that hold only blanks, or blanks and a comment,
+/// a text leaves the same content lines. If it can't be read, it can't be read without them either. So
 ///
 /// ```yaml
 /// # what is built
@@ -60,9 +63,11 @@ pub fn every_text_can_be_quoted()
 ///   - main.c
 /// ```
 ///
-/// leaves what `app:` and `  - main.c` leave. `lines` says so inside a flow too, whatever stands open there, and `text` of
-/// a whole text. It holds where no line begins a block text: in a block text such lines are part of the text. A text in
-/// which neither `|` nor `>` stands is one where no line does, as `without_bars` says.
+/// leaves what `app:` and `  - main.c` leave.
+///
+/// `lines` says so inside a flow too, whatever is open there, and `text` says it of a whole text. Both need
+/// that no line begins a block text, since in a block text such lines are part of the text. In a text
+/// without `|` and `>` no line does, as `without_bars` says.
 pub fn comments_and_empty_lines_say_nothing()
     ensures lines { (flow : FlowState) (lines : List LineText) → list_any begins_text lines ≡ false
         → all_content_lines (standing 0 flow) (saying lines) ≡ all_content_lines (standing 0 flow) lines }
@@ -70,18 +75,21 @@ pub fn comments_and_empty_lines_say_nothing()
     ensures without_bars { (lines : List LineText) → list_all holds_no_bar lines ≡ true → content_lines_from (saying lines) ≡ content_lines_from lines }
 {}
 
-/// A comment behind a text says nothing: `make # the default` and `'make'   # the default` are the texts `make` and
-/// `'make'`. Whatever a content means as a text, plain or quoted, it means with blanks behind it, and with blanks and a
-/// comment behind it.
+/// A comment after a text says nothing: `make # the default` and `'make'   # the default` are the texts
+/// `make` and `'make'`. If a content is a text, plain or quoted, it is the same text with blanks after it,
+/// and with blanks and a comment after it.
 pub fn a_comment_behind_a_text_says_nothing()
     ensures { (content behind : List ℕ) (m : Meaning) → is_over behind ≡ true → scalar_meaning content ≡ Some m → scalar_meaning (content ++ behind) ≡ Some m }
 {}
 
-/// Which value stands last on a line, and at which column, is what the readers of items and entries find there: behind a
-/// dash it is that of what follows the dash, which then is the dash's; an entry's is its value, at the key's column; and
-/// what is neither an item nor an entry is the value of the dash before it, if there is one. A comment alone behind a
-/// dash counts as the dash's value; it begins neither a block text nor a flow. `dash` is the column of the last dash
-/// before the content line, which begins with no blank.
+/// The last value on a line, and its column, are what the readers of items and entries find there:
+/// - after a dash, it is the last value of what follows the dash, and that value belongs to the dash;
+/// - of an entry, it is the entry's value, at the key's column;
+/// - of a content that is neither an item nor an entry, it is the whole content if a dash comes before it,
+///   and otherwise there is none.
+///
+/// A comment alone after a dash counts as the dash's value; it begins neither a block text nor a flow.
+/// `dash` is the column of the last dash before the content line, which begins with no blank.
 pub fn a_last_value_is_that_of_the_item_or_the_entry()
     ensures item { (p rest : ContentLine) (dash : Option ℕ) → is_item p.content ≡ true → item_of p ≡ Some (rest ∷ [])
         → last_value p.indent dash p.content ≡ last_value rest.indent (Some p.indent) rest.content }
@@ -95,11 +103,15 @@ pub fn a_last_value_is_that_of_the_item_or_the_entry()
         → last_value p.indent None p.content ≡ None }
 {}
 
-/// A text that is written in the lines of a literal block text is that text: indent each line alike, deeper than the key
-/// or the dash, and `|` gives the lines as they were, each with its line feed. The first line must hold something and
-/// begin with no space, since it tells the indentation; for `|` the last line must hold something too, and `|+` keeps
-/// empty lines at the end as well. Blanks, `#`, quotes, dashes and colons in the lines are text. `margin` says which
-/// indentation is found, `belong` that each line belongs to the text, `even` that none is refused.
+/// A text that is written in the lines of a literal block text is that text. Indent each line alike, deeper
+/// than the key or the dash: `|` gives the lines as they were, each with its line feed.
+///
+/// The first line must hold something and begin with no space, since it gives the indentation. For `|` the
+/// last line must hold something too; `|+` also keeps empty lines at the end. Blanks, `#`, quotes, dashes
+/// and colons in the lines are text.
+///
+/// `margin` says which indentation is found, `belong` that each line belongs to the text, `even` that none
+/// is refused.
 pub fn a_text_in_lines_of_a_literal_block_text_is_that_text()
     ensures margin { (column margin : ℕ) (lines : List (List ℕ)) → column < margin → begins_bare lines ≡ true → margin_of column (all_indented margin lines) ≡ Some margin }
     ensures belong { (margin : ℕ) (lines : List (List ℕ)) → extent (Some margin) (all_indented margin lines) ≡ length lines }
@@ -108,9 +120,13 @@ pub fn a_text_in_lines_of_a_literal_block_text_is_that_text()
     ensures kept { (margin : ℕ) (lines : List (List ℕ)) → block_text (literal Keep) (Some margin) (all_indented margin lines) ≡ text_of_lines lines }
 {}
 
-/// What the laws on quotes, on keys, and on comments ask for, they need. In single quotes `'it's'` is no text and no key; in double quotes neither
-/// `"a"b"` nor `"a\b"` is a text; a line feed ends a quoted text's line; `'a'b` isn't `'a'` with a comment, and `a#b` is a
-/// text of three characters; `a:b` is no entry; and the comment's line below `a: |` is a line of the block text.
+/// The laws on quotes, on keys and on comments need each of their conditions:
+/// - in single quotes `'it's'` is no text and no key;
+/// - in double quotes neither `"a"b"` nor `"a\b"` is a text;
+/// - a line feed ends a quoted text's line;
+/// - `'a'b` isn't `'a'` with a comment, and `a#b` is a text of three characters;
+/// - `a:b` is no entry;
+/// - below `a: |` a comment's line is a line of the block text.
 pub fn the_laws_ask_for_what_they_need()
     ensures single { IsPlainAlone (codes "it's") (codes "it's") × (scalar_meaning (in_quotes 39 (codes "it's")) ≡ None) }
     ensures double { let content = 97 ∷ 34 ∷ 98 ∷ [] in IsPlainAlone content content × (scalar_meaning (in_quotes 34 content) ≡ None) }
@@ -126,7 +142,7 @@ pub fn the_laws_ask_for_what_they_need()
         ≡ Some (record { indent = 0; content = codes "a: |"; block = Some [] } ∷ []) }
 {}
 
-/// The most bytes that a text may have are the same number in the code and in the definitions.
+/// The most bytes that a text may have: code and definitions have the same number.
 pub fn the_limit_is_the_definitions()
     ensures { MOST_BYTES ≡ most_bytes }
 {}

@@ -1,13 +1,17 @@
-//! The base of the YAML reader: from bytes to characters, from characters to lines, and what one line's content says.
+//! The base of the YAML reader: from bytes to characters, from characters to lines, and what one line's
+//! content says.
 //!
-//! [`characters`] decodes the bytes, [`raw_lines`] cuts them at line ends, and [`read_lines`] leaves the lines that hold
-//! something, each a content line: where its content begins, the content, and the block text that follows it. [`is_item`],
-//! [`after_dash`], [`read_entry`], [`scalar`] and [`read_quoted`] read one content; [`after_gap`], [`plain_part`] and
-//! [`ends_key`] are the scans of a flow's characters, for the reader of flows too. What a text means is a [`Node`]. The
-//! contracts cite `specs/Characters.antt`, `specs/Lines.antt`, `specs/FlowLines.antt`, `specs/FlowGaps.antt`,
-//! `specs/FlowTexts.antt`, `specs/BlockTexts.antt`, `specs/Entries.antt`, `specs/Scalars.antt`, `specs/Plain.antt` and
-//! `specs/Quoted.antt`; `Gives` of `specs/Faults.antt` and its like tie an answer to what a definition says of the text,
-//! and [`laws`] says of the definitions what a user of YAML would expect.
+//! [`characters`] decodes the bytes and [`raw_lines`] cuts them at line ends. [`read_lines`] leaves the
+//! lines that hold something, each a content line: where its content begins, the content, and the block
+//! text that follows it. [`is_item`], [`after_dash`], [`read_entry`], [`scalar`] and [`read_quoted`] read
+//! one content. [`after_gap`], [`plain_part`] and [`ends_key`] scan a flow's characters, for the reader of
+//! flows too. The meaning of a text is a [`Node`].
+//!
+//! The contracts cite `specs/Characters.antt`, `specs/Lines.antt`, `specs/FlowLines.antt`,
+//! `specs/FlowGaps.antt`, `specs/FlowTexts.antt`, `specs/BlockTexts.antt`, `specs/Entries.antt`,
+//! `specs/Scalars.antt`, `specs/Plain.antt` and `specs/Quoted.antt`. `Gives` of `specs/Faults.antt` and its
+//! like relate an answer to what a definition says of the text. [`laws`] says of the definitions what a
+//! user of YAML would expect.
 #![tactic(auto)]
 
 mod block_lines;

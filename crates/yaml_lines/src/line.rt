@@ -8,9 +8,11 @@ ghost use Rattle.yaml_lines.specs.Characters.{most_bytes};
 use crate::BlockText;
 use std::marker::Model;
 
-/// A line that holds something: its number from 1, where its content begins, the content, and the block text that
-/// follows it, if there is one. As [`read_lines`](crate::read_lines) gives it, the content begins with neither a blank
-/// nor a comment; both may stand at its end. Contracts see its content line, so the number is shown by tests alone.
+/// A line that holds something: its number from 1, where its content begins, the content, and the block
+/// text that follows it, if there is one.
+///
+/// As [`read_lines`](crate::read_lines) gives it, the content begins with neither a blank nor a comment;
+/// both may end it. Contracts see its content line, so only tests check the number.
 #[derive(Debug, Drop)]
 pub struct Line<'a, 'b> {
     number: usize,
@@ -56,7 +58,7 @@ impl<'a, 'b> Line<'a, 'b> {
         self.number
     }
 
-    /// How many columns stand before the content.
+    /// How many columns come before the content.
     pub fn indent(&self) -> usize
         ensures { result ≡ self.now.indent }
     {

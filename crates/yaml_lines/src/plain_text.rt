@@ -1,4 +1,4 @@
-//! How a plain text begins, and where a key ends.
+//! How a plain text begins, and where a key ends. (YAML 1.2.2, section 7.3.3.)
 //!
 //! The contracts cite `specs/Plain.antt`.
 
@@ -8,7 +8,7 @@ ghost use Rattle.yaml_lines.specs.Plain.{begins_plain, is_indicator, is_mark_cha
 use crate::scan::{blank_or_end, is_blank, skip};
 use crate::{YamlFault, YamlKind};
 
-// One of the characters that begin no plain text.
+// Whether the character is an indicator that begins no plain text. (YAML 1.2.2, sections 5.3 and 7.3.3.)
 pub(crate) fn is_indicator(c: char) -> bool
     ensures { result ≡ is_indicator c }
 {
@@ -32,7 +32,8 @@ pub(crate) fn is_indicator(c: char) -> bool
     )
 }
 
-// One of the characters that begin a plain text only where neither a blank nor the end follows.
+// Whether the character begins a plain text only if neither a blank nor the end follows. (YAML 1.2.2,
+// section 7.3.3.)
 pub(crate) fn is_mark_character(c: char) -> bool
     ensures { result ≡ is_mark_character c }
 {
@@ -52,7 +53,7 @@ pub(crate) fn begins_plain(content: &[char]) -> bool
     }
 }
 
-// Where the first `:` stands that is followed by a blank or the end, and in no comment.
+// Index of the first `:` outside of comments that a blank or the end follows.
 pub(crate) fn colon(content: &[char]) -> Option<usize>
     ensures { MatchOption result (sides_of true content.now ≡ None) (λ at. (at < length content.now)
         × (sides_of true content.now ≡ Some (record { before = take at content.now; behind = drop (at + 1) content.now }))) }
@@ -70,8 +71,11 @@ pub(crate) fn colon(content: &[char]) -> Option<usize>
     None
 }
 
-/// Why the content, which is no plain text, is refused in line `number`: as `Unsupported` where it begins with a form
-/// that this profile leaves out, else as `Layout`.
+/// Why the content, which is no plain text, is refused in line `number`. It is `Unsupported` if it begins
+/// with a form that this profile leaves out, otherwise `Layout`.
+///
+/// The forms are anchors, aliases and tags (YAML 1.2.2, sections 6.9.2, 7.1 and 6.9.1), directives (6.8),
+/// the reserved `@` and backtick (5.3), and `?` before a blank (8.2.2).
 pub fn refusal(number: usize, content: &[char]) -> YamlFault
     ensures place { result.line ≡ number }
     ensures kind { (result.kind ≡ YamlKind.Unsupported) ⊎ (result.kind ≡ YamlKind.Layout) }

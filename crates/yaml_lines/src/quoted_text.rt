@@ -1,4 +1,4 @@
-//! Texts in single and double quotes.
+//! Texts in single and double quotes. (YAML 1.2.2, sections 7.3.2 and 7.3.1.)
 //!
 //! The contracts cite `specs/Quoted.antt`.
 
@@ -10,7 +10,8 @@ use crate::{YamlFault, YamlKind};
 use std::alloc::Global;
 use std::marker::Model;
 
-/// A quoted text, and what follows its closing quote. Contracts see the text's bytes and the characters that follow.
+/// A quoted text, and what follows its closing quote. Contracts see the text's bytes and the characters
+/// that follow.
 #[derive(Debug, Drop)]
 pub struct QuotedText<'a> {
     text: String,
@@ -27,7 +28,7 @@ impl<'a> Model for QuotedText<'a> {
 }
 
 impl<'a> QuotedText<'a> {
-    /// The text between the quotes, its escapes read.
+    /// The text between the quotes, with its escapes decoded.
     pub fn into_text(self) -> String
         ensures { string_bytes result ≡ self.entry.text }
     {
@@ -35,7 +36,7 @@ impl<'a> QuotedText<'a> {
         text
     }
 
-    /// The characters behind the closing quote.
+    /// The characters after the closing quote.
     pub fn rest(&self) -> &'a [char]
         ensures { result.now ≡ self.now.rest }
     {
@@ -43,7 +44,7 @@ impl<'a> QuotedText<'a> {
     }
 }
 
-// One character of a quoted text, or no more characters, and what follows.
+// One character of a quoted text, or none at its end, and what follows.
 #[derive(Drop)]
 pub(crate) struct QuoteStep<'a> {
     pub(crate) character: Option<char>,
@@ -80,7 +81,7 @@ impl<'a> QuoteStep<'a> {
     }
 }
 
-// What stands behind a quote in single quotes: a second quote makes one, and anything else follows the text.
+// What follows a quote in single quotes: a second quote makes one, and anything else comes after the text.
 fn after_quote<'a>(text: &'a [char]) -> QuoteStep<'a>
     ensures { result ≡ after_quote text.now }
 {
@@ -90,7 +91,7 @@ fn after_quote<'a>(text: &'a [char]) -> QuoteStep<'a>
     }
 }
 
-// A step in single quotes: two quotes are one, and another one ends the text.
+// A step in single quotes: two quotes are one, and a single one ends the text. (YAML 1.2.2, section 7.3.2.)
 #[tactic(auto, unfolding(crate::specs::Quoted::single_step))]
 fn single_step<'a>(text: &'a [char]) -> Result<QuoteStep<'a>, YamlKind>
     ensures { GivesSurely (λ step. step) result (single_step text.now) }
@@ -113,7 +114,7 @@ fn pair(a: char, b: char) -> Option<u32>
     Some(a.to_digit(16)? * 16 + b.to_digit(16)?)
 }
 
-// The character of the code, which isn't a surrogate's.
+// The character of the code. A surrogate's code is `Quote`.
 fn coded<'a>(code: u32, rest: &'a [char]) -> Result<QuoteStep<'a>, YamlKind>
     requires { code < 2 ^ 16 }
     ensures { GivesSurely (λ step. step) result (coded rest.now code) }
@@ -153,7 +154,7 @@ fn four_digits<'a>(text: &'a [char]) -> Result<QuoteStep<'a>, YamlKind>
     }
 }
 
-// The character that a letter stands for behind a backslash.
+// The character that a letter names after a backslash. (YAML 1.2.2, section 5.7, has more of them.)
 #[tactic(auto, unfolding(crate::specs::Quoted::named))]
 fn named(letter: char) -> Option<char>
     ensures { result ≡ named letter }
@@ -168,7 +169,7 @@ fn named(letter: char) -> Option<char>
     }
 }
 
-// What stands behind a backslash.
+// The character of an escape, from what follows its backslash.
 #[tactic(auto, unfolding(crate::specs::Quoted::escaped))]
 fn escaped<'a>(text: &'a [char]) -> Result<QuoteStep<'a>, YamlKind>
     ensures { GivesSurely (λ step. step) result (escaped text.now) }
@@ -186,7 +187,7 @@ fn escaped<'a>(text: &'a [char]) -> Result<QuoteStep<'a>, YamlKind>
     }
 }
 
-// A step in double quotes, where a backslash begins an escape.
+// A step in double quotes: a backslash begins an escape. (YAML 1.2.2, section 7.3.1.)
 #[tactic(auto, unfolding(crate::specs::Quoted::double_step))]
 fn double_step<'a>(text: &'a [char]) -> Result<QuoteStep<'a>, YamlKind>
     ensures { GivesSurely (λ step. step) result (double_step text.now) }
@@ -213,12 +214,13 @@ pub(crate) fn step<'a>(mark: char, text: &'a [char]) -> Result<QuoteStep<'a>, Ya
     }
 }
 
-// How many characters stand before the first quote of this mark: a text has as many or, with a quote of its own, more.
+// How many characters come before the first quote of this mark: the capacity to begin with. An ASCII text
+// without escapes and quotes has as many bytes.
 fn before_quote(mark: char, text: &[char]) -> usize {
     text.iter().position(|c| *c == mark).unwrap_or(0)
 }
 
-// The text up to the closing quote of this mark.
+// The text up to the closing quote. `mark` is the quote.
 #[tactic(auto, using(crate::proofs::FaultLines::memory_line))]
 fn quoted_within<'a>(
     alloc: Global,
@@ -263,9 +265,9 @@ pub fn begins_quoted(text: &[char]) -> bool
 
 /// The quoted text that the characters begin with, in single or double quotes.
 ///
-/// One that doesn't end before a line feed or the last character, and a code of a surrogate, are `Quote`, another escape
-/// than `\\ \" \/ \n \t \r \0 \xHH \uHHHH` is `Unsupported`, and characters that begin with no quote are `Layout`, all in
-/// line `number`. `OutOfMemory` is in line 0.
+/// A text that doesn't end before a line feed or the last character is `Quote`, and so is the code of a
+/// surrogate. Any escape other than `\\ \" \/ \n \t \r \0 \xHH \uHHHH` is `Unsupported`. Characters that
+/// begin with no quote are `Layout`. All are in line `number`. `OutOfMemory` is in line 0.
 #[tactic(auto, unfolding(crate::specs::Quoted::quoted_of))]
 pub fn read_quoted<'a>(
     alloc: Global,

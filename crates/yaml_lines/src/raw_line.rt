@@ -1,4 +1,4 @@
-//! From characters to lines as they stand in the text.
+//! From characters to lines as they are in the text. (YAML 1.2.2, section 5.4.)
 //!
 //! The contracts cite `specs/Lines.antt`.
 
@@ -10,7 +10,7 @@ use crate::scan::{feed, front, skip};
 use std::alloc::{AllocError, Global};
 use std::marker::Model;
 
-/// A line as it stands in the text, without its end. Contracts see its characters, and whether it has an end.
+/// A line as it is in the text, without its end. Contracts see its characters, and whether it has an end.
 #[derive(Debug, Drop)]
 pub struct RawLine<'a> {
     text: &'a [char],
@@ -85,8 +85,8 @@ fn next_line<'a>(text: &'a [char]) -> Cut<'a>
     }
 }
 
-/// All lines of the text. A line feed ends a line, and so does a carriage return with a line feed; the last line may lack
-/// its end.
+/// All lines of the text. A line feed ends a line, and so does a carriage return with a line feed. The last
+/// line may lack its end.
 pub fn raw_lines<'a>(alloc: Global, text: &'a [char]) -> Result<Vec<RawLine<'a>>, AllocError>
     requires { length text.now ≤ most_bytes }
     ensures { IfOk result (λ lines. lines.items ≡ line_texts text.now) }

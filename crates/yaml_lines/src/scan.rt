@@ -1,4 +1,4 @@
-//! Looks at the characters of one line: blanks, comments, line ends.
+//! Scans of the characters of one line: blanks, comments, line ends.
 //!
 //! The contracts cite `specs/Characters.antt` and `specs/Plain.antt`.
 
@@ -25,7 +25,7 @@ pub(crate) fn front(text: &[char], at: usize) -> &[char]
     &text[..at]
 }
 
-// Whether the character is a space or a tab.
+// Whether the character is a space or a tab. (YAML 1.2.2, section 5.5.)
 pub(crate) fn is_blank(c: char) -> bool
     ensures { result ≡ is_blank c }
 {
@@ -56,7 +56,7 @@ pub(crate) fn comment_or_end(text: &[char]) -> bool
     matches!(text, [] | ['#', ..])
 }
 
-// Whether nothing stands here but blanks and, behind a blank, a comment.
+// Whether there is nothing here but blanks and, after a blank, a comment. (YAML 1.2.2, section 6.6.)
 pub(crate) fn is_over(text: &[char]) -> bool
     ensures { result ≡ is_over text.now }
 {
@@ -76,7 +76,7 @@ pub(crate) fn blanks(text: &[char]) -> usize
     text.len()
 }
 
-// The characters from the first on that is no blank.
+// The characters after the blanks that they begin with.
 pub(crate) fn after_blanks(text: &[char]) -> &[char]
     ensures { result.now ≡ trim_start text.now }
 {
@@ -96,14 +96,14 @@ pub(crate) fn spaces(text: &[char]) -> usize
     text.len()
 }
 
-// Whether no character is another than a space.
+// Whether all characters are spaces.
 pub(crate) fn all_spaces(text: &[char]) -> bool
     ensures { result ≡ list_all is_space text.now }
 {
     text.iter().all(|c| *c == ' ')
 }
 
-// Where the first line feed stands.
+// Index of the first line feed.
 pub(crate) fn feed(text: &[char]) -> Option<usize>
     ensures { MatchOption result (list_any (λ c. c == 10) text.now ≡ false) (λ at. (at < length text.now)
         × (list_any (λ c. c == 10) (take at text.now) ≡ false) × (slice_index text.now at ≡ 10)) }
@@ -116,7 +116,7 @@ pub(crate) fn feed(text: &[char]) -> Option<usize>
     None
 }
 
-// Whether a line may hold each of the characters.
+// Whether a line may hold each of the characters. (`nb-json` of YAML 1.2.2, section 5.1.)
 pub(crate) fn all_allowed(text: &[char]) -> bool
     ensures { result ≡ list_all is_allowed text.now }
 {
@@ -128,7 +128,7 @@ pub(crate) fn all_allowed(text: &[char]) -> bool
     true
 }
 
-// The characters before a comment.
+// The characters before a comment. (YAML 1.2.2, section 6.6.)
 pub(crate) fn uncommented(text: &[char]) -> &[char]
     ensures value { result.now ≡ uncommented true text.now }
     ensures within { length result.now ≤ length text.now }

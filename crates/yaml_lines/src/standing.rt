@@ -1,11 +1,11 @@
-//! Where a line of a text stands: in a block text, in a flow or in neither.
+//! The place of a line in a text: in a block text, in a flow or in neither.
 
 use crate::flow_state::FlowState;
 
-// Where a line stands.
+// The place of a line.
 #[derive(Clone, Copy)]
 pub(crate) struct Standing {
-    // How many lines from it on are a block text.
+    // How many lines, from this one on, belong to a block text.
     pub(crate) taken: usize,
     // The flow that is open before it.
     pub(crate) flow: FlowState,

@@ -48,9 +48,11 @@ fn quoted_scalar(alloc: Global, number: usize, content: &[char]) -> Result<Node,
     })
 }
 
-/// The text, plain or quoted, that the whole content is, but for blanks and a comment behind it. A content that is none is
-/// refused in line `number`: as [`read_quoted`](crate::read_quoted) and [`refusal`](crate::refusal) say, and as `Layout`
-/// where something else follows a quoted text. `OutOfMemory` is in line 0.
+/// The text, plain or quoted, that the whole content is. Only blanks and a comment may follow it.
+///
+/// Any other content is refused in line `number`, as [`read_quoted`](crate::read_quoted) and
+/// [`refusal`](crate::refusal) say, and as `Layout` if something else follows a quoted text. `OutOfMemory`
+/// is in line 0.
 #[tactic(auto, unfolding(crate::specs::Scalars::scalar_meaning))]
 pub fn scalar(alloc: Global, number: usize, content: &[char]) -> Result<Node, YamlFault>
     ensures meant { Gives view result (scalar_meaning content.now) }

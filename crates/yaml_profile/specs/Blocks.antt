@@ -1,5 +1,5 @@
--- What the lines of a text mean: lists and tables by their indentation, flows and single texts. (YAML 1.2.2, sections
--- 8.2.1 "Block Sequences", 8.2.2 "Block Mappings" and 8.2.3 "Block Nodes".)
+-- What the lines of a text mean: lists and tables by their indentation, flows and single texts. (YAML
+-- 1.2.2, sections 8.2.1 "Block Sequences", 8.2.2 "Block Mappings" and 8.2.3 "Block Nodes".)
 use Rattle.std.specs.Prelude.{ℕ, zero, suc, Bool, true, false, ◌&&◌, ◌||◌, List, [], ◌∷◌, ◌++◌, Option, Some, None, option_map, option_and_then, is_some, nat_lt, ◌==◌, if◌then◌else◌}
 use Rattle.std.specs.List.{list_all}
 use Rattle.yaml_lines.specs.BlockTexts.{begins_block}
@@ -16,12 +16,12 @@ pub record Part : Type 0 where
   pub head : ContentLine
   pub below : List ContentLine
 
--- Lines, cut before each that begins a part.
+-- Lines, cut before each that begins a part. `before` are those before the first part.
 pub record Cut : Type 0 where
   pub before : List ContentLine
   pub parts : List Part
 
--- one line more in front, which belongs to the part above it or begins a part
+-- one line more at the start, which belongs to the part above it or begins a part
 abbrev pub put : Bool → ContentLine → Cut → Cut
 put true line rest = record { before = line ∷ rest.before; parts = rest.parts }
 put false line rest = record { before = []; parts = record { head = line; below = rest.before } ∷ rest.parts }
@@ -31,12 +31,12 @@ unfoldable pub cut : (ContentLine → Bool) → List ContentLine → Cut
 cut belongs [] = record { before = []; parts = [] }
 cut belongs (line ∷ lines) = put (belongs line) line (cut belongs lines)
 
--- the parts of lines of which the first begins one
+-- the parts of lines, the first of which begins a part
 abbrev pub parts : (ContentLine → Bool) → List ContentLine → List Part
 parts belongs [] = []
 parts belongs (first ∷ later) = record { head = first; below = (cut belongs later).before } ∷ (cut belongs later).parts
 
--- the line belongs to a list's item: it stands deeper than the items
+-- the line belongs to a list's item: it is deeper than the items
 abbrev pub is_deeper : ℕ → ContentLine → Bool
 is_deeper indent line = nat_lt indent line.indent
 
@@ -45,51 +45,52 @@ abbrev pub begins_closing : List ℕ → Bool
 begins_closing [] = false
 begins_closing (c ∷ _) = is_closing c
 
--- the line belongs to a table's entry: it stands deeper than the keys, or as deep as they do and begins an item of a list
--- or with a closing bracket
+-- The line belongs to a table's entry: it is deeper than the keys, or it is as deep and begins an item of a
+-- list or with a closing bracket. (For the item see section 8.2.3 "Block Nodes".)
 abbrev pub is_below_key : ℕ → ContentLine → Bool
 is_below_key indent line =
     nat_lt indent line.indent || (line.indent == indent && (is_item line.content || begins_closing line.content))
 
--- the line belongs to a flow that begins on a line at `indent`: it stands deeper, or as deep and begins with a closing
--- bracket
+-- the line belongs to a flow that begins on a line at `indent`: it is deeper, or it is as deep and begins
+-- with a closing bracket
 abbrev pub is_in_flow : ℕ → ContentLine → Bool
 is_in_flow indent line = nat_lt indent line.indent || (line.indent == indent && begins_closing line.content)
 
--- what f gives of each, where it gives something of all
+-- what f gives of each, if it gives something of all
 unfoldable pub all_of : {A B : Type 0} → (A → Option B) → List A → Option (List B)
 all_of f [] = Some []
 all_of f (x ∷ xs) = option_and_then (λ y. option_map (λ ys. y ∷ ys) (all_of f xs)) (f x)
 
--- An item: what follows the dash, as a line of its own, with the deeper lines. Each item's dash stands at the same
--- indentation.
+-- An item: what follows the dash, as a line of its own, with the deeper lines. Each item's dash has the
+-- same indentation.
 abbrev pub item : (List ContentLine → Option Meaning) → ℕ → Part → Option Meaning
 item node indent part =
     if part.head.indent == indent && is_item part.head.content
     then option_and_then (λ front. node (front ++ part.below)) (item_of part.head)
     else None
 
--- what stands alone: no lines may follow
+-- a node alone: no lines may follow
 abbrev pub lone : Option Meaning → List ContentLine → Option Meaning
 lone meant [] = meant
 lone meant (line ∷ lines) = None
 
--- A text: the block text that the content begins, else the plain or quoted text that it is. A block text belongs to a
--- key or a dash: on a line of its own none begins.
+-- A text: the block text that the content begins, otherwise the plain or quoted text that it is. A block
+-- text belongs to a key or a dash: on a line of its own none begins.
 abbrev pub text_of : ContentLine → Option Meaning
 text_of place =
     if begins_block place.content then option_map (λ bytes. text bytes false) place.block else scalar_meaning place.content
 
--- the characters of further lines, each behind a line feed
+-- the characters of further lines, each after a line feed
 unfoldable pub further : List ContentLine → List ℕ
 further [] = []
 further (line ∷ lines) = 10 ∷ (line.content ++ further lines)
 
--- A flow: from its first bracket on, over all these lines. (YAML 1.2.2, section 7.4 "Flow Collection Styles".)
+-- A flow: from its first bracket on, over all these lines. (YAML 1.2.2, section 7.4 "Flow Collection
+-- Styles".)
 abbrev pub flow : ℕ → List ℕ → List ContentLine → Option Meaning
 flow room content later = flow_meaning room (content ++ further later)
 
--- What begins on one line, with the lines below it, where at most `room` nodes may lie within one another: a flow, or a
+-- What begins on one line, with the lines below it, if at most `room` nodes may be nested: a flow, or a
 -- text with no lines below.
 abbrev pub line_node : ℕ → ContentLine → List ContentLine → Option Meaning
 line_node zero place below = None
@@ -97,11 +98,11 @@ line_node (suc room) place below =
     if begins_flow place.content then (if list_all (is_in_flow place.indent) below then flow (suc room) place.content below else None)
     else lone (text_of place) below
 
--- A key's value: the node that begins on its line, else the node of the lines below.
+-- A key's value: the node that begins on its line, otherwise the node of the lines below.
 abbrev pub value : (List ContentLine → Option Meaning) → (ContentLine → List ContentLine → Option Meaning) → ContentLine → List ContentLine → Option Meaning
 value node line place below = if is_nil place.content then node below else line place below
 
--- a key's value as a content line: it stands as deep as its line
+-- a key's value as a content line, as deep as its line
 abbrev pub value_place : ContentLine → KeyAndValue → ContentLine
 value_place head entry = record { indent = head.indent; content = entry.value; block = head.block }
 
@@ -109,20 +110,20 @@ value_place head entry = record { indent = head.indent; content = entry.value; b
 abbrev pub row : (List ContentLine → Option Meaning) → (ContentLine → List ContentLine → Option Meaning) → Part → KeyAndValue → Option Row
 row node line part entry = option_map (λ v. (entry.key, v)) (value node line (value_place part.head entry) part.below)
 
--- An entry of a table: a key with its value. Each key stands at the same indentation.
+-- An entry of a table: a key with its value. Each key has the same indentation.
 abbrev pub entry : (List ContentLine → Option Meaning) → (ContentLine → List ContentLine → Option Meaning) → ℕ → Part → Option Row
 entry node line indent part =
     if part.head.indent == indent then option_and_then (row node line part) (entry_of part.head.content) else None
 
--- a table's rows, of which no key stands twice
+-- a table's rows, if no key occurs twice (section 3.2.1.3 "Node Comparison")
 abbrev pub distinct : List Row → Option (List Row)
 distinct rs = if keys_differ rs then Some rs else None
 
--- the items of a list whose first line is given with the lines after it
+-- the items of a list; `first` is its first line, `later` the lines after it
 abbrev pub items : (List ContentLine → Option Meaning) → ContentLine → List ContentLine → Option (List Meaning)
 items node first later = all_of (item node first.indent) (parts (is_deeper first.indent) (first ∷ later))
 
--- the keys of a table with their values, the first line given with the lines after it
+-- the keys of a table with their values; `first` is its first line, `later` the lines after it
 abbrev pub rows : (List ContentLine → Option Meaning) → (ContentLine → List ContentLine → Option Meaning) → ContentLine → List ContentLine → Option (List Row)
 rows node line first later =
     option_and_then distinct (all_of (entry node line first.indent) (parts (is_below_key first.indent) (first ∷ later)))
@@ -134,21 +135,21 @@ list_of found = option_map (λ ms. list (meanings_of ms)) found
 abbrev pub table_of : Option (List Row) → Option Meaning
 table_of found = option_map (λ rs. table (members_of rs)) found
 
--- A node by its first line: a list where it begins with a dash, a table where it begins with a key, else what stands on
--- that line.
+-- A node by its first line: a list if it begins with a dash, a table if it begins with a key, otherwise
+-- what is on that line. `own` is the last of these.
 abbrev pub block : (List ContentLine → Option Meaning) → (ContentLine → List ContentLine → Option Meaning) → Option Meaning → Bool → Bool → ContentLine → List ContentLine → Option Meaning
 block node line own true keyed first later = list_of (items node first later)
 block node line own false true first later = table_of (rows node line first later)
 block node line own false false first later = own
 
--- What lines mean, where at most `room` nodes may lie within one another: texts and empty nodes count.
+-- What lines mean, if at most `room` nodes may be nested: texts and empty nodes count.
 unfoldable pub node : ℕ → List ContentLine → Option Meaning
 node zero lines = None
 node (suc room) [] = Some empty
 node (suc room) (first ∷ later) =
     block (node room) (line_node room) (line_node (suc room) first later) (is_item first.content) (is_some (entry_of first.content)) first later
 
--- What the lines of a whole text mean: no block text is one, and the lines of a flow stand as deep as they may.
+-- What the lines of a whole text mean. No block text is one, and the lines of a flow may have any depth.
 unfoldable pub whole : ℕ → List ContentLine → Option Meaning
 whole room [] = node room []
 whole room (first ∷ later) =

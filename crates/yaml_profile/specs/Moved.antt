@@ -1,5 +1,5 @@
--- What the law of indentation speaks of: lines that are all indented by so many spaces more. (YAML 1.2.2, section 6.1
--- "Indentation Spaces".)
+-- Words of the law of indentation: lines that are all indented by so many spaces more. (YAML 1.2.2, section
+-- 6.1 "Indentation Spaces".)
 use Rattle.std.specs.Prelude.{ℕ, ◌+◌}
 use Rattle.yaml_lines.specs.Entries.{ContentLine}
 

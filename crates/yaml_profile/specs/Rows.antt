@@ -1,5 +1,5 @@
--- Words of the reader's inner calls alone, which no reader of `read` needs: a table's rows as they are kept in memory,
--- and a row that is read while some keys were seen.
+-- Words only of the reader's inner calls, which no reader of `read` needs: a table's rows as they are kept
+-- in memory, and a row that is read while some keys were seen.
 use Rattle.std.specs.Prelude.{ℕ, Bool, List, map, Option, Some, None, String, Vec, if◌then◌else◌}
 use Rattle.std.specs.declared.alloc.Global.{Global}
 use Rattle.yaml_lines.specs.View.{member_view}

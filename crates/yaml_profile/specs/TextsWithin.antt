@@ -1,4 +1,4 @@
--- What the law of a text's length speaks of: no text and no key of a meaning, however deep it lies, is longer.
+-- Words of the law of a text's length: no text and no key of a meaning, however deep it lies, is longer.
 use Rattle.std.specs.Prelude.{ℕ, ◌≤◌, length, ⊤}
 use Rattle.yaml_lines.specs.Meaning.{Meaning, text, list, table, empty, Meanings, no_meanings, meaning, Members, no_members, member}
 

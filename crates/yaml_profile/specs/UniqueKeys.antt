@@ -1,5 +1,5 @@
--- What the law of a table's keys speaks of: no table of a meaning, however deep it lies, holds a key twice. (YAML 1.2.2,
--- section 3.2.1.3 "Node Comparison".)
+-- Words of the law of a table's keys: no table of a meaning, however deep it lies, has a key twice. (YAML
+-- 1.2.2, section 3.2.1.3 "Node Comparison".)
 use Rattle.std.specs.Prelude.{◌≢◌, ℕ, List, [], ◌∷◌, AllPairs, ⊤}
 use Rattle.yaml_lines.specs.Meaning.{Meaning, text, list, table, empty, Meanings, no_meanings, meaning, Members, no_members, member}
 
@@ -12,7 +12,7 @@ keys (member key value ms) = key ∷ keys ms
 abbrev pub AreDistinct : List (List ℕ) → Type 0
 AreDistinct texts = AllPairs (λ a b. a ≢ b) texts
 
--- no table of the meaning holds a key twice
+-- no table of the meaning has a key twice
 abbrev mutual
   pub HasUniqueKeys : Meaning → Type 0
   HasUniqueKeys (text content quoted) = ⊤

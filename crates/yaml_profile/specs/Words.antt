@@ -1,6 +1,6 @@
--- What the laws of a list's and a table's two forms speak of: words, the lines of a list or a table of them, and the flow
--- of them. (YAML 1.2.2, sections 7.4.1 "Flow Sequences", 7.4.2 "Flow Mappings", 8.2.1 "Block Sequences" and 8.2.2 "Block
--- Mappings".)
+-- Words of the laws of a list's and a table's two forms: words, the lines of a list or a table of them, and
+-- the flow of them. (YAML 1.2.2, sections 7.4.1 "Flow Sequences", 7.4.2 "Flow Mappings", 8.2.1 "Block
+-- Sequences" and 8.2.2 "Block Mappings".)
 use Rattle.std.specs.Prelude.{◌≡◌, ℕ, Bool, true, false, not, ◌≤◌, ◌&&◌, ◌||◌, ◌++◌, List, [], ◌∷◌, length, map, Option, Some, None, nat_lt, encode_utf8_all, if◌then◌else◌}
 use Rattle.std.specs.List.{list_all, join_with_byte}
 use Rattle.yaml_lines.specs.Characters.{is_nil}
@@ -9,8 +9,8 @@ use Rattle.yaml_lines.specs.Meaning.{Meaning, text, list, table, meanings_of, me
 use Rattle.yaml_lines.specs.Plain.{is_indicator, is_mark_character}
 use Rattle.yaml_flows.specs.Keys.{Row, keys_differ}
 
--- A character that stands for itself wherever it stands, as letters, digits, `.`, `/` and `_` do: any above the space
--- but `, [ ] { } # & * ! | > ' " % @`, the backtick, `-`, `?` and `:`.
+-- A character that means itself wherever it is, as letters, digits, `.`, `/` and `_` do. It is any above
+-- the space except `, [ ] { } # & * ! | > ' " % @`, the backtick, `-`, `?` and `:`.
 abbrev pub is_word_character : ℕ → Bool
 is_word_character c = nat_lt 32 c && not (is_indicator c || is_mark_character c)
 
@@ -78,7 +78,7 @@ lines_of_entries (entry ∷ entries) = entry_text entry ++ 10 ∷ lines_of_entri
 abbrev pub word_row : WordEntry → Row
 word_row entry = (encode_utf8_all entry.key, text (encode_utf8_all entry.value) false)
 
--- the table of these keys and values, or nothing if a key stands twice
+-- the table of these keys and values; none if a key occurs twice
 abbrev pub table_of_entries : List WordEntry → Option Meaning
 table_of_entries entries =
     if keys_differ (map word_row entries) then Some (table (members_of (map word_row entries))) else None

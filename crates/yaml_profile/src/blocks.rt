@@ -1,4 +1,6 @@
-//! Nodes by their lines: lists and tables by the indentation, and what stands on one line.
+//! Nodes by their lines: lists and tables by the indentation, and what is on one line.
+//!
+//! The contracts cite `specs/Blocks.antt`.
 
 ghost use Rattle.std.specs.Prelude.{◌≡◌, ℕ, List, [], ◌∷◌, ◌<◌, ◌≤◌, length, map, IfOk, if◌then◌else◌, true, string_bytes, IsOk, ◌↔◌};
 ghost use Rattle.std.specs.BTreeSet.{contains_text};
@@ -16,8 +18,8 @@ use std::alloc::Global;
 use std::collections::BTreeSet;
 use yaml_lines::{Line, Node, YamlFault, YamlKind, after_dash, is_item, read_entry, scalar};
 
-/// The node of the lines, where at most `room` nodes may lie within one another. `number` is the line of what they
-/// belong to, `end` the fault where the lines end within a flow.
+/// The node of the lines, if at most `room` nodes may be nested. `number` is the line of what they belong
+/// to, and `end` the fault if the lines end within a flow.
 #[cycle(blocks)]
 pub(crate) fn block(
     alloc: Global,
@@ -35,7 +37,7 @@ pub(crate) fn block(
     }
 }
 
-// An empty node is a node too.
+// The node of no lines. An empty node counts as a nested one too.
 fn no_lines(room: usize, number: usize) -> Result<Node, YamlFault>
     ensures { Gives view result (blocks.node room []) }
 {
@@ -45,7 +47,7 @@ fn no_lines(room: usize, number: usize) -> Result<Node, YamlFault>
     Ok(Node::Empty)
 }
 
-// The node whose first line is given with the lines after it.
+// The node of a first line and the lines after it.
 #[cycle(blocks)]
 fn node(
     alloc: Global,
@@ -72,7 +74,7 @@ fn node(
     line_node(alloc, &Inline::line(first), later, room, end)
 }
 
-// Why a line that begins no item or no entry, as those before it do, can't be read.
+// The fault of a line that begins no item or no entry, after lines that do.
 fn no_part(alloc: Global, line: &Line<'_, '_>) -> YamlFault {
     let other = fault(YamlKind::Layout, line.number());
     scalar(alloc, line.number(), line.content())
@@ -80,7 +82,7 @@ fn no_part(alloc: Global, line: &Line<'_, '_>) -> YamlFault {
         .unwrap_or(other)
 }
 
-// The fault where a part's lines end within a flow: the line that follows them is left of the flow.
+// The fault if a part's lines end within a flow. If a line follows them, it isn't deep enough for the flow.
 fn end_before(rest: &[Line<'_, '_>], end: YamlFault) -> YamlFault {
     match rest {
         [] => end,
@@ -88,7 +90,7 @@ fn end_before(rest: &[Line<'_, '_>], end: YamlFault) -> YamlFault {
     }
 }
 
-// A list's items and a table's keys all stand as deep as the first.
+// A list's items and a table's keys are all as deep as the first. Any other is `Layout`.
 fn check_indent(line: &Line<'_, '_>, indent: usize) -> Result<(), YamlFault>
     ensures { IsOk result ↔ (line.now.indent ≡ indent) }
 {
@@ -99,7 +101,8 @@ fn check_indent(line: &Line<'_, '_>, indent: usize) -> Result<(), YamlFault>
     }
 }
 
-// The items of a list. The first line may be what follows another list's dash, so it stands apart from the others.
+// The items of a list. The first line may be what follows another list's dash, so it is separate from the
+// others.
 #[cycle(blocks)]
 fn items(
     alloc: Global,
@@ -123,7 +126,7 @@ fn items(
     Ok(found)
 }
 
-// The item that the line begins, with the lines below it.
+// The item that the line begins, with the lines below it. (YAML 1.2.2, section 8.2.1.)
 #[cycle(blocks)]
 fn item(
     alloc: Global,
@@ -147,7 +150,7 @@ fn item(
     }
 }
 
-// The keys of a table with their values.
+// The keys of a table with their values. (YAML 1.2.2, section 8.2.2.)
 #[cycle(blocks)]
 fn rows(
     alloc: Global,
@@ -189,8 +192,8 @@ fn rows(
     Ok(found)
 }
 
-// The key that the line begins with, and its value. The key counts as seen before its value is read, so a doubled key is
-// named before a fault of its value.
+// The key that the line begins with, and its value. The key counts as seen before its value is read, so a
+// doubled key is reported before a fault of its value.
 #[cycle(blocks)]
 fn entry(
     alloc: Global,
@@ -219,7 +222,7 @@ fn entry(
     Ok((key, node))
 }
 
-// A key's value: what stands on its line, or the node of the lines below.
+// A key's value: what is on its line, or the node of the lines below.
 #[cycle(blocks)]
 fn value(
     alloc: Global,

@@ -1,4 +1,6 @@
 //! Flows over the lines that belong to them.
+//!
+//! The contracts cite `specs/Blocks.antt`.
 
 ghost use Rattle.std.specs.Prelude.{◌≡◌, ◌≤◌, ◌++◌, IfOk, if◌then◌else◌};
 ghost use Rattle.std.specs.List.{list_all};
@@ -15,8 +17,8 @@ use std::alloc::{AllocError, Global};
 use yaml_flows::{FaultPlace, FlowFault, read_flow};
 use yaml_lines::{Line, Node, YamlFault, YamlKind};
 
-/// What stands on the line, which is a flow, with the lines below that belong to it. No others may stand there. Where the
-/// lines end within the flow, `end` is the fault.
+/// The flow that the line's content begins, with the lines below that belong to it. No other lines may be
+/// below. `end` is the fault if the lines end within the flow.
 pub(crate) fn flow_node(
     alloc: Global,
     place: &Inline<'_, '_, '_>,
@@ -39,7 +41,8 @@ pub(crate) fn flow_node(
     }
 }
 
-/// The flow that begins with this content, in line `number`, and goes on over all later lines.
+/// The flow that begins with this content, in line `number`, and goes on over all later lines. `end` is the
+/// fault if the lines end within the flow.
 pub(crate) fn flow_over(
     alloc: Global,
     number: usize,
@@ -92,7 +95,7 @@ fn flow_text(
     Ok(text)
 }
 
-// The fault at its line, or `end` at the end of the lines.
+// The fault at its line. It is `end` if the flow's fault is at the end of the lines.
 fn line_fault(found: FlowFault, number: usize, later: &[Line<'_, '_>], end: YamlFault) -> YamlFault
     ensures { found.kind ≡ OutOfMemory → result.kind ≡ OutOfMemory }
 {
@@ -108,7 +111,7 @@ fn line_fault(found: FlowFault, number: usize, later: &[Line<'_, '_>], end: Yaml
     }
 }
 
-// The number of the line behind which this many lines are left, of a line `number` and these later lines.
+// The number of the line after which `left` lines remain. The lines are line `number` and these later ones.
 fn line_before(number: usize, later: &[Line<'_, '_>], left: usize) -> usize {
     match &later[..later.len().saturating_sub(left)] {
         [.., line] => line.number(),

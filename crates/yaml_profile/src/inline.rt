@@ -1,4 +1,6 @@
-//! Nodes on one line: behind a key, behind a dash, or on a line of their own.
+//! Nodes on one line: after a key, after a dash, or on a line of their own.
+//!
+//! The contracts cite `specs/Blocks.antt`.
 
 ghost use Rattle.std.specs.Prelude.{◌≡◌, ◌≤◌, Some, false, option_copied, option_map};
 ghost use Rattle.yaml_lines.specs.Faults.{Gives};
@@ -16,8 +18,8 @@ pub(crate) fn fault(kind: YamlKind, line: usize) -> YamlFault {
     YamlFault { kind, line }
 }
 
-/// What stands on one line: the number and the indentation of the line, the content, and the block text that it begins.
-/// Contracts see the content line.
+/// A value on one line: the number and the indentation of the line, the content, and the block text that it
+/// begins. Contracts see the content line.
 #[derive(Drop)]
 pub(crate) struct Inline<'a, 'b, 'c> {
     number: usize,
@@ -72,7 +74,7 @@ impl<'a, 'b, 'c> Inline<'a, 'b, 'c> {
         self.indent
     }
 
-    /// What stands there, from its first character to the line's end.
+    /// The characters of the value, from its first to the line's end.
     pub(crate) fn content(&self) -> &'a [char]
         ensures { result.now ≡ self.now.content }
     {
@@ -80,7 +82,7 @@ impl<'a, 'b, 'c> Inline<'a, 'b, 'c> {
     }
 }
 
-// The text that the block text is, if there is one.
+// The text of the block text. None is `Layout`.
 fn block_node(
     alloc: Global,
     number: usize,
@@ -97,7 +99,7 @@ fn block_node(
     })
 }
 
-// A text: the block text that the content begins, else the plain or quoted text that it is.
+// A text: the block text that the content begins, otherwise the plain or quoted text that it is.
 fn text_node(alloc: Global, place: &Inline<'_, '_, '_>) -> Result<Node, YamlFault>
     ensures { Gives view result (blocks.text_of place.now) }
 {
@@ -108,7 +110,7 @@ fn text_node(alloc: Global, place: &Inline<'_, '_, '_>) -> Result<Node, YamlFaul
     }
 }
 
-// The node, below which no lines stand.
+// The node, if no lines are below it. A line below is `Layout`.
 fn lone(node: Node, below: &[Line<'_, '_>]) -> Result<Node, YamlFault>
     ensures { Gives view result (blocks.lone (Some (view node)) below.now) }
 {
@@ -118,8 +120,8 @@ fn lone(node: Node, below: &[Line<'_, '_>]) -> Result<Node, YamlFault>
     }
 }
 
-/// What begins on the line, with the lines below it, where at most `room` nodes may lie within one another. Where the lines
-/// end within a flow, `end` is the fault.
+/// What begins on the line, with the lines below it, if at most `room` nodes may be nested. `end` is the
+/// fault if the lines end within a flow.
 pub(crate) fn line_node(
     alloc: Global,
     place: &Inline<'_, '_, '_>,

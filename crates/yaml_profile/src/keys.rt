@@ -9,7 +9,7 @@ use std::alloc::Global;
 use std::collections::BTreeSet;
 use yaml_lines::{YamlFault, YamlKind};
 
-/// From now on the key in line `number` was seen. One that was seen before is `DoubledKey`.
+/// Marks the key in line `number` as seen. One that was seen before is `DoubledKey`.
 pub(crate) fn see(
     alloc: Global,
     seen: &mut BTreeSet<String>,

@@ -1,5 +1,5 @@
-//! Laws of the definitions that the contracts cite, in the words of YAML itself. Each is a function that gives nothing:
-//! what it ensures is a theorem over the definitions alone.
+//! Laws of the definitions that the contracts cite, in YAML's own words. Each law is a function that
+//! returns nothing: what it ensures is a theorem about the definitions alone.
 
 ghost use Rattle.std.specs.Prelude.{◌≡◌, ℕ, ◌≤◌, ◌++◌, List, [], ◌∷◌, length, map, Some, None, false};
 ghost use Rattle.std.specs.List.{list_any};
@@ -25,10 +25,12 @@ use yaml_lines::laws::comments_and_empty_lines_say_nothing;
 /// - src/app.c
 /// ```
 ///
-/// and `[main.c,src/app.c]` are both the list of the texts `main.c` and `src/app.c`, neither of them quoted. `lines` says
-/// so of the lines of such a list, at any indentation; `brackets` of the characters of the flow; `text_of_lines` and
-/// `text_in_brackets` of the bytes of whole texts. Room for two nodes within one another is enough; where there is room
-/// for one alone, neither is read.
+/// and `[main.c,src/app.c]` are both the list of the texts `main.c` and `src/app.c`, neither of them
+/// quoted.
+///
+/// `lines` says so of the lines of such a list, at any indentation, and `brackets` of the characters of the
+/// flow. `text_of_lines` and `text_in_brackets` say it of the bytes of whole texts. Room for two nested
+/// nodes is enough; if there is room for only one, neither is read.
 pub fn a_list_has_one_meaning_in_both_forms()
     ensures lines { (room indent : ℕ) (words : List (List ℕ)) → 2 ≤ room → AreWords words → node room (map (item_line indent) words) ≡ Some (list_of_words words) }
     ensures brackets { (room : ℕ) (words : List (List ℕ)) → 2 ≤ room → AreWords words → flow_meaning room (flow_of_words words) ≡ Some (list_of_words words) }
@@ -46,9 +48,12 @@ pub fn a_list_has_one_meaning_in_both_forms()
 /// language: fail
 /// ```
 ///
-/// and `{id: names,language: fail}` are both the table with these keys and values, and neither is read where a key stands
-/// twice. `lines` says so of the lines of such a table, at any indentation; `braces` of the characters of the flow;
-/// `text_of_lines` and `text_in_braces` of the bytes of whole texts. Room for two nodes within one another is enough.
+/// and `{id: names,language: fail}` are both the table with these keys and values, and neither is read if a
+/// key occurs twice.
+///
+/// `lines` says so of the lines of such a table, at any indentation, and `braces` of the characters of the
+/// flow. `text_of_lines` and `text_in_braces` say it of the bytes of whole texts. Room for two nested nodes
+/// is enough.
 pub fn a_table_has_one_meaning_in_both_forms()
     ensures lines { (room indent : ℕ) (entries : List WordEntry) → 2 ≤ room → AreWordEntries entries → node room (map (entry_line indent) entries) ≡ table_of_entries entries }
     ensures braces { (room : ℕ) (entries : List WordEntry) → 2 ≤ room → AreWordEntries entries → flow_meaning room (flow_of_entries entries) ≡ table_of_entries entries }
@@ -56,23 +61,25 @@ pub fn a_table_has_one_meaning_in_both_forms()
     ensures text_in_braces { (entries : List WordEntry) (bytes : List ℕ) → AreWordEntries entries → characters_of bytes ≡ Some (flow_of_entries entries ++ 10 ∷ []) → meaning_of bytes ≡ table_of_entries entries }
 {}
 
-/// Content lines that all stand the same number of columns further to the right mean the same, and where the one can't be
-/// read, neither can the others. `lines` says so of the lines of a node within a text, `whole` of all that a text leaves
-/// behind the document's mark.
+/// Content lines that all move the same number of columns to the right mean the same. If the ones can't be
+/// read, neither can the others. `lines` says so of the lines of a node within a text, and `whole` of all
+/// lines that a text leaves after the document's mark.
 pub fn indenting_every_line_changes_nothing()
     ensures lines { (room columns : ℕ) (lines : List ContentLine) → node room (map (moved columns) lines) ≡ node room lines }
     ensures whole { (room columns : ℕ) (lines : List ContentLine) → whole room (map (moved columns) lines) ≡ whole room lines }
 {}
 
-/// Comments and empty lines change no meaning. Two texts, of which the one has the lines of the other without those that
-/// hold only blanks, or blanks and a comment, mean the same, and where one can't be read, neither can the other:
+/// Comments and empty lines change no meaning. Let one text have the lines of another without those that
+/// hold only blanks, or blanks and a comment. Both mean the same, and if one can't be read, neither can the
+/// other:
 ///
 /// ```yaml
 /// # what is built
 /// app: main.c
 /// ```
 ///
-/// means what `app: main.c` means. It holds where no line begins a block text, of whose text such lines are a part.
+/// means what `app: main.c` means. This needs that no line begins a block text, since such lines are part
+/// of its text.
 pub fn comments_and_empty_lines_change_no_meaning()
     ensures { (bytes others characters kept : List ℕ) → characters_of bytes ≡ Some characters → characters_of others ≡ Some kept
         → list_any begins_text (line_texts characters) ≡ false → line_texts kept ≡ saying (line_texts characters) → meaning_of others ≡ meaning_of bytes }
@@ -80,13 +87,15 @@ pub fn comments_and_empty_lines_change_no_meaning()
     comments_and_empty_lines_say_nothing();
 }
 
-/// No table that is read holds a key twice, neither the table that the text is nor one anywhere within it.
+/// No table that is read has a key twice, neither the table that the text is nor one anywhere within it.
+/// (YAML 1.2.2, section 3.2.1.1 "Nodes".)
 pub fn a_key_stands_in_its_table_once()
     ensures { (bytes : List ℕ) (meant : Meaning) → meaning_of bytes ≡ Some meant → HasUniqueKeys meant }
 {}
 
-/// No text and no key that is read is longer than what it is read from, however deep it lies, and that has at most
-/// [`MOST_BYTES`](yaml_lines::MOST_BYTES) bytes. Escapes, quotes, folded lines and the lines of flows only make it shorter.
+/// No text and no key that is read is longer than its source, however deep it lies. The source has at most
+/// [`MOST_BYTES`](yaml_lines::MOST_BYTES) bytes. Escapes, quotes, folded lines and the lines of flows only
+/// make a text shorter.
 pub fn no_text_is_longer_than_what_it_is_read_from()
     ensures texts { (bytes : List ℕ) (meant : Meaning) → meaning_of bytes ≡ Some meant → HasTextsWithin (length bytes) meant }
     ensures limit { (bytes : List ℕ) (meant : Meaning) → meaning_of bytes ≡ Some meant → length bytes ≤ most_bytes }

@@ -1,4 +1,6 @@
 //! Where the lines that belong to the part above them end.
+//!
+//! The contracts cite `specs/Blocks.antt`.
 
 ghost use Rattle.std.specs.Prelude.{◌≡◌, ◌≤◌, length};
 ghost use Rattle.std.specs.List.{prefix_len};
@@ -6,7 +8,7 @@ ghost use Rattle.yaml_profile.specs.Blocks.{begins_closing, cut, parts, is_deepe
 
 use yaml_lines::{Line, is_item};
 
-/// The lines from the first on that stand deeper than `indent`, and the others.
+/// The leading lines that are deeper than `indent`, and the others.
 pub(crate) fn split_deeper<'a, 'b, 'c>(
     lines: &'a [Line<'b, 'c>],
     indent: usize,
@@ -18,7 +20,8 @@ pub(crate) fn split_deeper<'a, 'b, 'c>(
     lines.split_at(count_deeper(lines, indent))
 }
 
-/// The same for lines that stand deeper than a table's keys or begin an item of a list as deep as they are, or with a closing bracket.
+/// The same with the lines that belong to a table's key at `indent`: those that are deeper, and those that
+/// are as deep and begin an item of a list or with a closing bracket.
 pub(crate) fn split_below_key<'a, 'b, 'c>(
     lines: &'a [Line<'b, 'c>],
     indent: usize,
@@ -48,7 +51,8 @@ fn begins_closing(content: &[char]) -> bool
     matches!(content, [']' | '}', ..])
 }
 
-// Whether the line belongs to the key above it: it stands deeper, or as deep and begins an item or with a closing bracket.
+// Whether the line belongs to the key above it: it is deeper, or it is as deep and begins an item or with a
+// closing bracket. (YAML 1.2.2, section 8.2.3, lets the items of a key's list be as deep as the key.)
 fn is_line_below_key(line: &Line<'_, '_>, indent: usize) -> bool
     ensures { result ≡ is_below_key indent line.now }
 {

@@ -1,4 +1,6 @@
 //! A whole text, from its bytes on.
+//!
+//! The contracts cite `specs/Text.antt`.
 
 ghost use Rattle.std.specs.Prelude.{◌≡◌, ◌≤◌, IfErr, IfOk, length, option_and_then};
 ghost use Rattle.yaml_lines.specs.Meaning.{most_nodes};
@@ -20,10 +22,15 @@ use yaml_lines::{
 
 /// The node of a text of at most [`MOST_BYTES`](yaml_lines::MOST_BYTES) bytes.
 ///
-/// A text that has no node is refused with the first line, from 1, at which it can't be read: `TooLarge` (in line 1),
-/// `NotUtf8`, `TabIndent`, `Unsupported`, `Layout`, `Quote` at a quoted text that doesn't end on its line, `DoubledKey` in
-/// the line of the second of two equal keys, or `TooDeep` at a node that would be one more than [`MOST_NODES`] within one
-/// another. `OutOfMemory` (in line 0) says nothing of the text.
+/// A text that has no node is refused with the first line, from 1, at which it can't be read. The kinds
+/// are:
+/// - `TooLarge`, always in line 1, and `NotUtf8`;
+/// - `TabIndent`, `Unsupported` and `Layout`;
+/// - `Quote` at a quoted text that doesn't end on its line, or at the code of a surrogate;
+/// - `DoubledKey` in the line of the second of two equal keys;
+/// - `TooDeep` at a node that would be one more than [`MOST_NODES`] nested ones.
+///
+/// `OutOfMemory`, in line 0, says nothing of the text.
 pub fn read(alloc: Global, bytes: &[u8]) -> Result<Node, YamlFault>
     ensures meant { Gives view result (meaning_of bytes.now) }
     ensures within { IfOk result (λ _. length bytes.now ≤ most_bytes) }
@@ -35,7 +42,7 @@ pub fn read(alloc: Global, bytes: &[u8]) -> Result<Node, YamlFault>
     }
 }
 
-// The node of a text, behind which a fault of the bytes may stand.
+// The node of a text. `behind` is a fault of the bytes after it, if there is one.
 #[tactic(auto, unfolding(yaml_lines::specs::Lines::content_lines_of))]
 fn read_text(alloc: Global, text: &[char], behind: Option<YamlFault>) -> Result<Node, YamlFault>
     requires { length text.now ≤ most_bytes }
@@ -62,7 +69,7 @@ fn read_raws(
     }
 }
 
-// The fault of lines that end within a flow.
+// The fault of lines that end within a flow, in the last line.
 fn layout_at_last(lines: &[Line<'_, '_>]) -> YamlFault {
     let line = match lines {
         [] => 1,
@@ -95,7 +102,7 @@ fn whole(alloc: Global, lines: &[Line<'_, '_>], end: YamlFault) -> Result<Node, 
     block(alloc, lines, MOST_NODES, 1, end)
 }
 
-// The fault of the bytes, or an earlier one, of the lines before the first that isn't UTF-8.
+// The fault of the bytes, or an earlier one in the lines before the first that isn't UTF-8.
 fn first_fault(alloc: Global, bytes: &[u8], fault: YamlFault) -> YamlFault
     ensures memory { fault.kind ≡ OutOfMemory → result.kind ≡ OutOfMemory }
     ensures large { fault.kind ≡ TooLarge → result ≡ fault }

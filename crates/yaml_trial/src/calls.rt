@@ -1,4 +1,4 @@
-//! Which call a name is.
+//! Which call a name means.
 
 use crate::{
     children, contents, copies, flows, kinds, lines, path_faults, paths, read_records, records,
@@ -16,7 +16,8 @@ impl Answers for Calls {
     }
 }
 
-// The calls stand in several functions, each of which knows the next, since one with many arms takes the checker long.
+// The calls are in several functions, each of which calls the next: one function with many arms takes long
+// to check.
 fn of_row(alloc: Global, name: &str, words: &[Vec<u8>]) -> Result<Answer, Stop> {
     match name {
         "trees" => trees::answer(alloc, words),

@@ -1,4 +1,4 @@
-//! The rows of a table of children, their parts parted by `|`.
+//! The rows of a table of children, with their parts separated by `|`.
 
 use crate::steps::{entry_of, read_change};
 use child_port::{Answer, TableRow};
@@ -6,7 +6,7 @@ use hook_base::{Bytes, Changes, Items, RepoPath, Text, Tree};
 use std::alloc::Global;
 use trial_rows::Stop;
 
-/// The two parts of a text around its first bar, the whole and nothing where it has none.
+/// The two parts of a text around its first bar; the whole and nothing if it has no bar.
 pub(crate) fn cut(text: &str) -> (&str, &str) {
     text.split_once('|').unwrap_or((text, ""))
 }
@@ -33,7 +33,7 @@ fn answer_of(alloc: Global, rest: &str) -> Result<Answer, Stop> {
     })
 }
 
-/// No change, or the one that the text is.
+/// No change, or the one that the text gives.
 fn changes_of(alloc: Global, text: &str) -> Result<Changes, Stop> {
     if text.is_empty() {
         return Ok(Changes::new(alloc));
@@ -43,7 +43,7 @@ fn changes_of(alloc: Global, text: &str) -> Result<Changes, Stop> {
     Changes::from_rising(changes).map_err(|_| Stop::BadLine)
 }
 
-/// The words of a command, parted by blanks.
+/// The words of a command, separated by blanks.
 pub(crate) fn words_of(alloc: Global, text: &str) -> Result<Items<Text>, Stop> {
     let mut words = Vec::new(alloc);
     for word in text.split(' ') {
@@ -52,7 +52,7 @@ pub(crate) fn words_of(alloc: Global, text: &str) -> Result<Items<Text>, Stop> {
     Ok(Items::from(words))
 }
 
-/// The tree of one plain file, of this path and these bytes.
+/// The tree of one plain file, with this path and these bytes.
 pub(crate) fn tree_with(alloc: Global, path: &str, bytes: &str) -> Result<Tree, Stop> {
     let path = RepoPath::read(alloc, path)?;
     let entry = entry_of(alloc, "plain", bytes)?;

@@ -1,4 +1,4 @@
-//! A play on children that answer by a table: its rows, and children that are asked for, one an argument.
+//! A play on children that answer by a table. Each argument is a row of the table, or asks for a child.
 
 use crate::child_rows::{cut, row_of, tree_with, words_of};
 use crate::steps::with_changes;
@@ -7,7 +7,7 @@ use hook_base::Items;
 use std::alloc::Global;
 use trial_rows::{Answer, Stop, texts_of};
 
-/// What each child that is asked for gives, and at the end the calls and the faults.
+/// What each requested child gives, and at the end the calls and the faults.
 pub(crate) fn answer(alloc: Global, words: &[Vec<u8>]) -> Result<Answer, Stop> {
     let lines = texts_of(alloc, words)?;
     let mut children = children_of(alloc, lines.as_slice())?;
@@ -16,7 +16,7 @@ pub(crate) fn answer(alloc: Global, words: &[Vec<u8>]) -> Result<Answer, Stop> {
     Ok(answer.text(" faults ").shown(children.faults()))
 }
 
-/// The children whose table has the rows among the lines, each of which is a row or asks for a child.
+/// The children whose table has the rows among the lines. Each line is a row or asks for a child.
 fn children_of(alloc: Global, lines: &[&str]) -> Result<TableChildren, Stop> {
     let mut rows = Vec::new(alloc);
     for line in lines {
@@ -39,7 +39,7 @@ fn asked_all(alloc: Global, children: &mut TableChildren, lines: &[&str]) -> Res
     Ok(answer)
 }
 
-/// What a child gives of these words that has seen a tree of one file.
+/// What a child with these words gives, if it sees a tree of one file.
 fn outcome_of(alloc: Global, children: &mut TableChildren, asked: &str) -> Result<Outcome, Stop> {
     let (words, seen) = cut(asked);
     let (path, bytes) = cut(seen);

@@ -8,10 +8,10 @@ use yaml_lines::{
     Entry, Line, Node, after_dash, characters, is_item, read_entry, read_quoted, scalar,
 };
 
-/// The number of the line that every content has.
+/// The line number of every content.
 const NUMBER: usize = 7;
 
-/// An item has fewer characters, so that its columns stay within those of a text.
+/// An item has fewer characters, so its columns stay within those of a text.
 const MOST_OF_AN_ITEM: usize = 100;
 
 /// What a content is: `- NUMBER/INDENT:REST`, `KEY = VALUE`, whether it is quoted and the text, or the fault.

@@ -13,8 +13,9 @@ pub(crate) fn copy_bytes(alloc: Global, bytes: &[u8], other: &[u8]) -> Result<An
     Ok(answer.text(" ").shown(is_same).text(" ").shown(is_other))
 }
 
-/// The length of copied contents, whether their copy, the bytes under their digest and the bytes that are hashed at once are
-/// the same, whether the other contents are, and the digest.
+/// The length of copied contents, whether all ways to copy them give the same, whether the other contents
+/// are the same, and the digest. The ways are a copy, the bytes with a given digest, and the bytes that are
+/// hashed at once.
 pub(crate) fn copy_content(alloc: Global, bytes: &[u8], other: &[u8]) -> Result<Answer, Stop> {
     let content = Content::copy_of(alloc, bytes)?;
     let under = Content::with_digest(alloc, content.digest(), Bytes::copy_of(alloc, bytes)?)?;
@@ -48,7 +49,7 @@ pub(crate) fn copy_text(alloc: Global, text: &[u8]) -> Result<Answer, Stop> {
     )
 }
 
-/// The texts that are copied together, and whether their copy and a copy of one by one are the same.
+/// The texts, copied together, and whether this copy and a copy of the list are the same.
 pub(crate) fn copy_all(alloc: Global, words: &[Vec<u8>]) -> Result<Answer, Stop> {
     let texts = texts_of(alloc, words)?;
     let copy = copy_texts(alloc, texts.as_slice())?;

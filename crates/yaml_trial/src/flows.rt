@@ -6,7 +6,7 @@ use trial_rows::{Answer, Stop, number_of, text_of};
 use yaml_flows::{FaultPlace, FlowFault, read_flow};
 use yaml_lines::{MOST_NODES, YamlKind};
 
-/// The node of a flow with room for so many nodes within one another, or the fault.
+/// The node of a flow, if at most so many nodes may be nested, or the fault.
 pub(crate) fn read(alloc: Global, text: &[u8], room: &[u8]) -> Result<Answer, Stop> {
     let text = text_of(text)?;
     let room = number_of(room)? as usize;
@@ -24,7 +24,7 @@ fn characters(alloc: Global, text: &str) -> Result<Vec<char>, AllocError> {
     text.chars().collect(alloc)
 }
 
-/// A fault's kind, and its line from 1 on where it isn't the end of the text.
+/// A fault's kind, and its line from 1 on unless it is the end of the text.
 fn refused(alloc: Global, text: &str, fault: FlowFault) -> Result<Answer, Stop> {
     let answer = Answer::new(alloc).debug(fault.kind);
     match fault.place {
@@ -40,7 +40,7 @@ fn feeds_in(text: &str) -> usize {
     text.chars().filter(|c| *c == '\n').count()
 }
 
-/// How many beginnings of the text are read, or refused in their last line.
+/// How many beginnings of the text are read, or refused in their last line or at their end.
 pub(crate) fn count_beginnings(alloc: Global, text: &[u8]) -> Result<Answer, Stop> {
     let all = characters(alloc, text_of(text)?)?;
     Ok(Answer::new(alloc).shown(beginnings_in(alloc, all.as_slice())))
@@ -66,7 +66,7 @@ fn ends_in_last_line(alloc: Global, text: &[char]) -> bool {
     }
 }
 
-/// The node of a flow, or `none` where it can't be read.
+/// The node of a flow, or `none` if it can't be read.
 pub(crate) fn shown_flow(alloc: Global, all: &[char]) -> Answer {
     match read_flow(alloc, all, MOST_NODES) {
         Ok(node) => with_node(Answer::new(alloc), &node),

@@ -5,7 +5,7 @@ use trial_rows::{Answer, Stop, text_of};
 use yaml_flows::{FaultPlace, FlowFault};
 use yaml_lines::{YamlFault, YamlKind};
 
-/// The fault that a refusal of memory becomes.
+/// The fault that refused memory becomes.
 pub(crate) fn fault_of(alloc: Global, name: &[u8]) -> Result<Answer, Stop> {
     match name {
         b"AllocError" => Ok(refused(alloc, YamlFault::from(AllocError))),
@@ -19,7 +19,7 @@ pub(crate) fn refused(alloc: Global, fault: YamlFault) -> Answer {
     answer.text(" in line ").shown(fault.line)
 }
 
-/// The kind's number, what it says, and what a fault of it in line 4 says.
+/// The kind's number, its message, and the message of a fault of it in line 4.
 pub(crate) fn told(alloc: Global, name: &[u8]) -> Result<Answer, Stop> {
     let kind = named(text_of(name)?).ok_or(Stop::BadLine)?;
     let answer = Answer::new(alloc).shown(kind.number()).text("; ");
@@ -27,7 +27,7 @@ pub(crate) fn told(alloc: Global, name: &[u8]) -> Result<Answer, Stop> {
     Ok(answer.shown(YamlFault { kind, line: 4 }))
 }
 
-/// What a fault of this kind at the end of a flow says.
+/// The message of a fault of this kind at the end of a flow.
 pub(crate) fn flow_told(alloc: Global, name: &[u8]) -> Result<Answer, Stop> {
     let kind = named(text_of(name)?).ok_or(Stop::BadLine)?;
     let place = FaultPlace::End;

@@ -21,7 +21,8 @@ pub(crate) fn with_all(alloc: Global, answer: Answer, characters: &[char]) -> An
     }
 }
 
-/// Each line as `NUMBER/INDENT:CONTENT;`, its block text in angle brackets, and the fault behind them as `!KIND in LINE`.
+/// Each line as `NUMBER/INDENT:CONTENT;`, with its block text in angle brackets, and then the fault as
+/// `!KIND in LINE`.
 pub(crate) fn shown_lines(alloc: Global, bytes: &[u8]) -> Result<Answer, Stop> {
     match characters(alloc, bytes) {
         Ok(text) => {

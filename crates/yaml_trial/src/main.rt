@@ -1,5 +1,6 @@
-//! The program `yaml_trial`: plays calls of `hook_base`, `child_port`, the YAML reader and the records of answers, one a line of
-//! standard input, and answers each by a line. `tests/rows/rows.py` plays its tables by it.
+//! The program `yaml_trial`: plays calls of `hook_base`, `child_port`, the YAML reader and the records of
+//! answers. Each line of standard input is a call, and is answered by a line. `tests/rows/rows.py` plays
+//! its tables with it.
 #![tactic(auto)]
 
 mod calls;

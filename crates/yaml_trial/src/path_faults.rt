@@ -23,7 +23,7 @@ pub(crate) fn refused(alloc: Global, fault: PathFault) -> Answer {
         .debug(fault)
 }
 
-/// What a refusal of this name says, behind its number.
+/// The message of a refusal with this name, after its number.
 pub(crate) fn told(alloc: Global, name: &[u8]) -> Result<Answer, Stop> {
     for fault in FAULTS {
         if name_of(*fault).as_bytes() == name {

@@ -6,7 +6,7 @@ use std::alloc::Global;
 use std::cmp::Ordering;
 use trial_rows::{Answer, Stop, text_of};
 
-/// What the refusal of memory says.
+/// The message if memory is refused.
 pub(crate) fn refusal(alloc: Global) -> Result<Answer, Stop> {
     Ok(Answer::new(alloc).shown(OutOfMemory))
 }
@@ -31,7 +31,7 @@ pub(crate) fn message(alloc: Global) -> Result<Answer, Stop> {
     )
 }
 
-/// How two paths are ordered, and whether they are the same.
+/// How two paths are ordered, and whether they are equal.
 pub(crate) fn order(alloc: Global, one: &[u8], other: &[u8]) -> Result<Answer, Stop> {
     let one = read_path(alloc, one)?;
     let other = read_path(alloc, other)?;

@@ -1,9 +1,9 @@
-//! A tree that is a plain list of its files: what the trees of `hook_base` are compared with.
+//! A tree that is a plain list of its files. The trees of `hook_base` are compared with it.
 
 use hook_base::{Change, File, FileEntry, OutOfMemory, RepoPath, SharedFile};
 use std::alloc::Global;
 
-/// The files of one moment, one a path, in the order of their paths.
+/// The files of one moment, one per path, in the order of their paths.
 #[derive(Drop)]
 pub(crate) struct PlainTree {
     alloc: Global,
@@ -71,7 +71,7 @@ impl PlainTree {
         }
     }
 
-    /// Removes the row of a path. Answers whether there was one.
+    /// Removes the row of a path, and returns whether there was one.
     pub(crate) fn remove(&mut self, path: &RepoPath) -> bool {
         match self.index_of(path) {
             Some(index) if index < self.rows.len() => {
@@ -90,7 +90,7 @@ impl PlainTree {
         })
     }
 
-    /// What became of each row in `after`: other bytes, or that it is gone.
+    /// What became of each row in `after`: other bytes, or gone.
     pub(crate) fn changes_to(&self, after: &PlainTree) -> Result<Vec<Change>, OutOfMemory> {
         let mut changes = Vec::new(self.alloc);
         for row in &self.rows {

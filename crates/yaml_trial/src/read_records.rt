@@ -1,5 +1,5 @@
-//! The calls that read the records of answers. Each item is shown behind its length and a colon, in the form in which it is an
-//! argument of the calls that make records.
+//! The calls that read the records of answers. Each item follows its length and a colon, in the form in
+//! which it is an argument of the calls that make records.
 
 use answer_records::{ChangedFile, SeenFile, read_changes, read_seen, read_words};
 use hook_base::Mode;
@@ -42,7 +42,7 @@ pub(crate) fn changes(alloc: Global, bytes: &[u8]) -> Result<Answer, Stop> {
     Ok(answer)
 }
 
-/// How many words are read of the bytes with so many bytes of `a` behind them.
+/// How many words are read of the bytes with so many bytes of `a` after them.
 pub(crate) fn long_words(alloc: Global, count: &[u8], front: &[u8]) -> Result<Answer, Stop> {
     let tail = "a".repeat(alloc, number_of(count)? as usize)?;
     let mut bytes = Vec::from_slice(alloc, front)?;
@@ -77,7 +77,7 @@ fn with_changed(answer: Answer, file: &ChangedFile) -> Answer {
     }
 }
 
-/// Adds the parts of an item behind their length.
+/// Adds the parts of an item after their length.
 fn with_item(answer: Answer, parts: &[&[u8]]) -> Answer {
     let mut length = 0usize;
     for part in parts {

@@ -1,5 +1,5 @@
-//! The calls that make the records of answers. A seen file is an argument of `p` or `x`, 32 bytes of a digest and its path; a
-//! changed file is `-` and its path, or `+`, 32 bytes of a digest and its path.
+//! The calls that make the records of answers. A seen file is an argument of `p` or `x`, 32 bytes of a
+//! digest, and its path. A changed file is `-` and its path, or `+`, 32 bytes of a digest, and its path.
 
 use crate::copies::texts_of;
 use answer_records::{
@@ -33,7 +33,7 @@ pub(crate) fn of_changes(alloc: Global, words: &[Vec<u8>]) -> Result<Answer, Sto
     told(alloc, changes_record(alloc, files.as_slice()))
 }
 
-/// How long the record of one word of so many bytes is.
+/// The length of the record of one word of so many bytes.
 pub(crate) fn of_long_word(alloc: Global, count: &[u8]) -> Result<Answer, Stop> {
     let word = Text::from("a".repeat(alloc, number_of(count)? as usize)?);
     match words_record(alloc, &[word]) {
@@ -96,7 +96,7 @@ fn changed_with(alloc: Global, rest: &[u8]) -> Result<ChangedFile, Stop> {
     })
 }
 
-/// A legal path, or that of a commit's message.
+/// A legal path, or that of a commit's message file.
 fn path_of(alloc: Global, path: &[u8]) -> Result<RepoPath, Stop> {
     let message = RepoPath::message(alloc)?;
     if message.as_str().as_bytes() == path {

@@ -1,10 +1,10 @@
-//! The words of a step, and what files and changes show.
+//! The words of a step, and how files and changes are shown.
 
 use hook_base::{Change, Content, FileEntry, Mode, RepoPath, Tree};
 use std::alloc::Global;
 use trial_rows::{Answer, Stop};
 
-/// The two parts of a text around its first blank, the whole and nothing where it has none.
+/// The two parts of a text around its first blank; the whole and nothing if it has no blank.
 pub(crate) fn parted(text: &str) -> (&str, &str) {
     text.split_once(' ').unwrap_or((text, ""))
 }
@@ -23,7 +23,7 @@ fn mode_of(word: &str) -> Result<Mode, Stop> {
     }
 }
 
-/// The change of a path and, behind a blank, the bytes where it isn't gone.
+/// The change of a path and, after a blank, the bytes unless it is gone.
 pub(crate) fn read_change(alloc: Global, text: &str) -> Result<Change, Stop> {
     let now = now_of(alloc, text)?;
     let path = RepoPath::read(alloc, parted(text).0)?;

@@ -16,7 +16,7 @@ pub(crate) fn read_text(alloc: Global, bytes: &[u8]) -> Answer {
     }
 }
 
-/// The node of a text as its `Debug` has it, or the fault.
+/// The node of a text as its `Debug` shows it, or the fault.
 pub(crate) fn debug_text(alloc: Global, bytes: &[u8]) -> Answer {
     match read(alloc, bytes) {
         Ok(node) => Answer::new(alloc).debug(&node),
@@ -66,7 +66,8 @@ fn lines_in(bytes: &[u8]) -> usize {
     bytes.split(|byte| *byte == b'\n').count()
 }
 
-/// The node of a text, and that of the reader of flows, which looks for no block texts; `none` where one can't be read.
+/// The node of a text, and that of the reader of flows, which looks for no block texts: `same` if they are
+/// equal. A node that can't be read is `none`.
 pub(crate) fn read_twice(alloc: Global, bytes: &[u8]) -> Result<Answer, Stop> {
     let whole = shown_whole(alloc, bytes);
     match characters(alloc, bytes) {

@@ -1,5 +1,5 @@
-//! A tree beside a plain one: each call is made on both, and what they answer is compared. One that is refused memory has to
-//! leave the tree as it was.
+//! A tree next to a plain one: each call is made on both, and their answers are compared. A call that is
+//! refused memory has to leave the tree as it was.
 
 use crate::plain_tree::PlainTree;
 use hook_base::{Change, File, FileEntry, OutOfMemory, RepoPath, SharedFile, Tree};
@@ -65,7 +65,7 @@ impl TreePair {
         Ok(true)
     }
 
-    /// Takes the file that the other has at an index.
+    /// Takes the file that the other has at an index, if there is one.
     pub(crate) fn share(&mut self, other: &TreePair, index: usize) -> Result<bool, OutOfMemory> {
         if index < other.tree.len() {
             let file = other.tree.shared(index).clone()?;
@@ -77,8 +77,8 @@ impl TreePair {
         Ok(true)
     }
 
-    /// What a call comes to of which the tree was refused memory, and which the plain one wasn't asked for: the refusal where
-    /// both are still alike, and `false` where the tree was changed.
+    /// The result of a call for which the tree was refused memory, and which wasn't made on the plain one.
+    /// It is the refusal if both are still alike, and `false` if the tree was changed.
     fn left_by(&self, refused: OutOfMemory) -> Result<bool, OutOfMemory> {
         if self.is_same() {
             Err(refused)
@@ -87,12 +87,12 @@ impl TreePair {
         }
     }
 
-    /// Whether both say the same of what was removed.
+    /// Whether both agree on what was removed.
     pub(crate) fn remove(&mut self, path: &RepoPath) -> bool {
         self.plain.remove(path) == self.tree.remove(path)
     }
 
-    /// Whether the same stands at a path of both.
+    /// Whether both have the same file at a path.
     pub(crate) fn get(&self, path: &RepoPath) -> bool {
         match (self.plain.find(path), self.tree.get(path)) {
             (Some(row), Some(entry)) => row.as_file().entry == *entry,
@@ -126,7 +126,7 @@ impl TreePair {
         Ok(true)
     }
 
-    /// Whether both say the same of what became of their files, and of whether they are equal.
+    /// Whether both agree on what became of their files, and on whether they are equal.
     pub(crate) fn changes_to(&self, after: &TreePair) -> Result<bool, OutOfMemory> {
         let changes = self.tree.changes_to(&after.tree)?;
         let are_same = changes.as_slice() == self.plain.changes_to(&after.plain)?.as_slice();

@@ -1,4 +1,4 @@
-//! Random calls on trees and on plain ones beside them.
+//! Random calls on trees and on plain ones next to them.
 
 use crate::tree_pair::TreePair;
 use hook_base::{Change, Content, FileEntry, Mode, RepoPath};
@@ -12,7 +12,8 @@ const CONTENTS: u64 = 5;
 
 const MOST_CHANGES: u64 = 8;
 
-/// Plays as many calls as the second word says, chosen by the seed that the first is. Shows how many were alike.
+/// Plays as many calls as the second word says. The first word is the seed that chooses them. Shows how
+/// many were alike.
 pub(crate) fn answer(alloc: Global, seed: &[u8], calls: &[u8]) -> Result<Answer, Stop> {
     let calls = number_of(calls)?;
     let mut play = Play::new(alloc, number_of(seed)? as u64);
@@ -24,8 +25,8 @@ pub(crate) fn answer(alloc: Global, seed: &[u8], calls: &[u8]) -> Result<Answer,
     Ok(Answer::new(alloc).shown(calls).text(" alike"))
 }
 
-// The calls are made on `one`; `other` and `third` change places with it now and then, so that copies of copies and trees
-// that share nothing come up.
+// The calls are made on `one`. Now and then `other` and `third` change places with it, so copies of copies
+// occur, and so do trees that share nothing.
 #[derive(Drop)]
 struct Play {
     alloc: Global,
@@ -46,7 +47,7 @@ impl Play {
         }
     }
 
-    /// Makes one call. Answers whether both trees are alike in what they say and hold then.
+    /// Makes one call, and returns whether both trees are alike in their answers and then in their files.
     fn step(&mut self) -> Result<bool, Stop> {
         let is_alike = match self.below(16) {
             0..4 => self.put()?,
@@ -69,7 +70,7 @@ impl Play {
         }
     }
 
-    /// A number below the bound, by Knuth's multiplier for 64 bits.
+    /// A number below the bound, by a linear congruential generator with Knuth's multiplier for 64 bits.
     fn below(&mut self, bound: u64) -> u64 {
         let next = self.state.wrapping_mul(6_364_136_223_846_793_005);
         self.state = next.wrapping_add(1_442_695_040_888_963_407);
@@ -125,7 +126,7 @@ impl Play {
         Ok(self.one.get(&path))
     }
 
-    /// The trees change places, and now and then one begins anew.
+    /// The trees change places, and now and then one starts empty again.
     fn turn(&mut self) -> bool {
         if self.below(8) == 0 {
             self.third = TreePair::new(self.alloc);

@@ -1,4 +1,5 @@
-//! A play on two trees and on changes that wait, one step an argument. What the steps show is parted by semicolons.
+//! A play on two trees and on changes that wait. Each argument is a step. What the steps show is separated
+//! by semicolons.
 
 use crate::steps::{entry_of, parted, read_change, with_changes, with_entry, with_tree};
 use hook_base::{Change, Changes, RepoPath, Tree};
@@ -6,7 +7,7 @@ use std::alloc::Global;
 use std::mem;
 use trial_rows::{Answer, Stop, number_of, text_of};
 
-/// What the steps show.
+/// The output of the steps.
 pub(crate) fn answer(alloc: Global, words: &[Vec<u8>]) -> Result<Answer, Stop> {
     let mut trees = Trees {
         alloc,
@@ -124,7 +125,7 @@ impl Trees {
         }
     }
 
-    /// Shows what stands at a path of the first tree.
+    /// Shows the file at a path of the first tree.
     fn get(&self, answer: Answer, path: &str) -> Result<Answer, Stop> {
         match self.one.get(&RepoPath::read(self.alloc, path)?) {
             Some(entry) => Ok(with_entry(answer, entry)),

@@ -1,4 +1,4 @@
-//! Nodes as the tables have them.
+//! Nodes as the tables write them.
 
 use trial_rows::Answer;
 use yaml_lines::Node;

@@ -1,10 +1,10 @@
-"""The records of answers: the bytes of each, and what is read of bytes.
+"""The records of answers: the bytes of each, and what is read from bytes.
 
-A word is an argument of `words_record`. A seen file is one of `seen_record`: `p` (plain) or `x` (executable), the 32 bytes of
-a digest, and its path. A changed file is one of `changes_record`: `-` and its path where it is gone, or `+`, the 32 bytes of
-a digest, and its path. `read_words`, `read_seen` and `read_changes` take the bytes of a record, and answer `none`, or how many
-items there are and each of them as such an argument, behind its length. `long_words_record` tells the length of the record of one
-word of so many bytes; `read_long_words` how many words are read of bytes with so many more behind them.
+A word is an argument of `words_record`. A seen file is one of `seen_record`: `p` (plain) or `x` (executable), the 32 bytes of a
+digest, and its path. A changed file is one of `changes_record`: `-` and its path if it is gone, or `+`, the 32 bytes of a digest, and
+its path. `read_words`, `read_seen` and `read_changes` take the bytes of a record. They answer `none`, or how many items there are and
+each of them as such an argument, after its length. `long_words_record` gives the length of the record of one word of so many bytes.
+`read_long_words` gives how many words are read from bytes with so many more after them.
 
 The bytes are put together here, by `struct`.
 """
@@ -187,13 +187,13 @@ ROWS = [
             # A mark that is none.
             n4(1) + b(b"a") + b"\2",
             n4(1) + b(b"a") + b"\2" + ABC,
-            # A digest behind the mark of a file that is gone, and none behind the other.
+            # A digest after the mark of a file that is gone, and none after the other.
             n4(1) + b(b"a") + b"\0" + ABC,
             n4(1) + b(b"a") + b"\1",
             n4(1) + b(b"a") + b"\1" + ABC[:31],
         ],
     ),
-    # A record has at most 16 MiB: the word behind its length, which stands behind the count.
+    # A record has at most 16 MiB: the word after its length, which comes after the count.
     ("long_words_record", str(MOST - 8), str(MOST)),
     ("long_words_record", str(MOST - 7), "a record of more than 16 MiB"),
     ("long_words_record", str(MOST + 1), "a record of more than 16 MiB"),

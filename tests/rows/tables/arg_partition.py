@@ -1,4 +1,4 @@
-"""The words of an entry, beside those that Python's shlex.split gives, and the parts of a command."""
+"""The words of an entry, compared with those of Python's shlex.split, and the parts of a command."""
 
 PROGRAM = "selection_trial"
 
@@ -7,7 +7,7 @@ NOTHING = "2 NothingEscaped"
 
 
 def words(text, *want):
-    """A text and its words: each is told with a line feed before it."""
+    """A text and its words: each is written with a line feed before it."""
     return ("words", text, "".join(f"\n{word}" for word in want))
 
 
@@ -82,7 +82,7 @@ PARTS = [
     parts(2, 1, "ab", ["x"], 0),
     parts(3, 1, "ab", ["x"], 0),
     parts(4, 1, "ab", ["x"], [(0, 1)]),
-    # without words no byte stands before the first name
+    # without words no byte comes before the first name
     parts(2, 9, "", ["xx", "y", "zz"], [(0, 1), (1, 2), (2, 3)]),
     parts(4, 9, "", ["xx", "y", "zz"], [(0, 2), (2, 3)]),
     parts(1, 9, "", ["y", "xx"], 1),

@@ -43,7 +43,7 @@ ROWS = [
     ("grep_build", r"(a)\1", "", "1 NotAPattern"),
     ("grep_build", "(", "-v", "2 BadArg"),
     ("grep_build", "(?-u)\\xff", "", "built"),
-    # a long entry is a pattern too: a name, names behind one another, classes
+    # a long entry is a pattern too: a name, names one after another, classes
     *(("grep_build", long, args, "built") for long in LONG for args in ["", "-i"]),
     ("grep_answer", "(", "", *P, "a", "1 NotAPattern"),
 
@@ -88,7 +88,7 @@ ROWS = [
     ("grep_answer", "(?-u)^.x", "", *P, b"\xffx\n", b"1\np.txt:1:\xffx\n"),
     ("grep_answer", "^.$", "", *P, "\u00e9\n", "1\np.txt:1:\u00e9\n"),
     ("grep_answer", "a\0b", "", *P, b"a\0b\n", b"1\np.txt:1:a\0b\n"),
-    # files: in the order in which they are named, each as often; one that the tree lacks counts for nothing
+    # files: in the order in which they are named, each as often; one that the tree lacks is skipped
     ("grep_answer", "a", "", "q\np.txt", "p.txt", "a\n", "q", "ba\n", "1\nq:1:ba\np.txt:1:a\n"),
     ("grep_answer", "a", "", "p.txt\np.txt", "p.txt", "a\n", "1\np.txt:1:a\np.txt:1:a\n"),
     ("grep_answer", "a", "", "p.txt", "p.txt", "b\n", "q", "a\n", "0\n"),
@@ -104,7 +104,7 @@ ROWS = [
     ("grep_answer", "x", "--multiline", *P, "a\nx\nx\n", "1\np.txt:2:x\n"),
     ("grep_answer", "b.c", "--multiline", *P, "ab\ncd\n", "1\np.txt:1:ab\nc\n"),
     ("grep_answer", "b.*d", "--multiline", *P, "a\n--b--\nc\nd--\n", "1\np.txt:2:--b--\nc\nd\n"),
-    # one line feed is added where the match ends with one
+    # one line feed is added if the match ends with one
     ("grep_answer", r"a\n", "--multiline", *P, "xa\ny", "1\np.txt:1:xa\n\n"),
     # a match that begins at a line feed begins in the line that it ends
     ("grep_answer", r"\ny", "--multiline", *P, "x\ny\n", "1\np.txt:1:x\ny\n"),

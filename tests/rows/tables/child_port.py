@@ -1,12 +1,12 @@
 """Children that answer by a table.
 
-The arguments of `children` are the rows of the table and the children that are asked for, their parts parted by `|`:
+The arguments of `children` are the rows of the table and the children that are asked for, with `|` between their parts:
 
     row|WORDS|PATH|BYTES|STATUS|OUTPUT|CHANGE    ask|WORDS|PATH|BYTES
 
-A child has seen a plain file of this path and these bytes. A change, if there is one, is a path and, behind a blank, the
-bytes where it isn't gone. The answer has what each child gave, in the order of asking, whether its copy is equal, and how many calls and faults
-were counted.
+A child has seen a plain file of this path and these bytes. A change, if there is one, is a path, and after a blank the bytes unless
+the file is gone. The answer has what each child gave, in the order of asking, whether its copy is equal, and how many calls and
+faults were counted.
 """
 
 PROGRAM = "yaml_trial"

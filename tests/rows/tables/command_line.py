@@ -1,4 +1,4 @@
-"""The lines of words of command_line: that the commands that they name, and the errors, are those that a user knows."""
+"""The lines of words of command_line: that the commands that they name, and the errors, are those that a user expects."""
 
 PROGRAM = "hook_trial"
 
@@ -77,13 +77,13 @@ LINES = [
         "  commit     Commits the staged files, through the hooks of a commit\n"
         "  log        Prints the commits, the newest first\n"
         "  show       Prints a commit's message and its paths\n"
-        "  memory     Prints how many answers of hooks' commands are remembered, or limits them\n"
-        "  forget     Forgets the remembered answers, and prints how many there were\n\n"
+        "  memory     Prints how many results of hooks' commands are cached, or limits them\n"
+        "  forget     Drops all cached results, and prints how many there were\n\n"
         "Options:\n"
         "  -h, --help     Print help\n"
         "  -V, --version  Print version\n\n"
-        "Without words, the configuration is read from standard input, and its hooks are\n"
-        "run on no files. What that refuses, hookhost try --help explains.\n\n"
+        "Without words, the configuration is read from standard input, and its hooks run on\n"
+        "no files. hookhost try --help explains what that refuses.\n\n"
         "A repository lies in .hookhost of the current folder: init makes it, and all\n"
         "commands but try, check and explain work on it. In a repository of Git the script\n"
         "hookhost-git runs the hooks before each commit: hookhost-git --help says how.\n\n"
@@ -123,7 +123,7 @@ USAGES = {
 
 
 def refused(command, kind, text):
-    """The answer to words of a command that are refused, with the command's usage behind the text."""
+    """The answer to words of a command that are refused, with the command's usage after the text."""
     return f"refused {kind}\nerror: {text}\n\nUsage: hookhost {USAGES[command]}\n\n{MORE}"
 
 
@@ -135,7 +135,7 @@ def missing(value):
     return f"the following required arguments were not provided:\n  <{value}>"
 
 
-# What `add`, `rm` and `run-files` say where paths stand neither in words nor in a file, and where they stand in both.
+# What `add`, `rm` and `run-files` say if paths are given neither in words nor in a file, or in both.
 NO_PATHS = missing("PATH") + "..."
 BOTH_PATHS = "the argument '--paths-from <FILE>' cannot be used with '[PATH]...'"
 
@@ -161,10 +161,10 @@ def no_color(value):
 
 
 def both_versions(value):
-    return f"invalid value '{value}' for '--commit <N>': it can't stand beside --fixed"
+    return f"invalid value '{value}' for '--commit <N>': it can't be used with --fixed"
 
 
-# Words by which `memory` limits what is remembered, and the limit.
+# Words by which `memory` limits what is cached, and the limit.
 LIMITS = [
     (["--limit=1"], 1),
     (["--limit", "1"], 1),
@@ -245,7 +245,7 @@ REPOSITORY_LINES = [
         ["add", "--chmod=+x", "--chmod=+x", "a"],
         refused("add", "ArgumentConflict", "the argument '--chmod <MODE>' cannot be used multiple times"),
     ),
-    # A path that looks like a flag stands behind `--`.
+    # A path that looks like a flag comes after `--`.
     (["add", "-x"], refused("add", "UnknownArgument", no_flag("-x"))),
     (["rm", "--chmod=+x", "a"], refused("rm", "UnknownArgument", no_flag("--chmod"))),
     # The number has 32 bits.
@@ -277,13 +277,13 @@ REPOSITORY_LINES = [
     (["fix"], no_command("fix", "  tip: a similar subcommand exists: 'fixes'\n\n")),
     (["forgot"], no_command("forgot", "  tip: a similar subcommand exists: 'forget'\n\n")),
     (["Memory"], no_command("Memory", "  tip: a similar subcommand exists: 'memory'\n\n")),
-    # A command that takes no value has none to be told of.
+    # A command that takes no value has none to report.
     *(([command, "--all"], refused(command, "UnknownArgument", "unexpected argument '--all' found")) for command in ["accept", "memory", "forget"]),
     (
         ["add", "--ch=+x", "a"],
         refused("add", "UnknownArgument", "unexpected argument '--ch' found\n\n  tip: a similar argument exists: '--chmod'"),
     ),
-    # The help of a command, which is short where the first word that asks for it begins with -h.
+    # The help of a command, which is short if the first word that asks for it begins with -h.
     *(
         (
             ["status", *words],
@@ -302,9 +302,9 @@ REPOSITORY_LINES = [
         "Usage: hookhost status\n\n"
         "Options:\n"
         "  -h, --help  Print help\n\n"
-        "A line is A PATH for a file that was added, M PATH for one whose bytes or mode\n"
-        "differ, and D PATH for one that was taken out, in the order of the paths. Before the\n"
-        "first commit every staged file is an added one. The folder's files aren't looked at.\n\n"
+        "Each line is A PATH for a file that was added, M PATH for one whose bytes or mode\n"
+        "differ, or D PATH for one that was unstaged, in the order of the paths. Before the\n"
+        "first commit every staged file is an added one. The files in the folder aren't read.\n\n"
         "Example:\n"
         "  hookhost status\n\n"
         "Exit status:\n"
@@ -314,18 +314,18 @@ REPOSITORY_LINES = [
         "'hookhost: cannot use .hookhost/store.db' says that no store is here, or that it\n"
         "can't be opened: hookhost init makes one. 'hookhost: cannot use .hookhost/lock' says\n"
         "that another hookhost works here: wait for it. 'hookhost: standard output was not\n"
-        "taken' says that what is printed didn't go out whole: what was done stays. A store\n"
-        "of an earlier version is taken over as it is opened: no earlier hookhost opens it\n"
-        "then. What opening the store refuses is told as 'hookhost: refused: NUMBER NAME':\n"
+        "taken' says that not all output was written: what was done stays. A store of an\n"
+        "earlier version is converted when it is opened; then no earlier hookhost opens it.\n"
+        "What opening the store refuses is reported as 'hookhost: refused: NUMBER NAME':\n"
         "   1 NotAStore    the file is no store of a version that this program knows\n"
         "                  move it away, and make a store by hookhost init\n"
-        "   2 Damaged      the store holds what no store holds\n"
+        "   2 Damaged      the store breaks a rule that every store keeps\n"
         "                  take it from a backup: nothing here mends it\n"
         "   3 Sql          the database refused\n"
         "                  see that the disk can be read and has room\n"
         "   4 OutOfMemory  memory was refused\n"
         "                  free some memory, and run it again\n\n"
-        "What the command itself refuses is told in the same way:\n"
+        "What the command itself refuses is reported in the same way:\n"
         "   1 OutOfMemory  memory was refused\n"
         "                  free some memory, and run it again\n"
         "   2 Store N      the store refused, for the cause N of those above\n"
@@ -387,11 +387,11 @@ def colored(words, first, rest):
 
 COLOR_LINES = [
     *(row for report in REPORTS for row in colored(*report)),
-    # A word that is a value of another option, or stands after `--`, asks for no color.
+    # A word that is a value of another option, or comes after `--`, asks for no color.
     (("commit", "-m", "--color=never"), "commit\n--color=never\n"),
     (("try", "--", "--color=always", "a"), "try\n--color=always\na\n"),
     (("run", "--", "--color=always"), "run pre-commit changed\n--color=always\n"),
-    # What a command lacks is told before a color that isn't known.
+    # What a command lacks is reported before a color that isn't known.
     (("try", "--color=on"), refused("try", "MissingRequiredArgument", missing("CONFIG") + "\n  <PATH>...")),
     (("commit", "--color=on"), refused("commit", "MissingRequiredArgument", "the following required arguments were not provided:\n  -m <TEXT>")),
     (("run-files", "--color=on"), refused("run-files", "InvalidValue", NO_PATHS)),

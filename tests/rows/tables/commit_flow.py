@@ -4,9 +4,9 @@ begun_message MESSAGE
 cleaned_message MESSAGE
 play COMMAND..
 
-The first two answer the message that is made of it; the third what `crates/hook_trial/src/plays.rt` names, on a repository that
-is empty at first. The definitions say the same, the message's by lines; these rows are those of users, and show that memory is
-enough for them."""
+The first two answer the message that is made of it, and the third what `crates/hook_trial/src/plays.rt` names, on a repository that
+is empty at first. The definitions say the same, the message's by lines. These rows show it from a user's side, and that memory
+is enough for them."""
 
 PROGRAM = "hook_trial"
 
@@ -41,7 +41,7 @@ MESSAGE = ".git/COMMIT_EDITMSG"
 
 
 def child(status, words, seen="", changes="", output=""):
-    """A row by which a child answers. The byte 1 stands for the line ends within a file."""
+    """A row by which a child answers. The byte 1 means the line ends within a file."""
     return ("child", f"answer {status}\n{words}\n{seen}\n{changes}\n{output}")
 
 
@@ -50,7 +50,7 @@ def line(name, word):
 
 
 def told(name, text):
-    """A text behind the line that tells what it is and how long."""
+    """A text after the line that says what it is and how long."""
     return f"{name} {len(text)}\n{text}"
 
 
@@ -62,7 +62,7 @@ def files(name, *files):
     return "".join(told(f"{name} {mode} {path}", contents) for mode, path, contents in files)
 
 
-# Children that take the blank off a.txt, ask that a message names a ticket, and are told of a commit.
+# Children that take the blank off a.txt, ask that a message names a ticket, and get a commit reported.
 TRIM = child(1, "trim\ta.txt", "a.txt=x ", "a.txt=x", "trimmed\n")
 TRIMMED = child(0, "trim\ta.txt", "a.txt=x")
 TRIM_NO_MORE = child(3, "trim\ta.txt", "a.txt=x", output="no more\n")
@@ -78,7 +78,7 @@ NOT_STARTED = line("Tell", "Failed") + "- hook id: tell\n- fault: could not be s
 
 RUN = ("run", "pre-commit", "changed", "", "remembering", "")
 CAUTIOUS = ("run", "pre-commit", "changed", "", "cautious", "")
-# The same in a cautious run, in which no table knows `trim`, so that it sees every file.
+# The same in a cautious run, in which no table has `trim`, so that it sees every file.
 TRIM_SEES_ALL = child(3, "trim\ta.txt", f".pre-commit-config.yaml={CONFIGURATION[:-1]}\ta.txt=x".replace("\n", "\1"), output="no more\n")
 CONFIGURATION_FILE = ("plain", ".pre-commit-config.yaml", CONFIGURATION)
 A = ("plain", "a.txt", "x\n")
@@ -90,18 +90,19 @@ PLAYS = [
         "rm", "a", "accept", "run", "manual", "all", "", "remembering", "", "commit", "m", "verified", "", "forget", "add", "none", "a/../b", "x",
         "refused 4 NotStaged\nrefused 11 NoFixes\nrefused 7 NoConfig\nrefused 10 NothingStaged\nforgot 0\nrefused 3 BadPath 3\n" + ended(),
     ),
-    # What is staged is told, and a command that is refused stops none of those behind it.
+    # What is staged is reported, and a command that is refused stops none of those after it.
     (
         "add", "executable", "b", "1", "add", "none", "a", "22", "add", "none", "b/c", "x", "add", "none", "b", "", "rm", "a", "rm", "a",
         "added\nadded\nrefused 15 Clash\nadded\nremoved\nrefused 4 NotStaged\n" + ended() + files("staged", ("executable", "b", "")),
     ),
-    # A run that keeps a fix, which is told and then accepted.
+    # A run that keeps a fix, which is reported and then accepted.
     (
         *TRIM, *CONFIGURED, "add", "none", "a.txt", "x \n", "run", "pre-commit", "changed", "", "remembering", "",
         "added\nadded\nran, failed, 0 unsteady\n" + told("change a.txt", "x\n") + told("report", TRIM_FAILED) + ended(1, remembered=1)
         + files("staged", CONFIGURATION_FILE, ("plain", "a.txt", "x \n")) + told("fix a.txt", "x\n"),
     ),
-    # A day: the same, a message without a ticket, a commit that leaves hooks out, one with a ticket, and nothing behind it to tell.
+    # A day: the same, a message without a ticket, a commit that leaves hooks out, and one with a ticket. After it nothing is left to
+    # report.
     (
         *TRIM, *TRIMMED, *NO_TICKET, *TICKET, *TELL, *CONFIGURED, "add", "none", "a.txt", "x \n", "run", "pre-commit", "changed", "", "remembering", "", "accept",
         "commit", "first", "verified", "", "commit", "T1 first \n\n", "unverified", "",
@@ -114,7 +115,7 @@ PLAYS = [
         + files("staged", CONFIGURATION_FILE) + files("head", CONFIGURATION_FILE)
         + told("commit 1", "T1 first\n") + files("committed", CONFIGURATION_FILE, A) + told("commit 2", "T1 first\n") + files("committed", CONFIGURATION_FILE),
     ),
-    # A run again starts no child, and tells the same. A fresh one starts it, and tells that a hook is unsteady.
+    # A run again starts no child, and reports the same. A fresh one starts it, and says that a hook is unsteady.
     (
         *TRIMMED, *TRIM_NO_MORE, *CONFIGURED, "add", "none", "a.txt", "x\n", *RUN, *RUN, "run", "pre-commit", "a.txt", "", "fresh", "", *RUN, "forget", *RUN,
         "added\nadded\n" + ("ran, passed, 0 unsteady\n" + told("report", TRIM_PASSED)) * 2 + "ran, failed, 1 unsteady\n" + told("report", NO_MORE)
@@ -135,7 +136,7 @@ PLAYS = [
         + told("post", line("Tell", "Skipped")) + ended() + files("staged", CONFIGURATION_FILE, ("plain", "a.txt", "x \n"))
         + files("head", CONFIGURATION_FILE, ("plain", "a.txt", "x \n")) + told("commit 1", "first\n") + files("committed", CONFIGURATION_FILE, ("plain", "a.txt", "x \n")),
     ),
-    # Where no more children can be counted, what needs one is refused, and a commit that stands tells that its last hooks were stopped.
+    # If no more children can be counted, what needs one is refused, and a commit that is kept says that its last hooks were stopped.
     (
         "spent", *CONFIGURED, "add", "none", "a.txt", "x\n", "run", "pre-commit", "named.txt", "", "remembering", "", "run", "pre-commit", "a.txt", "", "remembering", "",
         "commit", "first", "verified", "", "commit", "first", "unverified", "",
@@ -145,8 +146,8 @@ PLAYS = [
     ),
 ]
 
-# Staged paths in their order, whether another can't stand beside them, and that path. Those around a slash in the order of bytes
-# stand between a folder and what lies in it.
+# Staged paths in their order, whether another can't be staged together with them, and that path. Those around a slash in the order of bytes
+# are between a folder and what lies in it.
 AMONG = [
     (["a", "a-x", "a.b", "a0"], True, "a.b/c"),
     (["a", "a-x", "a.b", "a0"], True, "a/b/c/d"),
@@ -173,7 +174,7 @@ def beside(staged, clash, path):
     return (*plays, added + ended() + files("staged", *(("plain", each, "") for each in standing)))
 
 
-# A repository has no commit of the number 0, and none behind its last one.
+# A repository has no commit of the number 0, and none after its last one.
 NEITHER = "no files\n" * 2
 
 ROWS = [

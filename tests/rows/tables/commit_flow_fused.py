@@ -2,13 +2,13 @@
 
 play fused KTH FAULT CHILD.. COMMAND..
 
-with the commands of `crates/hook_trial/src/plays.rt`. Each play of tests/shared/host_plays.py is played with each fault at its first call,
-at its second, and so on, until one ends in which no call failed. The command in which one did is made again at once, and then the
-play goes on. Its answer is told behind that command, behind the same again, and at the end: the hook failed with the fault's
-line, its child isn't remembered and is started again, and the counts are those of the calls.
+with the commands of `crates/hook_trial/src/plays.rt`. Each play of tests/shared/host_plays.py is made with each fault at its first
+call, at its second, and so on, until no call failed. The command in which one did is made again at once, and then the play goes on.
+Its answer is given after that command, after the same again, and at the end. The hook failed with the fault's line, its child isn't
+cached and is started again, and the counts are those of the calls.
 
-The answers are those of tests/shared/host_model.py. Beside it stands a host of the model that remembers nothing and none of whose
-children fails, on the repository as it then is: what the command replies when it is made again has to be that one's reply."""
+The answers are those of tests/shared/host_model.py. They are also compared with a host of the model that caches nothing and whose
+children never fail, on the repository as it then is. The repeated command has to reply what that one does."""
 from host_model import FAULTS, Committed, call_of, played
 from host_plays import FRESH_RUN, PLAYS, commands_of, host_of, words_of
 
@@ -26,16 +26,16 @@ def fused_command(hooks, commands, kth):
 
 
 def check_from_scratch(hooks, commands, at, kth, said):
-    """That the model itself says what is told of these plays."""
+    """Checks that the model itself gives these plays the same answers from scratch."""
     host, scratch = host_of(hooks, kth=kth, fault=said), host_of(hooks)
     replies = [host.reply(call_of(command)) for command in commands[:at + 1]]
     memory, is_made = host.memory, isinstance(replies[-1], Committed)
     assert b"".join(reply.told() for reply in replies).count(f"- fault: {said}\n".encode()) == memory.faults == 1
-    # What was remembered before a fresh run still is.
+    # What was cached before a fresh run still is.
     assert (memory.fused in memory.book) == (commands[at] == FRESH_RUN)
     scratch.history, scratch.staged, scratch.fixes, calls = host.history, host.staged, host.fixes, memory.calls
     assert host.reply(call_of(commands[at])) == scratch.reply(call_of(commands[at]))
-    # The hook behind a commit isn't asked by the same commit, which is none any more; all others are started again.
+    # The hook after a commit isn't asked by the same commit, which is none any more; all others are started again.
     assert memory.faults == 1 and (is_made or memory.calls > calls and memory.fused in memory.book)
 
 

@@ -1,17 +1,17 @@
-"""Lists of commands that a host of commit_flow makes at one call, whose hooks start children: what is started, and what is remembered
-of it as long as the host lives. The call is
+"""Lists of commands that a host of commit_flow makes at one call, whose hooks start children: what is started, and what is cached as long
+as the host lives. The call is
 
 play COMMAND..
 
-with the commands of `crates/hook_trial/src/plays.rt`, after the rows by which children answer. The definitions say the same; these
-rows are those of users, and show that memory is enough for them. Those of a book alone stand in hook_run_remembered.py."""
+with the commands of `crates/hook_trial/src/plays.rt`, after the rows by which children answer. The definitions say the same. These
+rows show it from a user's side, and that memory is enough for them. hook_run_remembered.py has those of a book alone."""
 from remembered_rows import LOOK, LOOKS, MANY, MANY_FILES, MODIFIED, PASSED, TRIM, TRIMMED, TRIMS, T, child, details, hook, hooks, lint
 
 PROGRAM = "hook_trial"
 
 
 def of_host(name, text):
-    """A text behind the line that tells what it is and how long."""
+    """A text after the line that says what it is and how long."""
     return f"{name} {len(text)}\n{text}"
 
 
@@ -50,7 +50,7 @@ STRAYING = hooks(hook("T", "c", "files: ^a"))
 LINTED = hooks(hook("T", "sh tools/lint.sh", "files: ^a"))
 
 HOSTS = [
-    # After the first run two answers are remembered; the second starts one child more, and the third none.
+    # After the first run two answers are cached; the second starts one child more, and the third none.
     (*OF_TRIMMING, *CONFIGURED, *UNTRIMMED, *host_run(), "added\nadded\n" + TRIM_FAILS + ended(2, 0, 2) + staged(CONFIGURATION, ("a.txt", "x \n")) + of_host("fix a.txt", "x\n")),
     (
         *OF_TRIMMING, *CONFIGURED, *UNTRIMMED, *host_run(), "accept", *host_run(),
@@ -63,25 +63,25 @@ HOSTS = [
         *OF_TRIMMING, *CONFIGURED, *UNTRIMMED, *host_run(), "rm", "a.txt", "rm", ".pre-commit-config.yaml", *TRIMMING,
         "added\nadded\n" + TRIM_FAILS + "removed\nremoved\n" + TRIMMING_TOLD + ended(3, 0, 3) + TRIMMING_LEAVES,
     ),
-    # A file that no child has seen is staged, and staged anew: nothing is started.
+    # A file that no child has seen is staged, and staged again: nothing is started.
     (
         *OF_TRIMMING, *TRIMMING, *add("b.md", "1\n"), *host_run("a.txt"), *add("b.md", "2\n"), *host_run("a.txt"),
         TRIMMING_TOLD + ("added\n" + TRIM_PASSES) * 2 + ended(3, 0, 3) + staged(CONFIGURATION, ("a.txt", "x\n"), ("b.md", "2\n")),
     ),
-    # What a child changes that it hasn't seen is a fix, and isn't remembered.
+    # What a child changes that it hasn't seen is a fix, and isn't cached.
     (
         *child("c", "a.txt", changes="b.txt=z"), *add(".pre-commit-config.yaml", STRAYING), *add("a.txt", "x\n"), *add("b.txt", "y\n"), *host_run(), *host_run(),
         "added\n" * 3 + ran("failed", details("T", MODIFIED), ("b.txt", "z\n")) * 2 + ended(2, 0, 0)
         + staged((".pre-commit-config.yaml", STRAYING), ("a.txt", "x\n"), ("b.txt", "y\n")) + of_host("fix b.txt", "z\n"),
     ),
-    # A script that is staged anew with other bytes is started again, and with the bytes that it had it isn't.
+    # A script that is staged again with other bytes is started again, and with the bytes that it had it isn't.
     (
         *lint(1), *lint(2), *add(".pre-commit-config.yaml", LINTED), *add("a.txt", "x\n"), *add("tools/lint.sh", "1\n"), *host_run(), *add("tools/lint.sh", "2\n"), *host_run(),
         *add("tools/lint.sh", "1\n"), *host_run(),
         "added\n" * 3 + ran("passed", PASSED) + ("added\n" + ran("passed", PASSED)) * 2 + ended(2, 0, 2)
         + staged((".pre-commit-config.yaml", LINTED), ("a.txt", "x\n"), ("tools/lint.sh", "1\n")),
     ),
-    # A run that is refused leaves what was remembered by then: the second hook's child can't be counted.
+    # A run that is refused leaves what was cached by then: the second hook's child can't be counted.
     (
         "spent", *CONFIGURED, *UNTRIMMED, *host_run(), "added\nadded\nrefused 14 Spent\n" + ended(2**64 - 1, 0, 0) + staged(CONFIGURATION, ("a.txt", "x \n")),
     ),
@@ -97,7 +97,7 @@ def many_plays():
     return (*rows, *add(*configuration), *plays, replies + ended(MANY, 0, MANY) + staged(configuration, ("a.txt", MANY_FILES[-1])))
 
 
-# A repository has no commit of the number 0, and none behind its last one.
+# A repository has no commit of the number 0, and none after its last one.
 NEITHER = "no files\n" * 2
 
 ROWS = [("play", *row, answer + NEITHER) for *row, answer in [*HOSTS, many_plays()]]

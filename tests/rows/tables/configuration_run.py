@@ -1,5 +1,5 @@
-"""What no contract of configuration_run says: how a run treats its reader and its writer, what each refusal is shown as, and that
-reports and checks are those that a user knows."""
+"""What no contract of configuration_run says: how a run treats its reader and its writer, and what each refusal is shown as. Also that
+reports and checks are those that a user expects."""
 
 PROGRAM = "hook_trial"
 
@@ -14,10 +14,10 @@ repos:
     entry: no such names
 """
 
-# What a run of it writes where there are no files.
+# What a run of it writes if there are no files.
 SKIPPED = "Check names..........................................(no files to check)Skipped\n"
 
-# What a run of it writes where no file is named.
+# What a run of it writes if no file is named.
 FAILED_ALONE = """\
 Check names..............................................................Failed
 - hook id: names
@@ -56,7 +56,7 @@ REPORTS = [
     ),
     # A hook that always runs, without files.
     (f"{NAMES}    always_run: true\n", f"failed\n{FAILED_ALONE}"),
-    # A hook that is handed no names.
+    # A hook that is given no names.
     (f"{NAMES}    pass_filenames: false\n", "bad.txt", f"failed\n{FAILED_ALONE}"),
     # The configuration stops after the first hook that failed.
     (
@@ -64,7 +64,7 @@ REPORTS = [
         "bad.txt",
         f"failed\n{FAILED}",
     ),
-    # A skipped hook prints its details where it is verbose, and does not stop.
+    # A skipped hook prints its details if it is verbose, and does not stop.
     (
         f"{NAMES}    verbose: true\n    fail_fast: true\n  - id: last\n    name: Last\n    language: fail\n    entry: never\n",
         "passed\n"
@@ -74,7 +74,7 @@ REPORTS = [
     ),
 ]
 
-# A configuration's hooks stand after the default stages.
+# A configuration's hooks come after the default stages.
 REPOSITORY = "repos:\n- repo: local\n  hooks:\n"
 HOOK = "  - id: names\n    name: Check names\n    language: fail\n    entry: no such names\n"
 
@@ -93,7 +93,7 @@ OTHER_STAGE = """\
 
 # Runs over `bad.txt` go through the hooks of their stage alone.
 STAGES = [
-    # Default stages other than the run's, before and behind the only hook.
+    # Default stages other than the run's, before and after the only hook.
     *((f"default_stages:\n- {stage}\n{REPOSITORY}{HOOK}", "passed\n") for stage in ["push", "pre-push", "manual"]),
     *((f"{REPOSITORY}{HOOK}default_stages:\n- {stage}\n", "passed\n") for stage in ["push", "pre-push", "manual"]),
     # One hook has the run's stage of its own, or by default, and the other is of another stage.
@@ -105,7 +105,7 @@ STAGES = [
         (f"default_stages:\n- {stage}\n{REPOSITORY}{HOOK}{HOOK}    stages:\n    - push\n", f"failed\n{FAILED}")
         for stage in ["commit", "pre-commit"]
     ),
-    # A hook of another stage counts for nothing.
+    # A hook of another stage is ignored.
     (f"{REPOSITORY}{OTHER_STAGE}{HOOK}", f"failed\n{FAILED}"),
 ]
 
@@ -118,7 +118,7 @@ REFUSED = [
     ("a: 1\na: 2\n", "kind: Yaml(YamlFault { kind: DoubledKey, line: 2 }), at: 2"),
 ]
 
-# A configuration behind empty lines, of 1,048,576 bytes together.
+# A configuration after empty lines, of 1,048,576 bytes together.
 LONGEST = "\n" * 1048466 + NAMES
 
 # A read of one byte more than a configuration may have, which are line feeds.
@@ -152,7 +152,7 @@ WRITES = [
     ("try_flushed", NAMES, "bad.txt", f"failed\n{FAILED}"),
 ]
 
-# The refusals of a run: what each is called to the program, its number, its name and its text.
+# The refusals of a run: the name of each in the program, its number, its name and its text.
 FAULTS = [
     ("read", "1 Read: the configuration cannot be read to its end"),
     ("configuration", "2 Config: the configuration is refused: a value is of the wrong kind"),

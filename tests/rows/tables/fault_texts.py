@@ -1,6 +1,5 @@
-"""What refusals are shown as that no other table shows, each behind its number: those of words (arg_partition), of a book
-(result_book) and of a host (commit_flow).
-Nothing of this program prints these texts, which are for callers of the libraries. The call is
+"""The texts of refusals that no other table shows, each after its number: those of words (arg_partition), of a book (result_book) and of a
+host (commit_flow). This program doesn't print them: they are for callers of the libraries. The call is
 
 fault_texts"""
 

@@ -104,7 +104,7 @@ INTERPRETERS = {
     "zsh": "shell zsh",
 }
 
-# Further tags that are asked for: the two modes, and tags of `identify` that no row gives.
+# Further tags to ask for: the two modes, and tags of `identify` that no row gives.
 FURTHER = "binary directory executable file non-executable socket svg symlink text"
 
 ALL = sorted({tag for tags in [*EXTENSIONS.values(), *NAMES.values(), *INTERPRETERS.values(), FURTHER] for tag in tags.split()})
@@ -138,8 +138,8 @@ def of_name(name):
     return f"{NAMES[name]} {EXTENSIONS.get(extension, '')}"
 
 
-# Names of files with the tags that they give, and contents with those that they give where a name gives none: to an executable
-# file, and to any.
+# Names of files with the tags that they give. Then contents with the tags that they give if the name gives none: to an executable file,
+# and to any.
 PLAYED_NAMES = {"Makefile": "makefile text", "e": "", "run": "", "x.plist": "plist", "x.png": "binary image png", "x.py": "python text"}
 PLAYED_CONTENTS = {"": ("", "text"), "x": ("", "text"), "\0": ("", "binary"), "#!/bin/sh": ("sh shell", "text"), "#!/usr/bin/env python3": ("python python3", "text"), "#!/bin/zsh \0": ("shell zsh", "binary")}
 PLAYED_PATHS = [f"{folder}{name}" for folder in ["", "a/", "a-b/", "b/"] for name in PLAYED_NAMES]
@@ -219,7 +219,7 @@ ROWS = [
     tags("plain", "x.\u212at", "", "text"),
     tags("plain", "x.\u00c9\u00c9.Md", "", "markdown text"),
 
-    # The first line counts where the name gives nothing and the file is executable.
+    # The first line counts if the name gives nothing and the file is executable.
     script("#!/usr/bin/env python3.9\n", "python python3 text"),
     script("#!/usr/bin/env python3.9", "python python3 text"),
     script("#!/usr/bin/env -S python3 -u\n", "python python3 text"),

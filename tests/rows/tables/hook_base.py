@@ -1,6 +1,6 @@
 """Paths, trees of files and the changes between them, and the copies of what contracts see as lists.
 
-`trees` plays on two trees, `one` and `other`, and on changes that wait, a step an argument:
+`trees` plays on two trees, `one` and `other`, and on changes that wait, a step for each argument:
 
     put TREE MODE PATH BYTES    change PATH BYTES, change PATH (it is gone)    copy (one to other)    apply (to one)
     absorb (as apply, and none waits any longer)
@@ -8,16 +8,16 @@
 
 Others show what their line below has, and a semicolon:
 
-    files TREE      the files, each behind a blank
+    files TREE      the files, each after a blank
     count TREE      how many files, and whether there are none
-    get PATH        what stands there in one
-    remove PATH     whether it stood in one
+    get PATH        what one has at the path
+    remove PATH     whether one had it
     same            whether the trees are equal, and whether they are unequal
-    changes         of one to other: how many, whether their copy is equal, and each behind a blank
-    take            `taken` with each change that waits where their paths rise, else `given back`; none waits any longer
+    changes         of one to other: how many, whether their copy is equal, and each after a blank
+    take            `taken` with each change that waits if their paths rise, otherwise `given back`; none waits any longer
 
-`tree_plays` makes as many random calls as the second argument says, by the seed that is the first, on three trees and on
-plain lists of files beside them: it compares what each call answers, and behind each call every file of the tree.
+`tree_plays` makes as many random calls as the second argument says, by the seed that is the first, on three trees and on plain lists
+of files. It compares what each call answers, and after each call every file of the tree.
 """
 
 PROGRAM = "yaml_trial"
@@ -83,7 +83,7 @@ ROWS = [
         "count one",
         "2 true a=3 b gone;true false;1 false;",
     ),
-    # The same where the tree keeps the changes, which then wait no longer; a copy of the tree stays as it was.
+    # The same if the tree keeps the changes, which then wait no longer; a copy of the tree stays as it was.
     (
         "trees",
         "put one executable a 1",
@@ -111,7 +111,7 @@ ROWS = [
         "same",
         "0 true;true false;",
     ),
-    # A change keeps the mode, the last of two changes stands, and no file is added.
+    # A change keeps the mode, the last of two changes counts, and no file is added.
     (
         "trees",
         "put one executable a 1",
@@ -145,7 +145,7 @@ ROWS = [
         "0 true;true false;plain=n/o;true;false;none;false true; a:plain=a b:plain=b m:plain=m z:plain=z;"
         " a:plain=a b:plain=b m:plain=m n/o:plain=n/o z:plain=z;",
     ),
-    # A tree takes what another has at a path, and nothing where that has none; or the file of an index. The other stays.
+    # A tree takes what another has at a path, and nothing if that has none; or the file of an index. The other stays.
     (
         "trees",
         "put one plain m 1",
@@ -176,7 +176,7 @@ ROWS = [
     ("copy_bytes", "abc", "abc", "3 true true"),
     ("copy_bytes", "abc", "abd", "3 true false"),
     ("copy_bytes", b"\xff\x00", "", "2 true false"),
-    # Contents know their SHA-256: the digests of "abc" and of no bytes are those of FIPS 180-4's examples.
+    # Contents have their SHA-256: the digests of "abc" and of no bytes are those of FIPS 180-4's examples.
     ("copy_content", "abc", "abc", "3 true true ba7816bf8f01cfea414140de5dae2223b00361a396177a9cb410ff61f20015ad"),
     ("copy_content", "abc", "abd", "3 true false ba7816bf8f01cfea414140de5dae2223b00361a396177a9cb410ff61f20015ad"),
     ("copy_content", "", "a", "0 true false e3b0c44298fc1c149afbf4c8996fb92427ae41e4649b934ca495991b7852b855"),

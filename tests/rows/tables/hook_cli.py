@@ -1,11 +1,10 @@
-"""Commands over a repository in memory: what each prints, on which writer, with which exit status, and what it leaves. The
-call is
+"""Commands over a repository in memory: what each prints, on which writer, with which exit status, and what it leaves. The call is
 
 command_over STEP..
 
-with the steps that `crates/hook_trial/src/host_commands.rt` names, behind the rows of `child_tables.rt`. No contract says that
-memory is enough for these rows, and none speaks of writers that are interrupted; the other rows are those of users, beside the
-definitions that the contracts cite. What commands remember of their hooks' children stands in hook_cli_remembered.py."""
+with the steps that `crates/hook_trial/src/host_commands.rt` names, after the rows of `child_tables.rt`. No contract says that memory
+is enough for these rows, and none speaks of writers that are interrupted. The other rows test the definitions that the contracts
+cite, from a user's side. hook_cli_remembered.py has what commands cache of their hooks' children."""
 from command_rows import HABITS, PATIENT, STORE, UNTAKEN, add, commit, cut_off, done, ended, kept, line, refused, run, several, stage
 
 PROGRAM = "hook_trial"
@@ -30,7 +29,7 @@ EMPTY = [
     (*add("a", "x"), *STORE, done() + kept([("a", "x")])),
 ]
 
-# The mode that is staged where a file of a mode, or none, is staged at the path, and one is asked for, or none.
+# The mode that is staged if a file of a mode, or none, is staged at the path, and one is asked for, or none.
 MODES = [
     (None, "none", "plain"),
     (None, "plain", "plain"),
@@ -51,12 +50,12 @@ ADDED = [
     # A file without bytes, and bytes that are no text.
     (*add("a"), *STORE, done() + kept([("a", "")])),
     (*add("a", b"\xff\x00\n"), *line("cat", "a"), *STORE, done() + done(b"\xff\x00\n") + kept([("a", b"\xff\x00\n")])),
-    # The mode of a file that was taken out is forgotten, that of a committed one too.
+    # The mode of a file that was taken out is dropped, that of a committed one too.
     (
         *stage("a", "x", "executable"), "commit", "m", *line("rm", "a"), *add("a", "x"), *STORE,
         done() + done() + kept([("a", "x")], [("a", "x", "executable")], commits=1),
     ),
-    # The files stand in the order of their paths, whatever the order in which they are added.
+    # The files are in the order of their paths, not in the order in which they are added.
     (*add("c", "3"), *add("a", "1"), *add("b", "2"), *STORE, done() * 3 + kept([("a", "1"), ("b", "2"), ("c", "3")])),
 ]
 
@@ -88,7 +87,7 @@ NO_PATHS = [
     ("a\x7f", 6),
     (".git", 7),
     (".git/x", 7),
-    # What is looked for first is told.
+    # What is looked for first is reported.
     ("/" + "a" * 4096 + "\x01", 5),
     ("/a\x01", 6),
     ("/../b", 2),
@@ -116,7 +115,7 @@ GOOD_PATHS = [
     for path in ["a" * 4096, ".gitignore", "a/.git", ".gitx/a", "...", "a b", "é", " "]
 ]
 
-# A staged path, and another that can't stand beside it.
+# A staged path, and another that can't be staged together with it.
 CLASHING = [
     ("a.txt", "a.txt/b"),
     ("a.txt", "a.txt/b/c"),
@@ -144,7 +143,7 @@ CLASHES = [
         (*stage(staged, "x"), *add(path, "x"), *STORE, done() + kept([(one, "x") for one in sorted([staged, path])]))
         for staged, path in APART
     ),
-    # A file that is committed and no longer staged is in nobody's way.
+    # A file that is committed and no longer staged clashes with none.
     (
         *stage("a", "x"), "commit", "m", *line("rm", "a"), *add("a/b", "y"), *STORE,
         done() + done() + kept([("a/b", "y")], [("a", "x")], commits=1),
@@ -159,7 +158,7 @@ TOO_LARGE = [
     (*stage("a", "x"), *line("add_zeros", "none", "a/b", str(MOST + 1)), *STORE, refused("5 TooLarge") + kept([("a", "x")])),
 ]
 
-# What becomes of the fixes, of which two are kept: `a` and `b` are staged.
+# Two of the fixes are kept: `a` and `b` are staged.
 WITH_FIXES = (*stage("a", "x"), *stage("b", "y"), "fixes", "a\nb")
 A_AND_B = [("a", "x"), ("b", "y")]
 FIXES = [
@@ -175,7 +174,7 @@ FIXES = [
     (*WITH_FIXES, *line("show", "1"), *STORE, ended(3, err="hookhost: no commit 1\n") + kept(A_AND_B, fixes=2)),
     (*WITH_FIXES, *line("fixes"), *STORE, done("D a\nD b\n") + kept(A_AND_B, fixes=2)),
     (*WITH_FIXES, *line("accept"), *STORE, done("accepted: 2\n") + kept()),
-    # A fix has other bytes or takes the file out. It says M also where the bytes are those that are staged, or none.
+    # A fix has other bytes or takes the file out. It says M also if the bytes are those that are staged, or none.
     (*stage("a", "x"), *stage("b", "y"), *stage("c", "z"), "fixes", "a\tnew\nb\nc\t", *line("fixes"), done("M a\nD b\nM c\n")),
     (*stage("a", "x"), "fixes", "a\tx", *line("fixes"), done("M a\n")),
     # The order is that of the paths' bytes.
@@ -194,7 +193,7 @@ FIXES = [
         + kept([("a", "one", "executable"), ("c", ""), ("d", "4")], [("a", "1", "executable"), ("b", "2"), ("c", "3"), ("d", "4")], commits=1),
     ),
     (*stage("a", "x"), "fixes", "a\tx", *line("accept"), *STORE, done("accepted: 1\n") + kept([("a", "x")])),
-    # Those of the last run alone stand, and a commit forgets them.
+    # Only those of the last run are kept, and a commit forgets them.
     (*stage("a", "x"), *stage("b", "y"), "fixes", "a", "fixes", "b\tz", *line("fixes"), done("M b\n")),
     (*stage("a", "x"), "fixes", "a", "commit", "m", *line("fixes"), *line("accept"), done() + refused("11 NoFixes")),
     (*stage("a", "x"), "fixes", "a", "unstage", "b", *line("fixes"), done()),
@@ -208,7 +207,7 @@ FIXES = [
 STATUS = [
     # Before the first commit each staged file is new.
     (*stage("b", "y", "executable"), *stage("a", ""), *line("status"), done("A a\nA b\n")),
-    # After a commit nothing differs, nor where the same file is staged again or another came and went.
+    # After a commit nothing differs. The same holds if the same file is staged again or another came and went.
     (*stage("a", "x"), *stage("b", "y"), "commit", "m", *line("status"), done()),
     (*stage("a", "x"), "commit", "m", *add("a", "x"), *line("status"), done() + done()),
     (*stage("a", "x"), "commit", "m", *line("rm", "a"), *line("status"), *add("a", "x"), *line("status"), done() + done("D a\n") + done() + done()),
@@ -219,7 +218,7 @@ STATUS = [
     (*stage("a", "x"), "commit", "m", *stage("a", "x", "executable"), *line("status"), done("M a\n")),
     (*stage("a", "x", "executable"), "commit", "m", *stage("a", "x"), *line("status"), done("M a\n")),
     (*stage("a", "x"), "commit", "m", *stage("a", "y", "executable"), *line("status"), done("M a\n")),
-    # A file that bears another name is gone and new.
+    # A file that gets another name is gone and new.
     (*stage("b", "x"), "commit", "m", "unstage", "b", *stage("a", "x"), *line("status"), done("A a\nD b\n")),
     # All kinds in turn, and paths that didn't change among them.
     (
@@ -228,12 +227,12 @@ STATUS = [
         *line("status"),
         done("A a\nD b\nM c\nA e\nD f\nM g\nA h\n"),
     ),
-    # All of the last commit stand before all that is staged, and behind it.
+    # All of the last commit come before all that is staged, and after it.
     (*stage("a", "1"), *stage("b", "1"), "commit", "m", "unstage", "a", "unstage", "b", *stage("c", "1"), *stage("d", "1"), *line("status"), done("D a\nD b\nA c\nA d\n")),
     (*stage("c", "1"), *stage("d", "1"), "commit", "m", "unstage", "c", "unstage", "d", *stage("a", "1"), *stage("b", "1"), *line("status"), done("A a\nA b\nD c\nD d\n")),
     # All is gone.
     (*stage("a", "1"), *stage("b", "1"), "commit", "m", "unstage", "a", "unstage", "b", *line("status"), done("D a\nD b\n")),
-    # The order is that of bytes: a blank, `-` and `.` stand before `/`, and `0` and letters behind it.
+    # The order is that of bytes: a blank, `-` and `.` come before `/`, and `0` and letters after it.
     (
         *stage("a/b"), *stage("a0"), *stage("a.txt"), *stage("a-b"), *stage("a b"), *stage("B"), *stage("é"), *stage("z"), *line("status"),
         done("A B\nA a b\nA a-b\nA a.txt\nA a/b\nA a0\nA z\nA é\n"),
@@ -262,7 +261,7 @@ CAT = [
 
 
 def missing(path, what):
-    """What `cat` ends with where there is no such file."""
+    """What `cat` ends with if there is no such file."""
     return ended(3, err=f"hookhost: no {what.replace('PATH', path)}\n")
 
 
@@ -277,7 +276,7 @@ VERSIONS = [
     (*HALF_FIXED, *line("accept"), *line("cat_fixed", "a"), *line("cat", "a"), done("accepted: 2\n") + missing("a", "fixed bytes of PATH") + done("fixed")),
     (*line("cat_fixed", "a//b"), refused("3 BadPath 4")),
     (*line("cat_commit", "1", "a//b"), refused("3 BadPath 4")),
-    # A commit keeps its bytes, whatever is staged later.
+    # A commit keeps its bytes, with other bytes staged later.
     (
         *stage("a", "1"), *stage("b", "x"), "commit", "m", *stage("a", "2"), "unstage", "b", "commit", "n", *stage("a", "3"),
         *line("cat_commit", "1", "a"), *line("cat_commit", "2", "a"), *line("cat", "a"), *line("cat_commit", "1", "b"), *line("cat_commit", "2", "b"),
@@ -291,7 +290,7 @@ VERSIONS = [
     (*stage("a/b", "x"), "commit", "m", *line("cat_commit", "1", "a"), missing("a", "PATH in commit 1")),
 ]
 
-# Messages, and what `log` says of a first commit with each.
+# Messages, and what `log` prints for a first commit with each.
 FIRST_LINES = [
     ("one\n", "1 one\n"),
     ("one", "1 one\n"),
@@ -317,7 +316,7 @@ LOG = [
 
 SHOW = [
     (*stage("b", "y"), *stage("a", "x"), "commit", "one\n\nbody\n", *line("show", "1"), done("one\n\nbody\n\na\nb\n")),
-    # A line feed is added where the message is not empty and lacks one at its end.
+    # A line feed is added if the message is not empty and lacks one at its end.
     (*stage("a", "x"), "commit", "one", *line("show", "1"), done("one\n\na\n")),
     (*stage("a", "x"), "commit", "one\ntwo", *line("show", "1"), done("one\ntwo\n\na\n")),
     (*stage("a", "x"), "commit", "one\n\n", *line("show", "1"), done("one\n\n\na\n")),
@@ -334,7 +333,7 @@ SHOW = [
         *line("show", "1"), *line("show", "2"), *line("show", "3"),
         done("one\n\na\n") + done("two\n\na\nb\n") + done("three\n\nb\n"),
     ),
-    # Paths stand in the order of their bytes.
+    # Paths are in the order of their bytes.
     (*stage("a/b"), *stage("a.txt"), *stage("a0"), *stage("B"), "commit", "m\n", *line("show", "1"), done("m\n\nB\na.txt\na/b\na0\n")),
     # Numbers that no commit has.
     *(
@@ -345,16 +344,16 @@ SHOW = [
 
 
 def refused_at(said, told):
-    """What several changes are answered by, of which the one of this path is refused."""
+    """What is answered to several changes, of which the one of this path is refused."""
     return ended(3, err=f"hookhost: refused: {said}\nhookhost: at {told}\n")
 
 
-# Paths that aren't allowed, as they are told: in quotes where they would end their line or mislead.
+# Paths that aren't allowed, as they are reported: in quotes if they would end their line or mislead.
 TOLD = [
     ("a\n", '"a\\n"'), ("\x07\x08\t\n\x0b\x0c\r", '"\\a\\b\\t\\n\\v\\f\\r"'), ("\x01\x0e\x1f\x7f", '"\\001\\016\\037\\177"'), ('\x1b"\\', '"\\033\\"\\\\"'),
 ]
 
-# Several changes at once: all of them or none, each made of what those before it led to.
+# Several changes at once: all of them or none, each made on the result of those before it.
 SEVERAL = [
     (*several(("add", "none", "b", "x"), ("add", "executable", "a", "y")), *STORE, done() + kept([("a", "y", "executable"), ("b", "x")])),
     (*several(("add", "none", "a", "x"), ("add", "none", "a", "y"), ("rm", "a")), *STORE, done() + kept()),
@@ -376,7 +375,7 @@ SEVERAL = [
     (*several(("add", "none", "a", "x"), err="nothing"), *STORE, done() + kept([("a", "x")])),
 ]
 
-# A store with something to say, and the commands that print on `out`, with what each says.
+# A store with output for each command, and the commands that print on `out`, with what each prints.
 SET_UP = (*stage("a", "one\n"), *stage("b", "y"), "commit", "first\nmore", *stage("a", "two\n"), *stage("c", "z"), "unstage", "b", "fixes", "a")
 STANDS = kept([("a", "two\n"), ("c", "z")], [("a", "one\n"), ("b", "y")], fixes=1, commits=1)
 SAYING = [
@@ -390,11 +389,11 @@ SAYING = [
     (("forget",), "forgotten: 0\n"),
 ]
 
-# What `accept` says and leaves there.
+# What `accept` prints and leaves there.
 ACCEPTED = "accepted: 1\n"
 ACCEPTS = kept([("c", "z")], [("a", "one\n"), ("b", "y")], commits=1)
 
-# The commands that are refused there, with what each says on `err`.
+# The commands that are refused there, with what each prints on `err`.
 REFUSED = [
     (("add", "none", "a/b", "x"), "hookhost: refused: 15 Clash\n"),
     (("add", "none", "/a", "x"), "hookhost: refused: 3 BadPath 2\n"),
@@ -416,8 +415,8 @@ WRITERS = [
     # A writer that takes little or is interrupted gets the same bytes.
     *((*SET_UP, *line(*command, out=habit), *STORE, done(said) + STANDS) for command, said in SAYING for habit in PATIENT),
     *((*SET_UP, *line(*command, err=habit), *STORE, ended(3, err=said) + STANDS) for command, said in REFUSED for habit in PATIENT),
-    # A writer that fails has what it took, the beginning of the text. Standard error says of the other that it gave an error,
-    # as far as it takes this, and nothing is said of standard error on standard output.
+    # A writer that fails has what it took, the beginning of the text. Standard error says of the other that it gave an error, as far as
+    # it takes this. Nothing is printed on standard output about standard error.
     *(
         (*SET_UP, *line(*command, out=str(count)), *STORE, cut_off(said[:count]) + STANDS)
         for command, said in SAYING
@@ -436,13 +435,13 @@ WRITERS = [
         for count in [0, 1, len(UNTAKEN) - 1, len(UNTAKEN)]
     ),
     *((*SET_UP, *line(*command, out="0", err=habit), *STORE, cut_off() + STANDS) for command, _ in SAYING for habit in PATIENT),
-    # One that takes the whole text and no more is no hindrance.
+    # One that takes the whole text and no more stops nothing.
     *((*SET_UP, *line(*command, out=str(len(said))), *STORE, done(said) + STANDS) for command, said in SAYING),
     *((*SET_UP, *line(*command, err=str(len(said))), *STORE, ended(3, err=said) + STANDS) for command, said in REFUSED),
     # One that can't be flushed has the whole text, and the command isn't done.
     *((*SET_UP, *line(*command, out="unflushed"), *STORE, cut_off(said) + STANDS) for command, said in SAYING),
     *((*SET_UP, *line(*command, err="unflushed"), *STORE, ended(3, err=said) + STANDS) for command, said in REFUSED),
-    # What is said is flushed, once.
+    # What is printed is flushed, once.
     *(
         (*SET_UP, *line(*command, out="flushed"), *STORE, ended(0, out=said, flushes=("flushed 1 times ", "")) + STANDS)
         for command, said in SAYING
@@ -451,7 +450,7 @@ WRITERS = [
         (*SET_UP, *line(*command, err="flushed"), *STORE, ended(3, err=said, flushes=("", "flushed 1 times ")) + STANDS)
         for command, said in REFUSED
     ),
-    # Fixes that are accepted stay so, whatever becomes of the line.
+    # Fixes that are accepted stay so, even if the line fails.
     *((*SET_UP, *line("accept", out=habit), *STORE, done(ACCEPTED) + ACCEPTS) for habit in PATIENT),
     *((*SET_UP, *line("accept", err=habit), *STORE, done(ACCEPTED) + ACCEPTS) for habit in HABITS),
     *((*SET_UP, *line("accept", out=str(count)), *STORE, cut_off(ACCEPTED[:count]) + ACCEPTS) for count in [0, 1, 9, 10, 11]),
@@ -459,12 +458,12 @@ WRITERS = [
     (*SET_UP, *line("accept", out="nothing"), *STORE, cut_off() + ACCEPTS),
     (*SET_UP, *line("accept", out="unflushed"), *STORE, cut_off(ACCEPTED) + ACCEPTS),
     (*SET_UP, *line("accept", out="flushed"), *STORE, ended(0, out=ACCEPTED, flushes=("flushed 1 times ", "")) + ACCEPTS),
-    # An empty text takes no call but the flush.
+    # An empty text takes no call except the flush.
     *((*line(*command, out="nothing"), done()) for command in [("status",), ("fixes",), ("log",)]),
     *((*line(*command, out="unflushed"), cut_off()) for command in [("status",), ("fixes",), ("log",)]),
     (*stage("a"), *line("cat", "a", out="nothing"), done()),
     (*stage("a"), *line("cat", "a", out="unflushed"), cut_off()),
-    # The writer that a command has nothing to say on may be as it likes.
+    # The writer on which a command has nothing to print may behave in any way.
     *((*SET_UP, *line(*command, err=habit), *STORE, done(said) + STANDS) for command, said in SAYING for habit in HABITS),
     *((*SET_UP, *line(*command, out=habit), *STORE, ended(3, err=said) + STANDS) for command, said in REFUSED for habit in HABITS),
     *((*SET_UP, *line(*command, out=habit, err=habit), *STORE, done() + left) for command, left in SILENT for habit in HABITS),
@@ -503,7 +502,7 @@ RUNS = [
     # The hooks that are skipped, by id and by alias, with spaces and empty pieces between the commas.
     *((*CONFIGURED, *run(skip=skip), done(SKIPPED + NO_START)) for skip in ["names", "bad", " names ", ",  ,start2, names", "a,b,names,"]),
     *((*CONFIGURED, *run(skip=skip), ended(1, out=BAD + NO_START)) for skip in ["", ",", "name", "na mes", "\tnames"]),
-    # A committed file is no candidate any more, unless all are asked for or it is named.
+    # A committed file is no candidate any more, unless all are selected or it is named.
     (*CONFIGURED, "commit", "m", *run(), done(NO_BAD + NO_START)),
     (*CONFIGURED, "commit", "m", *run("all"), ended(1, out=BAD + NO_START)),
     (*CONFIGURED, "commit", "m", *run("bad.txt"), ended(1, out=BAD + NO_START)),

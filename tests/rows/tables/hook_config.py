@@ -1,4 +1,4 @@
-"""What no contract of hook_config says: which refusal a text has and where, what each is shown as, and that the words of a
+"""What no contract of hook_config says: which refusal a text has and on which line, what each is shown as, and that the words of a
 configuration are those of pre-commit."""
 
 PROGRAM = "run_trial"
@@ -14,7 +14,7 @@ repos:
     entry: no such names
 """
 
-# What a hook's table stands after.
+# What comes before a hook's table.
 START = """\
 repos:
 - repo: local
@@ -58,7 +58,7 @@ def with_command(language, keys):
     return f"repos: [{{repo: local, hooks: [{{id: a, name: A, language: {language}, {keys}}}]}}]\n"
 
 
-# The fields of the hook of `in_a_hook` without further keys, but its stages, in the order of the type.
+# The fields of the hook of `in_a_hook` without further keys, except its stages, in the order of the type.
 FIELDS_OF_A_HOOK = {
     "id": "a",
     "name": "A",
@@ -82,7 +82,7 @@ FIELDS_OF_A_HOOK = {
 
 
 def hook_line(changed):
-    """How a hook is shown that has these fields, and else those of a hook without further keys."""
+    """How a hook is shown that has these fields, and otherwise those of a hook without further keys."""
     return "|".join({**FIELDS_OF_A_HOOK, **changed}.values()) + "\n"
 
 
@@ -144,7 +144,7 @@ HOOKS = [
     ("{id: a, name: A, language: fail, entry: e}, {id: b}", "3 MissingKey at 2"),
 ]
 
-# Keys of a hook beside those that it must have.
+# Keys of a hook, apart from those that it must have.
 KEYS = [
     ("stages: push", "2 Shape at 1"),
     ("stages: [[push]]", "2 Shape at 1"),
@@ -192,7 +192,7 @@ KEYS = [
     ("x_read: a, x_per_files: yes", "1 hooks, false x_read x_per_files"),
 ]
 
-# A hook of any language has these keys, which are read behind all others.
+# A hook of any language has these keys, which are read after all others.
 KEYS_OF_CHILDREN = [
     ("x_reads: a, x_per_file: true", "1 hooks, false"),
     ("x_reads: '('", "7 BadPattern at 1"),
@@ -230,15 +230,15 @@ COMMANDS = [
     ("entry: e, args: ['', \"'\", '\\']", "1 hooks, false"),
     ("entry: ''", "8 BadEntry at 1"),
     ('entry: " \\t\\r\\n "', "8 BadEntry at 1"),
-    # The arguments don't stand in for the entry.
+    # The arguments don't replace the entry.
     ("entry: '', args: [e]", "8 BadEntry at 1"),
-    # The first word is empty, however it is quoted.
+    # The first word is empty, with any quotes.
     ("entry: \"''\"", "8 BadEntry at 1"),
     ("entry: \"'' e\"", "8 BadEntry at 1"),
     ("entry: '\"\"'", "8 BadEntry at 1"),
     ("entry: \"''e\"", "1 hooks, false"),
     ("entry: \"e ''\"", "1 hooks, false"),
-    # Quotes that are open at the end, and a backslash with nothing behind it.
+    # Quotes that are open at the end, and a backslash with nothing after it.
     ("entry: it's", "8 BadEntry at 1"),
     ("entry: 'say \"a'", "8 BadEntry at 1"),
     ("entry: 'e\\'", "8 BadEntry at 1"),
@@ -271,8 +271,8 @@ LONG = "x" * 65536
 # A text in single quotes that takes a configuration of one hook to its greatest size: the pattern of `files` at the top.
 LONGEST = "x" * (1048576 - len(f"files: ''\n{ONE_HOOK}"))
 
-# Texts with two faults, in the order in which they are told: each row holds one fault and the next of its kind of place
-# that can be told apart from it.
+# Texts with two faults, in the order in which they are reported. Each row holds one fault and the next of its kind of place that can be
+# distinguished from it.
 FIRST_AT_THE_TOP = [
     ("files: '('\nfiles: b\n", "1 Yaml at 2"),
     ("files: '('\ndefault_stages: [never]\n", "4 BadStage at 0"),
@@ -399,7 +399,7 @@ def prefixes(pieces):
             yield text, said
 
 
-# Every kind of refusal: what it is called to the program, its number, its name and its words.
+# Every kind of refusal: its name in the program, its number, its name and its words.
 KINDS = [
     ("yaml", "1 Yaml: the text is not YAML that can be read"),
     ("shape", "2 Shape: a value is of the wrong kind"),
@@ -415,7 +415,7 @@ KINDS = [
     ("out of memory", "12 OutOfMemory: out of memory"),
 ]
 
-# Keys of a hook beside those that it must have, and the hook's fields but its stages, in the order of the type.
+# Keys of a hook, apart from those that it must have, and the hook's fields except its stages, in the order of the type.
 FIELDS = [
     ("x: y", {}),
     ("alias: b", {"alias": "b"}),
@@ -474,7 +474,7 @@ def with_a_list_at(listed):
 IGNORED_TOP_KEYS = ["ci", "default_install_hook_types", "default_language_version", "minimum_pre_commit_version"]
 IGNORED_HOOK_KEYS = ["language_version", "minimum_pre_commit_version", "require_serial", "description"]
 
-# Values of every kind, as they stand behind a key.
+# Values of every kind, as they are written after a key.
 VALUES = [" a", "", "\n      - b", "\n      c: d"]
 
 IGNORED = [
@@ -493,7 +493,7 @@ TRUTHS = [
     *((f"fail_fast: {word}\n{ONE_HOOK}", "2 Shape at 0") for word in NEITHER),
 ]
 
-# Keys that no table knows, in the order of the text.
+# Keys that are in no table, in the order of the text.
 UNKNOWN_KEYS = [
     (
         "x: 1\nrepos:\n- repo: local\n  hooks:\n  - id: a\n    name: A\n    language: fail\n    entry: e\n    foo: 2\n    description: d\n",
@@ -523,7 +523,7 @@ WITH_PATTERNS = START + "".join(
     f"  - {{id: a, name: A, language: pygrep, entry: 'e{number}', files: '^f{number}', exclude: 'x{number}$'}}\n" for number in range(500)
 )
 
-# What stands behind 500 hooks: the number of hooks is looked at before the hook that is one too many.
+# What comes after 500 hooks: the number of hooks is looked at before the hook that is one too many.
 BEHIND = [
     ("", "500 hooks, false"),
     (PLAIN_HOOK, "11 TooMany at 501"),
@@ -575,7 +575,7 @@ HOOK_STAGES = [
     *((f"{ONE_HOOK}    stages:\n    - {word}\n", f"{name} \n") for word, name, _ in OLDER),
     # A list of stages is a set.
     (f"{ONE_HOOK}    stages:\n    - manual\n    - push\n    - commit\n    - pre-push\n", "pre-commit pre-push manual \n"),
-    # The default stages hold wherever they stand.
+    # The default stages hold at any place in the text.
     (f"{DEFAULTS}{THREE_HOOKS}", "pre-push manual \ncommit-msg \npre-push manual \n"),
     (f"{THREE_HOOKS}{DEFAULTS}", "pre-push manual \ncommit-msg \npre-push manual \n"),
     # Without default stages, or with none, a hook has all.

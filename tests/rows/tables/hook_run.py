@@ -1,16 +1,16 @@
-"""Runs that are asked for in full: which hooks they go through, which files these get, what is skipped, and where a run
-stops. The call is
+"""Runs that are asked for in full: which hooks they go through, which files these get, what is skipped, and at what a run stops. The call
+is
 
 run CONFIGURATION STAGE CANDIDATES ONLY SKIP FILE..
 
-and its answer the refusal, or a line on the whole run, a line for each result, and the report. Runs whose hooks have children
-are played over a table of answers:
+and its answer the refusal, or a line on the whole run, a line for each result, and the report. Runs whose hooks have children are
+made over a table of answers:
 
 run_hooks CONFIGURATION STAGE CANDIDATES ONLY SKIP CALLS KTH FAULT COUNT ROW.. FILE..
 
-The first line then tells the children's outcomes and faults, and lines on the files that were changed follow. `run_plan` is the same,
-where each child that the plan of the run needs is started outside, and its outcome told to the plan. No contract says what a
-refusal is shown as; the other rows are those of users, beside the definitions that the contracts cite."""
+The first line then gives the children's outcomes and faults, and lines on the changed files follow. `run_plan` is the same, but each
+child that the plan of the run needs is started outside, and its outcome given to the plan. No contract says what a refusal is shown
+as. The other rows test the definitions that the contracts cite, from a user's side."""
 
 PROGRAM = "run_trial"
 
@@ -29,7 +29,7 @@ def file(path, contents="", mode="plain"):
 
 
 def said(verdict, *lines):
-    """What is said of a run: no child is needed, and the tree stays as it is."""
+    """The line on a run: no child is needed, and the tree stays as it is."""
     return f"Over, {verdict}, the same tree, 0 unsteady\n{''.join(lines)}"
 
 
@@ -51,8 +51,7 @@ BOTH = "a.txt\nb/c.py"
 TWO = hooks(hook("One", "alias: first"), hook("Two"))
 REFUSED = "3 NoSuchHook: no hook of the stage has that id or alias"
 
-# Which hooks a run goes through: the configuration, the stage, what is asked for, the names to skip, and what is said of the
-# run on `a.txt`.
+# Which hooks a run goes through: the configuration, the stage, the named hooks, the names to skip, and the line on the run over `a.txt`.
 ASKED = [
     (TWO, "pre-commit", "all", "", said("failed", "one: ran, status 1\ntwo: ran, status 1\n", failed("One", "a.txt"), failed("Two", "a.txt"))),
     ("repos: []\n", "pre-commit", "all", "", said("passed")),
@@ -93,7 +92,7 @@ ASKED = [
     (hooks(hook("One", "stages: [manual]"), hook("Two")), "pre-commit", "only one", "", REFUSED),
     (hooks(hook("One"), top="default_stages: [commit-msg]\n"), "pre-commit", "all", "", said("passed")),
     (hooks(hook("One"), top="default_stages: [commit-msg]\n"), "commit-msg", "all", "", said("failed", "one: ran, status 1\n", failed("One", "a.txt"))),
-    # A skipped hook passes, also where it always runs, and its details are shown where it is verbose.
+    # A skipped hook passes, also if it always runs, and its details are shown if it is verbose.
     (hooks(hook("Names")), "pre-commit", "all", "names", said("passed", "names: skipped as asked\n", line("Names", "Skipped"))),
     (
         hooks(hook("Names", "verbose: true, always_run: true")),
@@ -102,7 +101,7 @@ ASKED = [
         "names",
         said("passed", "names: skipped as asked\n", line("Names", "Skipped"), "- hook id: names\n"),
     ),
-    # It is skipped as asked whatever is selected.
+    # It is skipped as asked with any files selected.
     (hooks(hook("Names", "files: b")), "pre-commit", "all", "names", said("passed", "names: skipped as asked\n", line("Names", "Skipped"))),
     # By its alias, among other names; an alias without bytes isn't one.
     (TWO, "pre-commit", "all", "nope\nfirst", said("failed", "one: skipped as asked\ntwo: ran, status 1\n", line("One", "Skipped"), failed("Two", "a.txt"))),
@@ -127,11 +126,11 @@ ASKED = [
     ),
 ]
 
-# Where a run stops: the configuration, the names to skip, and what is said of the run on `a.txt`.
+# At what a run stops: the configuration, the names to skip, and the line on the run over `a.txt`.
 STOPS = [
     (hooks(hook("One"), hook("Two"), top="fail_fast: true\n"), "", said("failed", "one: ran, status 1\n", failed("One", "a.txt"))),
     (hooks(hook("One", "fail_fast: true"), hook("Two")), "", said("failed", "one: ran, status 1\n", failed("One", "a.txt"))),
-    # Not behind a hook that passed, nor behind one that was skipped.
+    # Not after a hook that passed, nor after one that was skipped.
     (
         hooks(hook("One", "fail_fast: true", "pygrep", "x"), hook("Two", "fail_fast: true, files: b"), hook("Three"), hook("Four"), top="fail_fast: true\n"),
         "",
@@ -144,13 +143,13 @@ STOPS = [
         "",
         said("failed", "one: ran, status 1\ntwo: ran, status 0\nthree: ran, status 0\n", failed("One", "a.txt"), line("Two", "Passed"), line("Three", "Passed")),
     ),
-    # A name behind the stop widens the report.
+    # A name after the stop widens the report.
     (hooks(hook("One"), hook("N" * 60), top="fail_fast: true\n"), "", said("failed", "one: ran, status 1\n", failed("One", "a.txt", columns=90))),
 ]
 
 ONE = hooks(hook("One"))
 
-# Which files a hook gets: the configuration, the candidates, the files, and what is said of the run.
+# Which files a hook gets: the configuration, the candidates, the files, and the line on the run.
 FILES = [
     # Candidates in any order, twice, and some that aren't there; a file that is none isn't selected.
     (ONE, "b/c.py\na.txt\nnone\na.txt", A, B, file("d"), said("failed", "one: ran, status 1\n", failed("One", "a.txt", "b/c.py"))),
@@ -165,10 +164,10 @@ FILES = [
      "run\nrun.txt\nplain", file("run", "#!/usr/bin/env python3.9\n", "executable"), file("run.txt", "#!/bin/sh\n", "executable"), file("plain", "#!/usr/bin/env python3\n"),
      said("failed", "one: ran, status 1\ntwo: ran, status 1\nthree: ran, status 1\nfour: skipped, no files\n",
           failed("One", "run"), failed("Two", "run", "run.txt"), failed("Three", "plain"), line("Four", NO_FILES))),
-    # A hook that always runs gets what is selected, and is run without names where nothing is.
+    # A hook that always runs gets what is selected, and is run without names if nothing is.
     (hooks(hook("One", "always_run: true, files: c"), hook("Two", "always_run: true, files: zz")), BOTH, A, B,
      said("failed", "one: ran, status 1\ntwo: ran, status 1\n", failed("One", "b/c.py"), failed("Two"))),
-    # A hook that takes no names is run without them where files are selected, and skipped where none is.
+    # A hook that takes no names is run without them if files are selected, and skipped if none is.
     (hooks(hook("One", "pass_filenames: false"), hook("Two", "pass_filenames: false, files: zz")), BOTH, A, B,
      said("failed", "one: ran, status 1\ntwo: skipped, no files\n", failed("One"), line("Two", NO_FILES))),
     # `pygrep` looks into the files that are selected, and into none without names.
@@ -176,7 +175,7 @@ FILES = [
      BOTH, A, B,
      said("failed", "one: ran, status 0\ntwo: ran, status 1\nthree: ran, status 0\nfour: ran, status 1\n", line("One", "Passed"), line("Two", "Failed"),
           "- hook id: two\n- exit code: 1\n\nb/c.py:1:b\n\n", line("Three", "Passed"), line("Four", "Failed"), "- hook id: four\n- exit code: 1\n\nb/c.py\n\n")),
-    # 100,000 paths, handed in from the last to the first, of which a pattern finds ten, a tag all, and a search one.
+    # 100,000 paths, given from the last to the first, of which a pattern finds ten, a tag all, and a search one.
     (hooks(hook("One", r"files: '7777\d\.txt$'"), hook("Two", "types: [text], exclude_types: [plain-text]"), hook("Three", "", "pygrep", "^TODO")),
      "\n".join(reversed(MANY)), *(file(path, "TODO\n" if path == MANY[70_000] else "x\n") for path in MANY),
      said("failed", "one: ran, status 1\ntwo: skipped, no files\nthree: ran, status 1\n", failed("One", *MANY[77_770:77_780]), line("Two", NO_FILES),
@@ -194,7 +193,7 @@ def answered(*words, seen, status=0, changes="", output=""):
 
 
 def told(verdict, calls, faults, *lines):
-    """What is said of a run over the table."""
+    """The line on a run over the table."""
     return f"{verdict}, {calls} calls, {faults} faults, 0 unsteady\n{''.join(lines)}"
 
 
@@ -244,7 +243,7 @@ CHILDREN = [
     over(T, [answered("c", "a.txt", seen=SEEN)], [X], told("passed", 1, 0, "t: ran, status 0\n", line("T", "Passed"))),
     over(T, [answered("c", "a.txt", seen=SEEN, status=255)], [X], told("failed", 1, 0, "t: ran, status 255\n", details("T", "exit code: 255"))),
     over(T, [answered("c", "a.txt", seen=SEEN, status=1, output="\n bad \n\n")], [X], told("failed", 1, 0, "t: ran, status 1\n", details("T", "exit code: 1", output="bad\n"))),
-    # What a hook prints is shown where it passed and is verbose.
+    # What a hook prints is shown if it passed and is verbose.
     over(hooks(hook("T", "files: txt, verbose: true", "system", "c")), [answered("c", "a.txt", seen=SEEN, output="said\n")], [X],
          told("passed", 1, 0, "t: ran, status 0\n", line("T", "Passed"), "- hook id: t\n\nsaid\n\n")),
     # A child that isn't in the table isn't started: the files that it sees are others.
@@ -260,7 +259,7 @@ CHILDREN = [
     *(over(hooks(hook("T", more, "system", "c" * count)), [], [X], told("failed", 0, 0, "t: ran, status 0\n", details("T", "fault: a name does not fit the command")))
       for more, count in [("files: txt", 131_072), ("files: txt", 131_067), ("pass_filenames: false", 131_073)]),
     over(hooks(hook("T", "files: txt", "system", "c" * 131_066)), [answered("c" * 131_066, "a.txt", seen=SEEN)], [X], told("passed", 1, 0, "t: ran, status 0\n", line("T", "Passed"))),
-    # All outcomes that can be counted are told: refused where a child is needed, and only there.
+    # All outcomes that can be counted are reported. A run is refused if a further child is needed, and only then.
     over(T, [], [X], "4 Spent: no more children can be counted", calls="all"),
     over(T, [], [X], told("passed", 0, 0, "t: skipped, no files\n", line("T", NO_FILES)), candidates="", calls="all"),
     over(T, [], [X], told("passed", 0, 0, "t: skipped as asked\n", line("T", "Skipped")), skip="t", calls="all"),
@@ -306,7 +305,7 @@ CHILDREN = [
     over(hooks(hook("T", r"files: '\.txt$', x_per_file: true", "system", "c")),
          [answered("c", "a.txt", seen=SEEN, output="one\n"), answered("c", "b.txt", seen=["b.txt=y"], status=2, output="two\n")], [X, Y],
          told("failed", 2, 0, "t: ran, status 2\n", details("T", "exit code: 2", output="one\ntwo\n")), A_TXT_AND_B_TXT),
-    # The second sees the further file as the first left it, or none where that removed it.
+    # The second sees the further file as the first left it, or none if that removed it.
     over(hooks(hook("T", f"{READS}, x_per_file: true", "system", "c")),
          [answered("c", "a.txt", seen=[*SEEN, STRICT], changes=LOOSE), answered("c", "b.txt", seen=["b.txt=y", LOOSE])], [X, Y, CFG],
          told("failed", 2, 0, "changed lint.cfg\n", "t: ran, status 0\n", details("T", "files were modified by this hook")), A_TXT_AND_B_TXT),
@@ -319,12 +318,12 @@ CHILDREN = [
     over(hooks(hook("One", "x_per_file: true, x_reads: b")), [], [X, Y], told("failed", 0, 0, "one: ran, status 1\n", failed("One", "a.txt", "b.txt")), A_TXT_AND_B_TXT),
     # It always runs: without selected files once, without names.
     over(hooks(hook("T", "files: zz, always_run: true", "system", "c")), [answered("c", seen=[])], [X], told("passed", 1, 0, "t: ran, status 0\n", line("T", "Passed"))),
-    # No hook runs behind one whose child failed, where it stops.
+    # No hook runs after one whose child failed, if it stops the run.
     over(hooks(hook("T", "files: txt, fail_fast: true", "system", "c"), hook("Two", "", "system", "d")), [answered("c", "a.txt", seen=SEEN, status=1)], [X],
          told("failed", 1, 0, "t: ran, status 1\n", details("T", "exit code: 1"))),
     over(hooks(hook("T", "files: txt", "system", "c"), hook("Two", "", "system", "d"), top="fail_fast: true\n"), [answered("c", "a.txt", seen=SEEN)], [X],
          told("failed", 1, 1, "t: ran, status 0\n", details("T", "fault: ended by a signal")), kth="1"),
-    # The commands of a script: by what its first line names, by `sh`, and as it stands where it isn't among the files.
+    # The commands of a script: by what its first line names, by `sh`, and as it is written if it isn't among the files.
     over(SCRIPT, [answered("/bin/sh", "-e", "tools/lint.sh", "a.txt", seen=["a.txt=x", "tools/lint.sh=#!/bin/sh -e"])], [X, file("tools/lint.sh", LINT["env"])],
          told("passed", 1, 0, "t: ran, status 0\n", line("T", "Passed"))),
     over(SCRIPT, [answered("sh", "tools/lint.sh", "a.txt", seen=["a.txt=x", "tools/lint.sh=x"])], [X, file("tools/lint.sh", LINT["plain"])],
@@ -334,7 +333,7 @@ CHILDREN = [
          told("passed", 1, 0, "t: ran, status 0\n", line("T", "Passed"))),
     over(hooks(hook("T", "files: a", "script", "tools/lint.sh -q")), [answered("sh", "tools/lint.sh", "-q", "a.txt", seen=["a.txt=x", "tools/lint.sh=x"])],
          [X, file("tools/lint.sh", LINT["plain"])], told("passed", 1, 0, "t: ran, status 0\n", line("T", "Passed"))),
-    # A system hook: the file of a first word with a slash, else its words as they are.
+    # A system hook: the file of a first word with a slash, otherwise its words as they are.
     over(hooks(hook("T", "files: a", "system", "./lint -q")), [answered("/bin/sh", "-e", "lint", "-q", "a.txt", seen=["a.txt=x", "lint=#!/bin/sh -e"])], [X, file("lint", LINT["env"])],
          told("passed", 1, 0, "t: ran, status 0\n", line("T", "Passed"))),
     over(hooks(hook("T", "files: a", "system", "lint -q")), [answered("lint", "-q", "a.txt", seen=["a.txt=x", "lint=#!/bin/sh -e"])], [X, file("lint", LINT["env"])],

@@ -1,12 +1,11 @@
-"""Runs of hook_run over a book of remembered answers: what is started and what isn't, what is put, what goes where only so many
-are kept, what a refusal of the book leaves, and which hooks are unsteady. The call is
+"""Runs of hook_run over a book of cached answers: what is started and what isn't, what is put, and what is dropped if only so many are
+kept. Also what a refusal of the book leaves, and which hooks are unsteady. The call is
 
 play_book CONFIGURATION STEP..
 
-with the steps that `crates/run_trial/src/book_plays.rt` names. A run is answered by a line on it, by what it gave, and by how many
-answers are remembered and whether that of each row of the table is, which is looked up then and so used. The definitions say the
-same; these rows are those of users, and show that memory is enough for them. Those of a host's book stand in
-commit_flow_remembered.py."""
+with the steps that `crates/run_trial/src/book_plays.rt` names. A run is answered by a line on it, by what it gave, by how many answers
+are cached, and by whether the answer of each row of the table is. That answer is looked up then, and so used. The definitions say the
+same. These rows show it from a user's side, and that memory is enough for them. commit_flow_remembered.py has those of a host's book."""
 from list_book import ListBook
 from remembered_rows import LOOK, LOOKS, MANY, MANY_FILES, MODIFIED, PASSED, TRIM, TRIMMED, TRIMS, T, child, details, hook, hooks, line, lint
 
@@ -30,7 +29,7 @@ NOT_STARTED = "fault: could not be started"
 
 
 def told(verdict, calls, faults, *lines, held=()):
-    """What a run is answered by: `held` says of each row of the table whether its answer is remembered, or that another is in
+    """What a run is answered by: `held` says of each row of the table whether its answer is cached, or that another is in
     its place."""
     kept = sum(word in ("held", "other") for word in held)
     return f"{verdict}, {calls} calls, {faults} faults\n{''.join(lines)}{kept} remembered:{''.join(' ' + word for word in held)}\n"
@@ -63,22 +62,22 @@ FAULTS = {
 }
 
 RUNS = [
-    # Each part is remembered by itself. One that a signal ended isn't, and it alone is started again.
+    # Each part is cached by itself. One that a signal ended isn't, and it alone is started again.
     (hooks(T), *TWO_PARTS, *run(), *run(), told("failed", 2, 0, BOTH, held=["held", "held"]) + told("failed", 0, 0, BOTH, held=["held", "held"])),
     (
         hooks(T), *TWO_PARTS, *run(kth=1), *run(), *run(),
         told("failed", 2, 1, LAST, held=["lacking", "held"]) + told("failed", 1, 0, BOTH, held=["held", "held"]) + told("failed", 0, 0, BOTH, held=["held", "held"]),
     ),
-    # A name doesn't fit: no child, and nothing to remember.
+    # A name doesn't fit: no child, and nothing to cache.
     (hooks(hook("T", "c" * 131_072)), *A, *run(), told("failed", 0, 0, details("T", "fault: a name does not fit the command"))),
-    # Where no more children can be counted, what is remembered is used, and only what needs a child is refused.
+    # If no more children can be counted, what is cached is used, and only what needs a child is refused.
     (hooks(T), *A, *run(calls="all"), told("4 Spent: no more children can be counted", 0, 0)),
     (
         hooks(T), *A, *PASS, *run(), *run(calls="all"), *run("fresh", calls="all"), *run(),
         told("passed", 1, 0, PASSED, held=["held"]) + told("passed", 0, 0, PASSED, held=["held"])
         + told("4 Spent: no more children can be counted", 0, 0, held=["held"]) + told("passed", 0, 0, PASSED, held=["held"]),
     ),
-    # A failure is remembered as any other answer; a fresh run starts it anew, and finds it steady.
+    # A failure is cached as any other answer; a fresh run starts it again, and finds it steady.
     (
         hooks(T), *A, *child("c", "a.txt", status=3), *run(), *run(), *run("fresh"),
         "".join(told("failed", calls, 0, details("T", "exit code: 3"), held=["held"]) for calls in [1, 0, 1]),
@@ -88,7 +87,7 @@ RUNS = [
         hooks(T, hook("U", "c")), *A, *PASS, *run(), *run("fresh"),
         told("passed", 1, 0, PASSED + line("U", "Passed"), held=["held"]) + told("passed", 2, 0, PASSED + line("U", "Passed"), held=["held"]),
     ),
-    # Other children answer otherwise. What is remembered stands until a fresh run, which puts the new answer in its place.
+    # Other children answer otherwise. What is cached stays until a fresh run, which puts the new answer in its place.
     (
         hooks(T), *A, *PASS, *run(), "others", *child("c", "a.txt", status=1, output="x\n"), *run(), *run("fresh"), *run(), *run("fresh"),
         told("passed", 1, 0, PASSED, held=["held"]) + told("passed", 0, 0, PASSED, held=["other"]) + told("failed", 1, 0, "unsteady: t\n", X_FAILED, held=["held"])
@@ -110,12 +109,12 @@ RUNS = [
         hooks(hook("T", "c"), hook("T", "d")), *A, *PASS, *child("d", "a.txt"), *run(), "others", *child("c", "a.txt", output="1"), *child("d", "a.txt", output="2"), *run("fresh"),
         told("passed", 2, 0, PASSED * 2, held=["held", "held"]) + told("passed", 2, 0, "unsteady: t\n" * 2, PASSED * 2, held=["held", "held"]),
     ),
-    # Where only what passed serves, a remembered failure is asked again. Its new answer takes its place, and serves from then on.
+    # If only what passed serves, a cached failure is asked again. Its new answer takes its place, and serves from then on.
     (
         hooks(T), *A, *FAIL, *run(), *run("passed"), "others", *PASS, *run("passed"), *run("passed"), *run(),
         told("failed", 1, 0, X_FAILED, held=["held"]) * 2 + told("passed", 1, 0, "unsteady: t\n", PASSED, held=["held"]) + told("passed", 0, 0, PASSED, held=["held"]) * 2,
     ),
-    # A remembered pass serves, whatever its child would answer by now.
+    # A cached pass serves, with any answer that its child would give by now.
     (
         hooks(T), *A, *PASS, *run("passed"), "others", *FAIL, *run("passed"), *run("fresh"), *run("passed"),
         told("passed", 1, 0, PASSED, held=["held"]) + told("passed", 0, 0, PASSED, held=["other"]) + told("failed", 1, 0, "unsteady: t\n", X_FAILED, held=["held"])
@@ -129,12 +128,12 @@ RUNS = [
     ),
     # Of two parts the one that failed is asked again, and the other serves.
     (hooks(T), *TWO_PARTS, *run("passed"), *run("passed"), told("failed", 2, 0, BOTH, held=["held", "held"]) + told("failed", 1, 0, BOTH, held=["held", "held"])),
-    # A fault in place of a remembered failure leaves that remembered.
+    # A fault in place of a cached failure leaves that cached.
     (
         hooks(T), *A, *FAIL, *run(), *run("passed", kth=1), *run(),
         told("failed", 1, 0, X_FAILED, held=["held"]) + told("failed", 1, 1, details("T", "fault: ended by a signal"), held=["held"]) + told("failed", 0, 0, X_FAILED, held=["held"]),
     ),
-    # Where no more children can be counted, a remembered pass serves, and a remembered failure doesn't.
+    # If no more children can be counted, a cached pass serves, and a cached failure doesn't.
     *(
         (hooks(T), *A, *children, *run(), *run("passed", calls="all"), told(verdict, 1, 0, lines, held=["held"]) + again)
         for children, verdict, lines, again in [
@@ -142,12 +141,12 @@ RUNS = [
             (FAIL, "failed", X_FAILED, told("4 Spent: no more children can be counted", 0, 0, held=["held"])),
         ]
     ),
-    # A fault in a fresh run makes nothing unsteady, and what was remembered stays.
+    # A fault in a fresh run makes nothing unsteady, and what was cached stays.
     (
         hooks(T), *A, *PASS, *run(), *run("fresh", kth=1), *run(),
         told("passed", 1, 0, PASSED, held=["held"]) + told("failed", 1, 1, details("T", "fault: ended by a signal"), held=["held"]) + told("passed", 0, 0, PASSED, held=["held"]),
     ),
-    # No fault is remembered, whichever it is, and the next run starts the child again.
+    # No fault is cached, whichever it is, and the next run starts the child again.
     *(
         (
             hooks(T), *A, *PASS, *run(kth=1, fault=fault), *run(), *run(),
@@ -155,21 +154,21 @@ RUNS = [
         )
         for fault, text in FAULTS.items()
     ),
-    # A child that can't be started is none to remember, and each run tries it again.
+    # A child that can't be started isn't cached, and each run tries it again.
     (hooks(T), *A, *run(), *run(), told("failed", 1, 1, details("T", NOT_STARTED)) * 2),
-    # What a child changed is changed again without it, and later hooks see it so.
+    # What a child changed is changed again without starting it, and later hooks see it so.
     (
         hooks(hook("Trim", "trim"), hook("Look", "look")), *file("a.txt", "x \n"), *TRIM, *LOOK, *run(), *run(), *file("a.txt"), *TRIMMED, *run(), *run(), "forget", *run(),
         told("failed", 2, 0, *TRIMS, held=["held"] * 2) + told("failed", 0, 0, *TRIMS, held=["held"] * 2)
         + told("passed", 1, 0, *LOOKS, held=["held"] * 3) + told("passed", 0, 0, *LOOKS, held=["held"] * 3)
         + "3 forgotten\n" + told("passed", 2, 0, *LOOKS, held=["lacking", "held", "held"]),
     ),
-    # A file that a child took away is gone again without it.
+    # A file that a child removed is gone again without starting it.
     (
         hooks(T, hook("U", "d")), *A, *child("c", "a.txt", changes="a.txt"), *run(), *run(),
         "".join(told("failed", calls, 0, "gone a.txt\n", details("T", MODIFIED), line("U", "(no files to check)Skipped"), held=["held"]) for calls in [1, 0]),
     ),
-    # A child that changes a file which it hasn't seen isn't remembered, be it by the bytes that stand there.
+    # A child that changes a file which it hasn't seen isn't cached, even if it writes the bytes that are there.
     *(
         (
             hooks(hook("T", "c", "files: ^a")), *A, *file("b.txt", "y\n"), *child("c", "a.txt", changes=f"b.txt={text}"), *run(), *run(), *run("fresh"),
@@ -177,14 +176,14 @@ RUNS = [
         )
         for text, verdict, lines in [("z", "failed", ["changed b.txt\n", details("T", MODIFIED)]), ("y", "passed", [PASSED])]
     ),
-    # In a fresh run such an answer makes the hook unsteady, and leaves what was remembered.
+    # In a fresh run such an answer makes the hook unsteady, and leaves what was cached.
     (
         hooks(hook("T", "c", "files: ^a")), *A, *file("b.txt", "y\n"), *PASS, *run(), "others", *STRAYS, *run("fresh"), *run(),
         told("passed", 1, 0, PASSED, held=["held"]) + told("failed", 1, 0, "unsteady: t\n", "changed b.txt\n", details("T", MODIFIED), held=["other"])
         + told("passed", 0, 0, PASSED, held=["other"]),
     ),
-    # What a child has seen is the file of each of its words: with other bytes or another mode it is started again, and whatever
-    # becomes of a file that it hasn't seen, it isn't.
+    # What a child has seen is the file of each of its words: with other bytes or another mode it is started again. A change of a file
+    # that it hasn't seen doesn't start it.
     (
         hooks(hook("T", "sh tools/lint.sh", "files: ^a")), *A, *file("tools/lint.sh", "1\n"), *file("b.txt"), *(word for number in "12" for word in lint(number)), *run(),
         *file("tools/lint.sh", "2\n"), *run(), *file("b.txt", "y\n"), *run(), "gone", "b.txt", *run(), *file("tools/lint.sh", "1\n"), *run(),
@@ -254,12 +253,12 @@ def only(letters, how="plain", kth=0):
 
 
 LIMITS = [
-    # The last answers are kept, so that of three files all are looked at again where two have room.
+    # The last answers are kept, so that of three files all are looked at again if two have room.
     *(limited(limit, all_three(), all_three(), all_three("fresh"), all_three(), *(only(letter) for letter in "cbac")) for limit in [1, 2, 3, 4, 100_000]),
-    # Those of two files are found where two have room, beside a third that a run needs in between.
+    # Those of two files are found if two have room, while a run in between needs a third.
     limited(2, only("ab"), only("ab"), only("c"), only("b"), only("a"), only("c")),
     limited(1, only("a"), only("a"), only("b"), only("a"), only("a", "fresh"), only("a")),
-    # A child that fails takes no place. Where a fresh run starts it, what is remembered of it was looked up, and stays.
+    # A child that fails takes no place. If a fresh run starts it, what is cached of it was looked up, and stays.
     *(limited(limit, *(all_three(how, kth) for kth in [1, 2, 3]), all_three(), all_three()) for limit in [1, 2, 3] for how in ["plain", "passed", "fresh"]),
     limited(2, only("ab"), only("a", "fresh", 1), only("c"), only("ab")),
     # Two hooks with one child have one place in a book.
@@ -275,13 +274,13 @@ LIMITS = [
         told("failed", 2, 0, BOTH, held=["held", "held"]) + told("failed", 2, 0, "unsteady: t\n", details("T", "exit code: 3", output="one\nthree\n"), held=["held", "held"])
         + told("failed", 0, 0, details("T", "exit code: 3", output="one\nthree\n"), held=["held", "held"]),
     ),
-    # What is dropped isn't there to be told from: the hook is steady, though its child answers otherwise by now.
+    # What is dropped can't be compared with: the hook is steady, though its child answers otherwise by now.
     (
         hooks(T), *A, *PASS, *child("c", "a.txt", seen=["a.txt=y"]), "limit", "1", *run(), *file("a.txt", "y\n"), *run(), "others", *child("c", "a.txt", status=1, output="x\n"), *A, *run("fresh"),
         told("passed", 1, 0, PASSED, held=["held", "lacking"]) + told("passed", 1, 0, PASSED, held=["lacking", "held"]) + told("failed", 1, 0, X_FAILED, held=["held"]),
     ),
-    # An answer is that of what a child reads besides its file too: it is found again once that is as it was, where there is room
-    # for it beside the other one.
+    # An answer depends on the further files that a child reads too. It is found again once these are as they were, if there is room for
+    # it and the other one.
     *(
         (
             hooks(hook("T", "c", r"files: ^a, x_reads: '^lint\.cfg$'")), *A, *file("lint.cfg", "1\n"), *(word for text in "12" for word in child("c", "a.txt", seen=["a.txt=x", f"lint.cfg={text}"])),
@@ -300,8 +299,8 @@ LIMITS = [
 
 # ---- a book of which one call is refused
 
-# Hooks with a child that changes its file, with two parts, with a child that strays, with one that can't be started, and with one
-# that passes; the rows of the table by which they are answered; and for each part its row, if any, and whether that is put.
+# Hooks with a child that changes its file, with two parts, with a child that strays, with one that can't be started, and with one that
+# passes. Then the rows of the table by which they are answered; and for each part its row, if any, and whether that is put.
 FILLER = "x" * 131_064
 REFUSING = hooks(
     hook("Trim", "trim", "files: ^a"), hook("Parts", "p", f"args: [{FILLER}]"), hook("Stray", "stray", "files: ^b"), hook("None", "none", "files: ^a"), hook("Look", "look", "files: ^a"),
@@ -331,7 +330,7 @@ REFUSALS = {
 
 
 def serves(how, row):
-    """Whether the answer of the row serves a run that is made so, where it is remembered."""
+    """Whether the answer of the row serves a run that is made so, if it is cached."""
     return how == "plain" or (how == "passed" and row in PASSING)
 
 
@@ -356,8 +355,8 @@ def counted(book, how, refused):
 
 
 def refusing(*runs, limit=10_000):
-    """Runs over one book, each by what serves it, the call of the book that is refused, and by what; or None, where what is
-    remembered is forgotten. A row."""
+    """Runs over one book, each by what serves it, the call of the book that is refused, and by what. None if what is cached is forgotten.
+    A row."""
     book, steps, answer = ListBook(limit), [], ""
     for each in runs:
         if each is None:
@@ -374,16 +373,16 @@ def refusing(*runs, limit=10_000):
 
 ALL, ALL_FRESH = ("plain", 0, "damaged"), ("fresh", 0, "damaged")
 BOOKS = [
-    # Nothing is refused: the stray and the one that can't be started are started each time, where only what passed serves those that
-    # didn't pass too, and in a fresh run all.
+    # Nothing is refused: the stray and the one that can't be started are started each time. If only what passed serves, those that didn't
+    # pass are started too, and in a fresh run all are.
     refusing(ALL, ALL, ("passed", 0, "damaged"), ALL_FRESH),
     # Each look-up and each put is refused in turn: what was put before stays, and the next run starts the others alone.
     *(refusing(*(each for call in range(1, BOOK_CALLS + 1) for each in [("plain", call, refusal), ALL, None])) for refusal in REFUSALS),
-    # The same where half of them are remembered, and where all are, in a run that only what passed serves and in a fresh one.
+    # The same if half of them are cached, and if all are, in a run that only what passed serves and in a fresh one.
     refusing(*(each for call in range(1, BOOK_CALLS + 1) for each in [("plain", 5, "collision"), ("plain", call, "damaged"), ALL, None])),
     *(refusing(ALL, *(each for call in range(1, BOOK_CALLS + 1) for each in [(how, call, "damaged"), ALL])) for how in ["passed", "fresh"]),
     refusing(*(("plain", call, "damaged") for call in range(1, BOOK_CALLS + 1)), ALL),
-    # The same where fewer have room than a run puts: what was used and put before a refused call is used and put.
+    # The same if fewer have room than a run puts: what was used and put before a refused call is used and put.
     *(
         refusing(*(each for call in range(1, BOOK_CALLS + 1) for how in ["plain", "passed", "fresh"] for each in [(how, call, refusal), ALL]), limit=limit)
         for limit in [1, 2, 3]

@@ -1,10 +1,10 @@
-"""Patterns over paths, and the selection of a hook's files. Every selection is played in seven ways by the program: among all
-candidates and among those that pass the patterns of the whole configuration first, by tags that are made and by tags that are
-kept of the tree's files; and for three hooks one after another, by tags that are kept of the candidates' files: one that learns
-the tags it asks for, one with other rules that learns those that are left, and the first once more. What is selected after
-changes by tags that followed them is compared with what is selected by tags that are made, and so is what three hooks get before
-the changes and three behind them, by tags of which those of changed files are forgotten. What one pattern selects alone is
-compared with what it selects beside the other patterns' defaults."""
+"""Patterns over paths, and the selection of a hook's files. The program makes every selection in seven ways. It selects among all
+candidates, and among those that pass the patterns of the whole configuration first. Each is done by newly made tags and by kept tags
+of the tree's files. Then it selects for three hooks one after another, by kept tags of the candidates' files: one that learns the
+tags it asks for, one with other rules that learns those that are left, and the first once more. What is selected after changes by
+tags that followed them is compared with what newly made tags select. So is what three hooks get before and after the changes, by tags
+of which those of changed files are forgotten. What one pattern selects alone is compared with what it selects with the other
+patterns' defaults."""
 import random
 import re
 
@@ -15,7 +15,7 @@ NO_PATTERN = "1 the text is no pattern"
 # Texts that are read as patterns: the answer is the text.
 PATTERNS = ["", "^$", "^src/", r"\.py$", "(?x)^(\n    a/.*|\n    b/.*\n)$\n", "caf\u00e9+", "(?i)readme", "a{2,3}", "(?P<name>x)", r"\p{Greek}"]
 
-# Long texts are read as patterns too: names, names behind one another, classes, comments.
+# Long texts are read as patterns too: names, names one after another, classes, comments.
 LONG = ["a" * 5_000, "a" * 60_000, "|".join(f"w{number}" for number in range(1_000)), "[ab]" * 15_000, "(?x)" + " " * 60_000]
 
 # Texts that aren't: other syntax, groups that don't end, too deep, too large once compiled, too long.

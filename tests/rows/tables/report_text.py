@@ -1,4 +1,4 @@
-"""What report_text makes of a hook and of what became of it, and how wide a report is."""
+"""What report_text makes of a hook and of its outcome, and how wide a report is."""
 
 PROGRAM = "run_trial"
 

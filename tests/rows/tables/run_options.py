@@ -1,5 +1,5 @@
-"""What the commands of known tools are taken to read in a cautious run, and what the options of a run make of a configuration.
-The table of known tools stands here a second time, by its patterns, so that none is changed unseen."""
+"""What the commands of known tools are taken to read in a cautious run, and what the options of a run make of a configuration. The table
+of known tools is repeated here, by its patterns, so that none is changed unnoticed."""
 
 PROGRAM = "selection_trial"
 
@@ -11,7 +11,7 @@ TOML = r"(^|/)\.|\.toml$"
 PROJECT = r"/|^\.|^[^.]*$|\.([cm]?[jt]sx?|json5?|jsonc|ya?ml|toml|cfg|ini|conf|properties|xml|txt|in|lock|lst|dic|dict|words|py[di]?|so|typed|rb|ru|gemspec|rake|p[lm]|t|(ba|da|k|z)?sh|bats|inc|env|vue|svelte|css|s[ac]ss|less|html?|mod|sum|hh?|hpp|cc?|cpp)$"
 HASKELL = r"(^|/)\.|\.cabal$|(^|/)(cabal\.project|fourmolu\.ya?ml|package\.yaml)"
 
-# The tools by the pattern of what they read besides their files.
+# The tools by the pattern of what they read in addition to their files.
 TOOLS = {
     NOTHING: """add-trailing-comma check-ast check-builtin-literals check-byte-order-marker check-docstring-first check-json
         check-toml check-yaml checkbashisms debug-statement-hook desktop-file-validate detect-private-key dos2unix
@@ -221,7 +221,7 @@ def rows_of_commands():
     for tool in ("grep", "egrep", "fgrep"):
         rows += harmless(tool, GREP)
     rows += harmless("sed", SED)
-    # a command that isn't handed names, or that may be handed none
+    # a command that isn't given names, or that may be given none
     for words in (["black"], ["grep", "x"], ["sed", "p"], ["true"], ["unknown"]):
         rows += [reads(words, EVERY, *switches) for switches in (("false", "false"), ("true", "true"), ("false", "true"))]
     return rows

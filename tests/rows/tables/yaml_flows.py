@@ -2,10 +2,10 @@
 
 The calls:
 
-    read_flow TEXT ROOM             the node, or the fault as `KIND in line LINE` or `KIND at the end`, where at most ROOM nodes
+    read_flow TEXT ROOM             the node, or the fault as `KIND in line LINE` or `KIND at the end`, if at most ROOM nodes
                                     may lie within one another; `'a'` is a plain text or a key, `"a"` a quoted text
-    count_flow_beginnings TEXT      how many beginnings of the text, itself left out, are read or refused in their last line
-    flow_fault KIND                 what a fault of this kind says
+    count_flow_beginnings TEXT      how many beginnings of the text, without itself, are read or refused in their last line
+    flow_fault KIND                 the text of a fault of this kind
 """
 
 PROGRAM = "yaml_trial"
@@ -77,7 +77,7 @@ READ = [
     ("[a\tb, c\t]", "['a\\tb', 'c']"),
 ]
 
-# A text, the kind of its fault, and the line from 1 on, where it isn't the end of the text.
+# A text, the kind of its fault, and the line from 1 on, unless it is the end of the text.
 REFUSED = [
     ("[,]", "Layout", 1),
     ("[a,,b]", "Layout", 1),
@@ -198,7 +198,7 @@ WHOLE = [
     ),
 ]
 
-# What stands within brackets, and the most brackets around it that leave room for it.
+# What is within brackets, and the most brackets around it that leave room for it.
 NESTED = [
     ("", "", 33),
     ("a", "'a'", 32),
@@ -217,7 +217,7 @@ ROOMS = [
     ("[a, [b], {c: d}]", "['a', ['b'], {'c': 'd'}]", 3),
 ]
 
-# Each kind of fault that a flow may have, and how it is told.
+# Each kind of fault that a flow may have, and how it is reported.
 TOLD = [
     ("Unsupported", "not supported"),
     ("Layout", "bad layout"),

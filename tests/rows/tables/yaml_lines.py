@@ -3,10 +3,10 @@
 The calls, each on one text:
 
     characters      the characters, or the fault as `KIND in line LINE`
-    read_lines      each line as `NUMBER/INDENT:CONTENT;`, its block text in angle brackets, and a fault behind them as
+    read_lines      each line as `NUMBER/INDENT:CONTENT;`, its block text in angle brackets, and a fault after them as
                     `!KIND'S NUMBER in LINE`
     count_lines     how many lines, and how many of them begin a block text
-    read_content    what the content of line 7 behind 2 columns is: `- NUMBER/INDENT:REST`, `KEY = VALUE`, whether it is
+    read_content    what the content of line 7 after 2 columns is: `- NUMBER/INDENT:REST`, `KEY = VALUE`, whether it is
                     quoted and the text, or the fault
     read_quoted     the quoted text at the start in angle brackets and what follows it, or the fault in line 7
     yaml_kind       a kind's number, its words, and those of its fault in line 4
@@ -200,7 +200,7 @@ LINES_WITHIN_FLOWS = [
     (b"[: |\n a[: |\n  x", "1/0:[: |;2/1:a[: |;3/2:x;"),
 ]
 
-# Lines of a flow up to its end, and how many lines there are with a line that begins a block text behind it.
+# Lines of a flow up to its end, and how many lines there are with a line that begins a block text after it.
 WHOLE_FLOWS = [
     ("a: ['\"']", 2),
     ("a: [x:'y]", 2),
@@ -216,7 +216,7 @@ WHOLE_FLOWS = [
     ("a: [:x, x:\"y, -'x, {y: :z}]", 2),
 ]
 
-# Lines of a flow that goes on, and how many lines there are with two more, which look like a block text.
+# Lines of a flow that continues, and how many lines there are with two more, which look like a block text.
 OPEN_FLOWS = [
     ("a: ['\"',", 3),
     ("a: [x:'y,", 3),
@@ -232,7 +232,7 @@ OPEN_FLOWS = [
     ("a: {b\n  : [], c: '}',", 4),
 ]
 
-# Bytes that aren't UTF-8, and the line where they stand.
+# Bytes that aren't UTF-8, and the line that has them.
 NOT_UTF8 = [
     (b"\xff", 1),
     (b"a\n\xc3\n", 2),
@@ -268,6 +268,6 @@ ROWS = [
     ("characters", b"\xef\xbb\xbf" + b"\n" * (MOST_BYTES - 3), "\n" * (MOST_BYTES - 3)),
     ("characters", b"\xef\xbb\xbf" + b"\n" * (MOST_BYTES - 3) + b"\xff", "TooLarge in line 1"),
     *(("yaml_kind", kind, f"{number}; {words}; line 4: {words}") for kind, number, words in KINDS),
-    # Want of memory is said of line 0.
+    # Lack of memory is reported of line 0.
     ("yaml_fault_of", "AllocError", "OutOfMemory in line 0"),
 ]

@@ -4,10 +4,10 @@ The calls, each on one text:
 
     read_yaml               the node, or the fault as `KIND in line LINE`
     debug_yaml              the node as `Debug` has it
-    count_beginnings        how many beginnings of its bytes, itself left out, are read or refused at one of their lines
+    count_beginnings        how many beginnings of its bytes, without itself, are read or refused at one of their lines
     count_open_beginnings   how many of them are read, or refused as `Layout` in their last line
-    read_twice              `same`, where a flow is read as the text that it is and by the reader of flows, which looks for
-                            no block texts, and both give the same node or none
+    read_twice              `same`, if a flow is read as the text that it is and by the reader of flows, which looks for no
+                            block texts, and both give the same node or none
 
 `tests/peers/compare_yaml.py` compares the rows of READ with PyYAML.
 """
@@ -308,7 +308,7 @@ FLOWS = [
     ),
 ]
 
-# Flows over lines, and beside other nodes: 7.4
+# Flows over lines, and next to other nodes: 7.4
 FLOWS_OVER_LINES = [
     ("a: []\nb: {}\n", "{'a': [], 'b': {}}"),
     (
@@ -390,7 +390,7 @@ FLOWS_OVER_LINES = [
 ]
 
 # Flows that mislead a reader that counts their brackets, each before a block text: 7.4, 8.1. A reader that still takes the
-# flow for open behind its last line finds no block text below it.
+# flow for open after its last line finds no block text below it.
 FLOWS_BEFORE_BLOCK_TEXTS = [
     ("a: ['\"']\nb: |\n  z\n", "{'a': [\"\\\"\"], 'b': 'z\\n'}"),
     ("a: [x:'y]\nb: |\n  z\n", "{'a': ['x:\\'y'], 'b': 'z\\n'}"),

@@ -126,7 +126,7 @@ TOO_DEEP = [
     ),
 ]
 
-# Keys that stand in their table already: 3.2.1.3
+# Keys that are in their table already: 3.2.1.3
 DOUBLED_KEYS = [
     ("a: 1\na: 2\n", "DoubledKey", 2),
     ("a: 1\n'a': 2\n", "DoubledKey", 2),
@@ -253,7 +253,7 @@ REFUSED_FLOWS = [
     ("[a,,b]", "Layout", 1),
 ]
 
-# Flows over lines, and beside other nodes: 7.4
+# Flows over lines, and next to other nodes: 7.4
 REFUSED_FLOWS_OVER_LINES = [
     ("a: [b,\n  c\n", "Layout", 2),
     ("a: [b,\n  c\n# d\n\n", "Layout", 2),
@@ -348,7 +348,7 @@ REFUSED = [
     *REFUSED_BLOCK_TEXTS,
 ]
 
-# Bytes that aren't UTF-8 at their end or in their midst, and the kind and the line of their fault.
+# Bytes that aren't UTF-8 at their end or in their middle, and the kind and the line of their fault.
 REFUSED_BYTES = [
     (b"a\nb\n\xff\n", "Layout", 2),
     (b"a:\n\tb\n\xff\n", "TabIndent", 2),
@@ -360,7 +360,7 @@ REFUSED_BYTES = [
 
 TOO_DEEP_HERE = "TooDeep in line 1"
 
-# What stands before the brackets, how many brackets, what stands between them, and the answer.
+# What comes before the brackets, how many brackets, what is between them, and the answer.
 BRACKETS = [
     ("", 33, "", "[" * 33 + "]" * 33),
     ("", 34, "", TOO_DEEP_HERE),
@@ -372,8 +372,8 @@ BRACKETS = [
     ("- - ", 32, "", TOO_DEEP_HERE),
 ]
 
-# How many dashes a first line may stand behind, the line, what stands below it as deep, the node behind the dashes, and
-# the line of the fault where it stands behind one dash more.
+# How many dashes may come before a first line, the line, and what is below it as deep. Then the node after the dashes, and the line of
+# the fault after one dash more.
 NESTED = [
     (32, "a", "", "'a'", 1),
     (32, "", "", "None", 1),

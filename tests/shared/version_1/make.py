@@ -1,10 +1,10 @@
 #!/usr/bin/env python3
-"""Makes the stores of this folder anew, by a program whose stores are of version 1.
+"""Makes the stores of this folder again, by a program whose stores are of version 1.
 
 Usage: tests/shared/version_1/make.py [PROGRAM [NAME..]]   (default: crates/hookhost/out/hookhost, and all stores)
 
-They are kept so that later versions are tried on what this program wrote. So a program that makes stores of another version
-makes none of them. What each holds and shows is said in its text (stores.py).
+They are kept so that later versions are tried on what this program wrote. So a program that makes stores of another version can't
+make them. The text of each store (stores.py) says what it holds and shows.
 """
 import os
 import shutil
@@ -129,7 +129,7 @@ MESSAGE_HOOKS = [
     hook("Write", "sh -c 'echo \"a line\" >> \"$1\"' --", "stages: [prepare-commit-msg]"),
     hook("Read", "cat", "stages: [commit-msg], verbose: true"), hook("Behind", "echo behind", "stages: [post-commit], always_run: true, verbose: true"),
 ]
-# What is never remembered: a signal, a program that isn't there, and an answer that changes a file which its command hasn't seen.
+# What is never cached: a signal, a program that isn't there, and an answer that changes a file which its command hasn't seen.
 UNREMEMBERED = [
     hook("Killed", "sh -c 'kill -9 $$' --", "stages: [manual]"), hook("Nowhere", "no-such-program", "stages: [manual]"),
     hook("Strays", "sh -c 'echo >> text.txt' --", "stages: [manual], files: ^note"),

@@ -1,9 +1,9 @@
-"""The stores of version 1 that are kept in this folder: how one is laid into a folder, what its file holds, and what it shows.
+"""The stores of version 1 that are kept in this folder: how one is put into a folder, what its file holds, and what it shows.
 
-Each is the file of its database, as NAME.db.xz, with a text NAME.txt: the rows of each table as sqlite3 quotes them, behind how many
-there are and the SHA-256 of all of them, and then commands in their order with what the program that made the store answered.
-Long columns, and what is printed at length, are cut short in it. The commands may be run where no other program is found: each
-command of a hook that one of them needs is remembered.
+Each is the file of its database, as NAME.db.xz, with a text NAME.txt. The text has the rows of each table as sqlite3 quotes them,
+after their number and the SHA-256 of all of them. Then it has commands in their order, with what the program that made the store
+answered. Long columns and long outputs are cut short in it. The commands may be run without any other program: each command of a hook
+that one of them needs is cached.
 """
 import hashlib
 import lzma
@@ -83,7 +83,7 @@ def lines_of_rows(rows):
 # ---- what is shown
 
 def run(program, folder, words):
-    """The exit status of the program in the folder, where no other one is found, and what it printed."""
+    """The exit status of the program in the folder, if no other one is found, and what it printed."""
     env = {"PATH": os.path.join(folder, "no-programs")}
     done = subprocess.run([program, *words], cwd=folder, stdin=subprocess.DEVNULL, capture_output=True, timeout=600, env=env)
     return done.returncode, done.stdout, done.stderr
@@ -107,7 +107,7 @@ def commands_in(text):
 
 
 def told(program, folder, commands):
-    """The text of the store in the folder: its rows, and then what the program answers to the commands, each behind those before."""
+    """The text of the store in the folder: its rows, and then what the program answers to the commands, each after those before."""
     lines = list(lines_of_rows(rows_of(os.path.join(folder, STORE))))
     for words in commands:
         lines += [f"-- run {escaped(shlex.join(words))}", *lines_of_answer(*run(program, folder, words))]

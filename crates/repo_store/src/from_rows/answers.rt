@@ -31,7 +31,7 @@ use std::alloc::Global;
 use std::cmp::Ordering;
 use store_tables::AnswerRow;
 
-// The exit code that a row names.
+// The exit code of a row. A number that isn't from 0 to 255 is damage.
 fn status_at(number: i64) -> Result<u8, StoreFault>
     ensures status { IfOk result (λ status. pos status ≡ number) }
     ensures known { IfOk result (λ status. status ≤ most_status) }
@@ -56,7 +56,7 @@ fn keep_to_seen(changes: &[SharedFix], seen: &[ListedFile]) -> bool
     true
 }
 
-// The answer that a row shows.
+// The answer of a row.
 fn answer_of(
     alloc: Global,
     contents: &Contents,
@@ -83,7 +83,7 @@ fn answer_of(
     Ok(SharedAnswer::of(words.part, seen.part, output, changes.part, status, records))
 }
 
-/// The answers of these rows, the last one first.
+/// The answers of these rows, that of the last row first.
 pub(crate) fn answers_of(
     alloc: Global,
     limit: u32,

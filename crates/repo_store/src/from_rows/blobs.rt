@@ -1,4 +1,4 @@
-//! The contents that the rows of `blobs` hold.
+//! The blobs that the rows of `blobs` hold.
 
 ghost use Rattle.std.specs.Prelude.{◌≡◌, map, IfOk, IfErr, OnOk};
 ghost use Rattle.std.specs.List.{AllByRecursion};
@@ -11,7 +11,7 @@ use crate::contents::Contents;
 use std::alloc::Global;
 use store_tables::BlobRow;
 
-/// The contents, each under the digest of its row.
+/// The blobs, each under the digest of its row.
 pub(crate) fn contents_of(alloc: Global, rows: Vec<BlobRow>) -> Result<Contents, StoreFault>
     ensures contents { IfOk result (λ contents. map blob_row contents ≡ rows.items) }
     ensures obeys { OnOk result (AllByRecursion IsBlobRow rows.items) }

@@ -1,4 +1,4 @@
-//! What became of the files that a child saw, of its record.
+//! What a child changed, read from its record.
 
 ghost use Rattle.std.specs.Prelude.{◌≡◌, true, List, map, IfOk, IfErr, IfSome, MatchOption};
 ghost use Rattle.std.specs.Option.{option_map};
@@ -21,7 +21,7 @@ use answer_records::{ChangedFile, read_changes};
 use hook_base::Content;
 use std::alloc::Global;
 
-// The new contents of a file, or none where it is gone.
+// The new contents of a file, or `None` if it is gone.
 fn now_at(contents: &Contents, digest: &Option<[u8; 32]>) -> Result<Option<Content>, StoreFault>
     ensures now { IfOk result (λ now. option_map sha256 now ≡ digest.now) }
     ensures among { IfOk result (λ now. MatchOption now (Unit {0}) (IsAmong contents.now)) }

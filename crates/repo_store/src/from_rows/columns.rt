@@ -1,4 +1,4 @@
-//! What the columns of a row stand for: a path, a mode, contents under their digest, and a file of these.
+//! What the columns of a row hold: a path, a mode, the contents under a digest, and a file made of these.
 
 ghost use Rattle.std.specs.Prelude.{◌≡◌, ◌⊎◌, pos, true, false, map, IfOk, IfErr, IfSome, IfNone, OnOk, MatchResult, IsTrue};
 ghost use Rattle.sha2.specs.Sha256.{sha256};
@@ -18,7 +18,7 @@ use std::alloc::Global;
 use std::cmp::Ordering;
 use std::str;
 
-// The contents under a digest, if the bytes are one.
+// The contents under a digest, if there are any. Bytes that are no digest have none.
 fn find<'a>(contents: &'a Contents, digest: &[u8]) -> Option<&'a Content>
     ensures under { IfSome result (λ content. sha256 content.now ≡ digest.now) }
     ensures kept { IfSome result (λ _. is_kept (map blob_row contents.now) digest.now ≡ true) }
@@ -32,7 +32,7 @@ fn find<'a>(contents: &'a Contents, digest: &[u8]) -> Option<&'a Content>
     }
 }
 
-/// The contents under a digest that a row names, shared.
+/// The contents under a row's digest, shared.
 pub(crate) fn content_at(contents: &Contents, digest: &[u8]) -> Result<Content, StoreFault>
     ensures found { IfOk result (λ content. sha256 content ≡ digest.now) }
     ensures kept { OnOk result (is_kept (map blob_row contents.now) digest.now ≡ true) }
@@ -47,7 +47,7 @@ pub(crate) fn content_at(contents: &Contents, digest: &[u8]) -> Result<Content, 
     }
 }
 
-/// The path that a row names.
+/// The path of a row.
 pub(crate) fn path_at(alloc: Global, bytes: &[u8]) -> Result<RepoPath, StoreFault>
     ensures path { IfOk result (λ path. path ≡ bytes.now) }
     ensures legal { OnOk result (IsPathText bytes.now) }
@@ -63,7 +63,7 @@ pub(crate) fn path_at(alloc: Global, bytes: &[u8]) -> Result<RepoPath, StoreFaul
     }
 }
 
-// The mode of a number.
+// The mode of a number, if it is one (docs/REFERENCE.md, "The store").
 fn mode_at(number: i64) -> Option<Mode>
     ensures known { IfSome result (λ mode. pos (mode_number mode) ≡ number) }
     ensures unknown { IfNone result (¬ ((number ≡ pos 0) ⊎ (number ≡ pos 1))) }
@@ -75,7 +75,7 @@ fn mode_at(number: i64) -> Option<Mode>
     }
 }
 
-/// The file that a row shows.
+/// The file of a row.
 pub(crate) fn file_at(
     alloc: Global,
     contents: &Contents,

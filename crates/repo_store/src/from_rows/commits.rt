@@ -23,7 +23,7 @@ use std::alloc::Global;
 use store_faults::{MOST_COMMITS, MOST_CONTENT_BYTES};
 use store_tables::{CommitRow, EntryRow};
 
-// Whether the number of a commit is above the last.
+// Whether the number of a commit is greater than the last.
 fn is_above(last: Option<i64>, number: i64) -> bool
     ensures { IsTrue result → IsBelow last number }
 {
@@ -33,7 +33,7 @@ fn is_above(last: Option<i64>, number: i64) -> bool
     }
 }
 
-// Whether the number of each commit is below that of the next.
+// Whether the number of each commit is less than that of the next.
 fn commits_rise(rows: &[CommitRow]) -> bool
     ensures { IsTrue result → IsRisingNumbers (map number_in rows.now) }
 {
@@ -47,7 +47,7 @@ fn commits_rise(rows: &[CommitRow]) -> bool
     true
 }
 
-// The commit of a row that comes after so many others, without its files.
+// The commit of a row, which must be numbered next after this many commits; without its files.
 fn commit_at(alloc: Global, commits: usize, row: CommitRow) -> Result<SharedCommit, StoreFault>
     requires { commits < 2 ^ 62 }
     ensures commit { IfOk result (λ commit. commit_of commit ≡ record { message = row.message; tree = [] }) }
@@ -87,7 +87,7 @@ fn history_of(alloc: Global, rows: Vec<CommitRow>) -> Result<Vec<SharedCommit>, 
     Ok(history)
 }
 
-// Where the commit of a number stands, of which there are so many. A number that none has is damage.
+// The index of the commit of a number, out of this many commits. A number that no commit has is damage.
 fn place_of(number: i64, commits: usize) -> Result<usize, StoreFault>
     ensures there { IfOk result (λ place. (number ≡ pos (place + 1)) × (place + 1 ≤ commits)) }
     ensures nowhere { IfErr result (λ fault. (fault ≡ StoreFault.Damaged) × ¬ IsNumbered commits number) }
@@ -102,7 +102,7 @@ fn place_of(number: i64, commits: usize) -> Result<usize, StoreFault>
     Ok(place)
 }
 
-// Adds a file to the commit of a place, after its others.
+// Adds a file to the commit at an index, after its other files.
 fn add_entry(
     history: &mut Vec<SharedCommit>,
     place: usize,
@@ -118,7 +118,7 @@ fn add_entry(
     add_file(&mut commit.files, file)
 }
 
-// Adds the files of these rows to their commits, which have none.
+// Adds the files of these rows to their commits, which have none yet.
 fn add_entries(
     alloc: Global,
     contents: &Contents,

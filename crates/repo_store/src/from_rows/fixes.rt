@@ -21,7 +21,7 @@ use sqlite::Error;
 use std::alloc::Global;
 use store_tables::FixRow;
 
-// What a fix makes of its file: its contents, or none where it is gone.
+// What a fix makes of its file: its contents, or `None` if it is gone.
 fn now_of(contents: &Contents, row: &FixRow) -> Result<Option<Content>, StoreFault>
     ensures now { IfOk result (λ now. fix_at row.now.path now ≡ row.now) }
     ensures among { IfOk result (λ now. MatchOption now (Unit {0}) (IsAmong contents.now)) }
@@ -45,7 +45,7 @@ fn now_of(contents: &Contents, row: &FixRow) -> Result<Option<Content>, StoreFau
     }
 }
 
-// The fix that a row shows, of a staged file.
+// The fix of a row, which must be of a staged file.
 fn fix_of_row(
     alloc: Global,
     contents: &Contents,

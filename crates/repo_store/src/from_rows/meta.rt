@@ -1,4 +1,5 @@
-//! What the rows of `meta` say: the version of a store, and in version 2 how many answers it remembers.
+//! What the rows of `meta` say: the version of a store, and in version 2 how many answers it caches at most
+//! (docs/REFERENCE.md, "The store").
 
 ghost use Rattle.std.specs.Prelude.{◌≡◌, ◌↔◌, ℕ, ◌∷◌, [], pos, IsPermutation, IfNone, IfSome, IsTrue};
 ghost use Rattle.repo_store.specs.Bounded.{AreVersionRows};
@@ -29,14 +30,14 @@ fn is_version_row(row: &MetaRow) -> bool
     is_number(row.value, 2) && row.name.as_slice() == b"version".as_slice()
 }
 
-// Whether this says how many answers the store remembers.
+// Whether this says how many answers the store caches at most.
 fn is_limit_row(row: &MetaRow) -> bool
     ensures { IsTrue result ↔ (row.now ≡ limit_row row.now.value) }
 {
     row.name.as_slice() == b"limit".as_slice()
 }
 
-/// Whether a store of version 1 keeps these numbers about itself.
+/// Whether the numbers that a store keeps about itself are those of version 1.
 pub(crate) fn is_first_version(rows: &[MetaRow]) -> bool
     ensures { IsTrue result ↔ (rows.now ≡ first_version_row ∷ []) }
 {
@@ -53,7 +54,7 @@ fn are_version_and_limit(version: &MetaRow, limit: &MetaRow) -> bool
     is_version_row(version) && is_limit_row(limit)
 }
 
-/// Whether a store of version 2 keeps these numbers about itself, be its limit among them or not.
+/// Whether the numbers that a store keeps about itself are those of version 2, with or without a limit.
 pub(crate) fn is_second_version(rows: &[MetaRow]) -> bool
     ensures { IsTrue result ↔ AreVersionRows rows.now }
 {
@@ -64,7 +65,7 @@ pub(crate) fn is_second_version(rows: &[MetaRow]) -> bool
     }
 }
 
-// The limit that a number is, if it is one.
+// The limit, if the number is in its range.
 fn limit_at(number: i64) -> Option<u32>
     ensures limit { IfSome result (λ limit. pos limit ≡ number) }
     ensures within { IfSome result IsLimit }
@@ -76,7 +77,7 @@ fn limit_at(number: i64) -> Option<u32>
     Some(number as u32)
 }
 
-/// How many answers a store of version 2 remembers, if it says so, and may remember so many.
+/// How many answers a store of version 2 caches at most, if it says so and the number is in its range.
 pub(crate) fn limit_in(rows: &[MetaRow]) -> Option<u32>
     requires { AreVersionRows rows.now }
     ensures limit { IfSome result (λ limit. IsPermutation rows.now (version_row ∷ limit_row (pos limit) ∷ [])) }

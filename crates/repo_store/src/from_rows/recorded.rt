@@ -1,8 +1,8 @@
-//! Parts of an answer that are read of their records.
+//! A part of an answer that is read from its record.
 
 use hook_base::Content;
 
-/// A part of an answer, and the record of it.
+/// A part of an answer, and its record.
 #[derive(Drop)]
 pub(crate) struct Recorded<T> {
     pub(crate) part: T,

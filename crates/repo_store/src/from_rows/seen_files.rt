@@ -1,4 +1,4 @@
-//! The files that a child saw, of their record.
+//! The files that a child saw, read from their record.
 
 ghost use Rattle.std.specs.Prelude.{◌≡◌, true, List, map, IfOk, IfErr};
 ghost use Rattle.sha2.specs.Sha256.{sha256};

@@ -1,4 +1,4 @@
-//! The order of the answers that the rows of `uses` tell.
+//! The order of the answers that the rows of `uses` give.
 
 ghost use Rattle.std.specs.Prelude.{◌≡◌, ◌↔◌, ◌≤◌, pos, length, map, reverse, IsPermutation, IsTrue, IfErr, IfNone, IfOk, IfSome, OnOk};
 ghost use Rattle.std.specs.List.{AllByRecursion};
@@ -18,7 +18,7 @@ use sqlite::Error;
 use std::alloc::Global;
 use store_tables::UseRow;
 
-// The tick that a number is.
+// The tick of a number. One out of range is damage.
 fn tick_at(number: i64) -> Result<u64, StoreFault>
     ensures tick { IfOk result (λ tick. pos tick ≡ number) }
     ensures first { IfOk result (λ tick. 1 ≤ tick) }
@@ -31,7 +31,7 @@ fn tick_at(number: i64) -> Result<u64, StoreFault>
     Ok(number as u64)
 }
 
-// The tick that the next use gets, behind those of these rows, which come in the order of their ticks.
+// The tick that the next use gets: one after the ticks of these rows, which must rise.
 fn next_after(uses: &[UseRow]) -> Result<u64, StoreFault>
     ensures next { IfOk result IsNextTick }
     ensures ticks { OnOk result (HaveTicks uses.now) }
@@ -49,7 +49,7 @@ fn next_after(uses: &[UseRow]) -> Result<u64, StoreFault>
     Ok(next)
 }
 
-// The digest that the bytes are, if they are one.
+// The bytes as a digest, if there are 32.
 fn digest_in(bytes: &[u8]) -> Option<&[u8; 32]>
     ensures same { IfSome result (λ digest. digest.now ≡ bytes.now) }
     ensures none { IfNone result (¬ (length bytes.now ≡ 32)) }
@@ -60,7 +60,7 @@ fn digest_in(bytes: &[u8]) -> Option<&[u8; 32]>
     }
 }
 
-// Whether a use has an answer.
+// Whether there is an answer for a use.
 fn has_answer(answers: &AnswerList, row: &UseRow) -> bool
     ensures { ¬ IsTrue result → AllByRecursion (λ (answer : KeptAnswer). ¬ (key_of answer ≡ key_of_use row.now)) answers.now.answers }
 {
@@ -115,7 +115,7 @@ fn bring_each(answers: &mut AnswerList, uses: &[UseRow])
     }
 }
 
-// Whether a use has the key.
+// Whether a use has this key.
 fn has_key(row: &UseRow, key: &([u8; 32], [u8; 32])) -> bool
     ensures { IsTrue result → key.now ≡ key_of_use row.now }
 {
@@ -137,8 +137,9 @@ fn have_keys(uses: &[UseRow], keys: &[([u8; 32], [u8; 32])]) -> bool
     true
 }
 
-/// Puts the answers in the order of their uses, which come in that of their ticks. A use without an answer is damage, and an answer
-/// without a use; two uses of one key, or of one tick, are `Sql`, since the table excludes them.
+/// Puts the answers in the order of their uses, which come in that of their ticks. A use without an answer is
+/// damage, and so is an answer without a use. Two uses of one key or of one tick are `Sql`, since the table
+/// excludes them.
 pub(crate) fn follow_uses(
     alloc: Global,
     answers: &mut AnswerList,
@@ -161,7 +162,7 @@ pub(crate) fn follow_uses(
         return Err(StoreFault::Sql(Error::InvalidQuery));
     }
     answers.set_next(next);
-    // It says that each key stands in the list once.
+    // The contract of `len` says that each key is in the list once.
     let _length = answers.len();
     Ok(())
 }

@@ -1,4 +1,4 @@
-//! The words of a child's command, of their record.
+//! The words of a child's command, read from their record.
 
 ghost use Rattle.std.specs.Prelude.{◌≡◌, ℕ, List, map, IfOk, IfErr};
 ghost use Rattle.sha2.specs.Sha256.{sha256};

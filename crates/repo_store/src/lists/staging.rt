@@ -1,5 +1,5 @@
-//! Several changes of the staged files in memory: each is made of what those before it left, and where one is refused, all that
-//! was there is put back.
+//! Several changes of the staged files in memory. Each is made of what those before it left; if one is
+//! refused, the state before all of them is restored.
 
 ghost use Rattle.std.specs.Prelude.{◌≡◌, ◌++◌, ◌∷◌, [], map, take, IfOk, IfErr, OnOk, OnErr};
 ghost use Rattle.hook_base.specs.Trees.{entry_of};
@@ -17,8 +17,8 @@ use crate::{StagingEdit, StagingFault, StagingRefusal, StoreFault};
 use hook_base::{Mode, OutOfMemory, RepoPath};
 use store_faults::MOST_CONTENT_BYTES;
 
-/// What is put back where an edit is refused: the staged files with the bytes of their paths together, the fixes, and how many
-/// contents were kept.
+/// What is restored if an edit is refused: the staged files with the bytes of all their paths, the fixes, and
+/// how many blobs were kept.
 #[derive(Drop)]
 pub(crate) struct Before {
     staged: Vec<ListedFile>,
@@ -27,7 +27,7 @@ pub(crate) struct Before {
     pub(crate) count: usize,
 }
 
-/// What edits give to their paths, and what stood before.
+/// What the edits give to their paths, and the state before them.
 #[derive(Drop)]
 pub(crate) struct Edited {
     pub(crate) made: Vec<SharedEdit>,
@@ -35,7 +35,7 @@ pub(crate) struct Edited {
 }
 
 impl Lists {
-    /// Makes the edits, each of what those before it left. A refusal leaves all as it was.
+    /// Makes the edits, each of what those before it left. A refusal leaves everything as it was.
     pub(crate) fn edit_all(&mut self, edits: &[StagingEdit]) -> Result<Edited, StagingRefusal>
         ensures edited { OnOk result (self.new.kept ≡ all_edited edits.now self.old.kept) }
         ensures made { IfOk result (λ edited. map edit_of edited.made.items ≡ made_edits edits.now self.old.kept) }
@@ -64,7 +64,7 @@ impl Lists {
         }
     }
 
-    // What stands, to be put back.
+    // The state to restore.
     fn stood(&self) -> Result<Before, OutOfMemory>
         ensures before { IfOk result (IsBefore self.now.kept) }
         ensures sound { IsSound self.now.kept.repo }
@@ -77,7 +77,7 @@ impl Lists {
         })
     }
 
-    /// Puts back what stood before.
+    /// Restores the state before the edits.
     pub(crate) fn restore(&mut self, before: Before)
         requires sound { IsSound (record self.old.kept.repo { staged = map file_of before.staged.items; fixes = map fix_of before.fixes.items }) }
         requires counted { before.staged_bytes ≡ path_bytes (map file_of before.staged.items) }
@@ -95,8 +95,8 @@ impl Lists {
         self.fixes = fixes;
     }
 
-    // Makes the edits, each of what those before it left, and answers what each gives to its path. A refusal leaves those that
-    // were made before it.
+    // Makes the edits, each of what those before it left, and returns what each gives to its path. After a
+    // refusal the edits before it are made.
     fn edit_each(&mut self, edits: &[StagingEdit]) -> Result<Vec<SharedEdit>, StagingRefusal>
         ensures edited { OnOk result (self.new.kept ≡ all_edited edits.now self.old.kept) }
         ensures made { IfOk result (λ made. map edit_of made.items ≡ made_edits edits.now self.old.kept) }
@@ -116,7 +116,7 @@ impl Lists {
         Ok(made)
     }
 
-    // Makes an edit, and adds what it gives to its path to that of others.
+    // Makes an edit, and adds what it gives to its path to `made`.
     fn edit_onto(
         &mut self,
         made: &mut Vec<SharedEdit>,
@@ -179,7 +179,7 @@ impl Lists {
         })
     }
 
-    // The mode that is asked for, else that of the file that is staged at the path, else plain.
+    // The requested mode, otherwise that of the staged file at the path, otherwise plain.
     fn mode_to_stage(&self, path: &RepoPath, asked: Option<Mode>) -> Mode
         ensures { result ≡ mode_to_stage asked (entry_of path.now self.now.kept.repo.staged) }
     {
@@ -189,7 +189,7 @@ impl Lists {
         }
     }
 
-    // Takes a path out of the staged files.
+    // Removes a path from the staged files.
     fn take(&mut self, path: &str) -> Result<SharedEdit, StagingFault>
         ensures edited { OnOk result (self.new.kept ≡ edited (Remove path.now) self.old.kept) }
         ensures made { IfOk result (λ made. edit_of made ≡ made_edit (Remove path.now) self.old.kept) }
