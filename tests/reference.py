@@ -247,7 +247,8 @@ def listed(texts, name):
     """The words of a list in specs/: what follows `NAME =`. A key there means the word of its row."""
     body = re.search(rf"^{name} =(.*?)\n(?=\n|\Z)", texts, re.MULTILINE | re.DOTALL)[1]
     for word, key in re.findall(r'codes "([^"]*)"|listed \(?(\w+)', body):
-        yield word or re.search(rf'^{key}\b.* = record {{ word = codes "([^"]*)"', texts, re.MULTILINE)[1]
+        # A long row is wrapped after `=`.
+        yield word or re.search(rf'^{key}\b.* =\s+record {{ word = codes "([^"]*)"', texts, re.MULTILINE)[1]
 
 
 def quoted(text):

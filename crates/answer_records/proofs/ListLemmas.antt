@@ -58,7 +58,8 @@ module _ {X : Type 0} (Is : X → Type 0) (spelling : X → List ℕ) (told : Is
       let front = flat_map spelling (take index items) in
       let number = number_bytes (length items) in
       let length_of : X → ℕ = λ x. length (spelling x) in
-      let room : length front + length (spelling item) ≤ length (flat_map spelling items) = subst (λ (n : ℕ). length front + n ≤ length (flat_map spelling items)) (sym (ap length_of is)) (grown items index item within) in
+      let room : length front + length (spelling item) ≤ length (flat_map spelling items) =
+      subst (λ (n : ℕ). length front + n ≤ length (flat_map spelling items)) (sym (ap length_of is)) (grown items index item within) in
       let whole = length-append number (flat_map spelling items) in
       larger (draft ++ spelling item) (list_bytes spelling items) fault (omega (arith, room, whole, ap length written, length-append number front, length-append draft (spelling item))) refused
 
@@ -78,7 +79,9 @@ module _ {X : Type 0} (Is : X → Type 0) (spelling : X → List ℕ) (told : Is
       → draft ≡ front ++ flat_map spelling (take index items) → next ≡ draft ++ spelling item → next ≡ front ++ flat_map spelling (take (index + 1) items)
   written_more items index item front draft next within place so_far added =
       let one : flat_map spelling (item ∷ []) ≡ spelling item = append-nil (spelling item) in
-      let all : flat_map spelling (take (index + 1) items) ≡ flat_map spelling (take index items) ++ spelling item = ap (flat_map spelling) (front_more items index item within place) ∙ flat_map-append spelling (take index items) (item ∷ []) ∙ ap (λ (x : List ℕ). flat_map spelling (take index items) ++ x) one in
+      let all : flat_map spelling (take (index + 1) items) ≡ flat_map spelling (take index items) ++ spelling item =
+      ap (flat_map spelling) (front_more items index item within place) ∙ flat_map-append spelling (take index items) (item ∷ [])
+      ∙ ap (λ (x : List ℕ). flat_map spelling (take index items) ++ x) one in
       added ∙ ap (λ (x : List ℕ). x ++ spelling item) so_far ∙ append_assoc front (flat_map spelling (take index items)) (spelling item) ∙ ap (λ (x : List ℕ). front ++ x) (sym all)
 
   pub is_written : (items : List X) (index : ℕ) (draft : List ℕ) → length items ≤ index → IsStorable draft
@@ -102,15 +105,23 @@ module _ {X : Type 0} (Is : X → Type 0) (spelling : X → List ℕ) (told : Is
     each = all_push items item so_far.each is;
     spelled =
         let one : flat_map spelling (item ∷ []) ≡ spelling item = append-nil (spelling item) in
-        let joined : flat_map spelling (items ++ item ∷ []) ≡ flat_map spelling items ++ spelling item = flat_map-append spelling items (item ∷ []) ∙ ap (λ (x : List ℕ). flat_map spelling items ++ x) one in
-        let regrouped : flat_map spelling items ++ rest ≡ flat_map spelling (items ++ item ∷ []) ++ after = ap (λ (x : List ℕ). flat_map spelling items ++ x) e ∙ sym (append_assoc (flat_map spelling items) (spelling item) after) ∙ ap (λ (x : List ℕ). x ++ after) (sym joined) in
+        let joined : flat_map spelling (items ++ item ∷ []) ≡ flat_map spelling items ++ spelling item =
+        flat_map-append spelling items (item ∷ []) ∙ ap (λ (x : List ℕ). flat_map spelling items ++ x) one in
+        let regrouped : flat_map spelling items ++ rest ≡ flat_map spelling (items ++ item ∷ []) ++ after =
+        ap (λ (x : List ℕ). flat_map spelling items ++ x) e ∙ sym (append_assoc (flat_map spelling items) (spelling item) after) ∙ ap (λ (x : List ℕ). x ++ after) (sym joined) in
         so_far.spelled ∙ ap (λ (x : List ℕ). number_bytes count ++ x) regrouped;
   }
 
   fits_so_far : (bytes : List ℕ) (count : ℕ) (items : List X) (rest : List ℕ) → IsStorable bytes → IsReadUpTo Is spelling bytes count items rest
       → AllByRecursion (Fits Is spelling) items
   fits_so_far bytes count items rest storable so_far =
-      fits_of_list Is spelling items so_far.each (omega (arith, ap length so_far.spelled, length-append (number_bytes count) (flat_map spelling items ++ rest), length-append (flat_map spelling items) rest))
+      fits_of_list Is spelling items so_far.each (omega (
+        arith,
+        ap length so_far.spelled,
+        length-append (number_bytes count) (flat_map spelling items ++ rest),
+        length-append (flat_map spelling items)
+            rest,
+      ))
 
   -- some further item would stand at the front of what is left
   none_more : (items others : List X) (rest more : List ℕ) → AllByRecursion (Fits Is spelling) items → AllByRecursion (Fits Is spelling) others
@@ -136,7 +147,8 @@ module _ {X : Type 0} (Is : X → Type 0) (spelling : X → List ℕ) (told : Is
   no_next bytes count items rest storable small fewer so_far none = record {
     none = λ others listed.
         let left = others_left bytes count items others rest small so_far listed in
-        none_more items others rest [] (fits_so_far bytes count items rest storable so_far) (fits_of_list Is spelling others listed.each (within_of_list Is spelling told others bytes listed).small) (omega (arith, left.0)) none left.1;
+        none_more items others rest [] (fits_so_far bytes count items rest storable so_far) (fits_of_list Is spelling others listed.each (within_of_list Is spelling told others bytes listed).small)
+        (omega (arith, left.0)) none left.1;
   }
 
   pub some_left : (bytes : List ℕ) (count : ℕ) (items : List X) (rest : List ℕ) → IsStorable bytes → count < 2 ^ 32 → length items ≡ count → 0 < length rest
@@ -144,7 +156,9 @@ module _ {X : Type 0} (Is : X → Type 0) (spelling : X → List ℕ) (told : Is
   some_left bytes count items rest storable small all left so_far = record {
     none = λ others listed.
         let same = others_left bytes count items others rest small so_far listed in
-        let parts = items_same Is spelling told items others rest [] (fits_so_far bytes count items rest storable so_far) (fits_of_list Is spelling others listed.each (within_of_list Is spelling told others bytes listed).small) (omega (arith, same.0)) same.1 in
+        let parts =
+        items_same Is spelling told items others rest [] (fits_so_far bytes count items rest storable so_far)
+        (fits_of_list Is spelling others listed.each (within_of_list Is spelling told others bytes listed).small) (omega (arith, same.0)) same.1 in
         absurd (omega (arith, left, ap length parts.1));
   }
 

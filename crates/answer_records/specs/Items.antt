@@ -46,5 +46,6 @@ pub record HasNoValue {X : Type 0} (IsRecord : X → List ℕ → Type 0) (bytes
 
 -- The spellings of two different items differ before either ends, and no spelling is empty.
 pub record IsToldApart {X : Type 0} (Is : X → Type 0) (spelling : X → List ℕ) : Type 0 where
-  pub same : (item other : X) (rest more : List ℕ) → Is item → Is other → IsStorable (spelling item) → IsStorable (spelling other) → spelling item ++ rest ≡ spelling other ++ more → (item ≡ other) × (rest ≡ more)
+  pub same : (item other : X) (rest more : List ℕ) → Is item → Is other → IsStorable (spelling item)
+      → IsStorable (spelling other) → spelling item ++ rest ≡ spelling other ++ more → (item ≡ other) × (rest ≡ more)
   pub some : (item : X) → 1 ≤ length (spelling item)

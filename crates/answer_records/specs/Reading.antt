@@ -12,14 +12,16 @@ use Rattle.answer_records.specs.Limits.{IsStorable, most_record_bytes}
 use Rattle.answer_records.specs.Records.{list_bytes, counted_bytes, seen_bytes, changed_bytes}
 
 -- These bytes, all of them, are the record of these items.
-pub record IsListOf {X : Type 0} (Is : X → Type 0) (spelling : X → List ℕ) (items : List X) (bytes : List ℕ) : Type 0 where
+pub record IsListOf {X : Type 0} (Is : X → Type 0) (spelling : X → List ℕ) (items : List X)
+    (bytes : List ℕ) : Type 0 where
   -- each value is an item
   pub each : AllByRecursion Is items
   pub spelled : bytes ≡ list_bytes spelling items
   pub storable : IsStorable bytes
 
 -- These bytes are the record of these items, whose paths rise.
-pub record IsRisingListOf {X : Type 0} (Is : X → Type 0) (spelling : X → List ℕ) (path_of : X → List ℕ) (items : List X) (bytes : List ℕ) : Type 0 where
+pub record IsRisingListOf {X : Type 0} (Is : X → Type 0) (spelling : X → List ℕ) (path_of : X → List ℕ) (items : List X)
+    (bytes : List ℕ) : Type 0 where
   pub listed : IsListOf Is spelling items bytes
   pub rising : IsRisingBy path_of items
 
@@ -75,7 +77,8 @@ pub record HaveOneRecord {X : Type 0} (record_of : X → List ℕ) (value other 
 
 -- bytes are the record of one value at most
 abbrev pub TellsItsValue : {X : Type 0} → (X → List ℕ → Type 0) → Type 0
-TellsItsValue {X} IsRecord = (value other : X) (bytes : List ℕ) → IsRecord value bytes → IsRecord other bytes → value ≡ other
+TellsItsValue {X} IsRecord =
+    (value other : X) (bytes : List ℕ) → IsRecord value bytes → IsRecord other bytes → value ≡ other
 
 -- A reader answers the value whose record the bytes are, and none only if they are the record of no value.
 abbrev pub Decodes : {X : Type 0} → (X → List ℕ → Type 0) → List ℕ → Option X → Type 0

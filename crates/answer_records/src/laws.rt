@@ -30,20 +30,25 @@ pub fn a_record_tells_its_words()
 
 /// Two different lists of seen files have different records.
 pub fn a_record_tells_its_seen_files()
-    ensures { (files others : List SeenFile) → HaveDigests files → HaveDigests others → HaveOneRecord seen_record files others → files ≡ others }
+    ensures { (files others : List SeenFile) → HaveDigests files → HaveDigests others
+        → HaveOneRecord seen_record files others → files ≡ others }
 {}
 
 /// Two different lists of changed files have different records.
 pub fn a_record_tells_its_changed_files()
-    ensures { (files others : List ChangedFile) → HaveNewDigests files → HaveNewDigests others → HaveOneRecord changes_record files others → files ≡ others }
+    ensures { (files others : List ChangedFile) → HaveNewDigests files → HaveNewDigests others
+        → HaveOneRecord changes_record files others → files ≡ others }
 {}
 
 /// Files with the same record have the same paths, modes and digests of their bytes.
 pub fn seen_files_of_one_record_are_alike()
-    ensures { (files others : List File) → HaveOneRecord seen_record (seen_of_files files) (seen_of_files others) → seen_of_files files ≡ seen_of_files others }
+    ensures { (files others : List File) → HaveOneRecord seen_record (seen_of_files files) (seen_of_files others)
+        → seen_of_files files ≡ seen_of_files others }
 {}
 
 /// Changes with the same record have the same paths and the same digests of the new bytes.
 pub fn changes_of_one_record_are_alike()
-    ensures { (changes others : List Change) → HaveOneRecord changes_record (changed_of_changes changes) (changed_of_changes others) → changed_of_changes changes ≡ changed_of_changes others }
+    ensures { (changes others : List Change)
+        → HaveOneRecord changes_record (changed_of_changes changes) (changed_of_changes others)
+        → changed_of_changes changes ≡ changed_of_changes others }
 {}

@@ -6,11 +6,11 @@ use Rattle.std.proofs.lemmas.List.Sums.{sum_by-append}
 use mathlib.Core.Path.{fun_ext}
 use Rattle.arg_partition.specs.declared.room.Room.{Room}
 use Rattle.arg_partition.specs.Parts.{fits, too_long_at}
-use Rattle.arg_partition.specs.Rooms.{Leaves, Takes, begun_behind, fits_room, taken}
+use Rattle.arg_partition.specs.Rooms.{LeavesRoom, Takes, begun_behind, fits_room, taken}
 
-pub Leaves-nil : (room : Room) → Leaves room [] room
+pub Leaves-nil : (room : Room) → LeavesRoom room [] room
 Leaves-nil room =
-    elim room.begun as (λ begun. Leaves (record { left = room.left; begun = begun }) [] (record { left = room.left; begun = begun })) [
+    elim room.begun as (λ begun. LeavesRoom (record { left = room.left; begun = begun }) [] (record { left = room.left; begun = begun })) [
       | true ↦ record { left = omega arith; begun = refl }
       | false ↦ record { left = omega arith; begun = refl }
     ]
@@ -27,7 +27,7 @@ taken-append false [] names = omega arith
 taken-append false (word ∷ words) names = omega (arith, sum_by-append (λ (other : List ℕ). 1 + length other) words names)
 
 -- what fits the room that words leave fits behind them
-pub fits_left : (whole rest : Room) (words names : List (List ℕ)) → Leaves whole words rest → fits_room rest names ≡ fits_room whole (words ++ names)
+pub fits_left : (whole rest : Room) (words names : List (List ℕ)) → LeavesRoom whole words rest → fits_room rest names ≡ fits_room whole (words ++ names)
 fits_left whole rest words names leaves =
     let sum = taken-append whole.begun words names in
     let begun = ap (λ before. taken before names) leaves.begun in
@@ -41,7 +41,8 @@ misfit_more room words more misfit =
     grind (arith, nat_tests)
 
 -- one word more of those that fit so far
-pub one_more : (whole room : Room) (words : List (List ℕ)) (at : ℕ) (word : List ℕ) (after : Option Room) → at < length words → word ≡ get_or words at word → Leaves whole (take at words) room → Takes room word after → MatchOption after (fits_room whole words ≡ false) (λ rest. Leaves whole (take (at + 1) words) rest)
+pub one_more : (whole room : Room) (words : List (List ℕ)) (at : ℕ) (word : List ℕ) (after : Option Room) → at < length words → word ≡ get_or words at word → LeavesRoom whole (take at words) room
+    → Takes room word after → MatchOption after (fits_room whole words ≡ false) (λ rest. LeavesRoom whole (take (at + 1) words) rest)
 one_more whole room words at word None within is leaves takes =
     let more = take_more words at word within in
     let here : fits_room whole (take (at + 1) words) ≡ false = rw (more, ← is) (takes whole (take at words) leaves) in
@@ -51,7 +52,7 @@ one_more whole room words at word (Some rest) within is leaves takes =
     rw (more, ← is) (takes whole (take at words) leaves).0
 
 -- what fits behind the words is what fits the room that they leave
-pub fits_behind : (limit : ℕ) (words : List (List ℕ)) (room : Room) → Leaves (record { left = limit; begun = false }) words room → fits_room room ≡ fits words limit
+pub fits_behind : (limit : ℕ) (words : List (List ℕ)) (room : Room) → LeavesRoom (record { left = limit; begun = false }) words room → fits_room room ≡ fits words limit
 fits_behind limit words room leaves =
     fun_ext (λ (names : List (List ℕ)). fits_left (record { left = limit; begun = false }) room words names leaves)
 

@@ -4,6 +4,6 @@ use Rattle.std.specs.Prelude.{ℕ}
 use Rattle.arg_partition.specs.declared.parts_fault.PartsFault.{PartsFault}
 use Rattle.arg_partition.specs.declared.parts_fault.PartsFault.TheVariants.{TooLong, OutOfMemory}
 
-abbrev pub number_of : PartsFault → ℕ
-number_of (TooLong index) = 1
-number_of OutOfMemory = 2
+abbrev pub parts_fault_number : PartsFault → ℕ
+parts_fault_number (TooLong index) = 1
+parts_fault_number OutOfMemory = 2

@@ -17,13 +17,13 @@ begun_behind begun [] = begun
 begun_behind begun (word ∷ words) = true
 
 -- what these words leave of a room
-pub record Leaves (whole : Room) (words : List (List ℕ)) (rest : Room) : Type 0 where
+pub record LeavesRoom (whole : Room) (words : List (List ℕ)) (rest : Room) : Type 0 where
   pub left : rest.left + taken whole.begun words ≡ whole.left
   pub begun : rest.begun ≡ begun_behind whole.begun words
 
 -- what one more word leaves of a room; nothing if it doesn't fit
 abbrev pub Takes : Room → List ℕ → Option Room → Type 0
 Takes room word after =
-    (whole : Room) (words : List (List ℕ)) → Leaves whole words room →
+    (whole : Room) (words : List (List ℕ)) → LeavesRoom whole words room →
     MatchOption after (fits_room whole (words ++ word ∷ []) ≡ false)
-    (λ rest. (Leaves whole (words ++ word ∷ []) rest) × (fits_room whole (words ++ word ∷ []) ≡ true))
+    (λ rest. (LeavesRoom whole (words ++ word ∷ []) rest) × (fits_room whole (words ++ word ∷ []) ≡ true))

@@ -58,8 +58,8 @@ piece c rest =
 -- ---- words
 
 -- space, tab, carriage return and line feed: the `whitespace` of Python's `shlex.shlex`
-abbrev pub is_blank : ℕ → Bool
-is_blank c = c == 32 || c == 9 || c == 13 || c == 10
+abbrev pub is_word_separator : ℕ → Bool
+is_word_separator c = c == 32 || c == 9 || c == 13 || c == 10
 
 -- a piece, and what the text after it adds to the word
 abbrev pub piece_and_rest : Front → (List ℕ → Front) → Front
@@ -70,7 +70,8 @@ piece_and_rest (Err fault) rest = Err fault
 unfoldable pub word_within : ℕ → List ℕ → Front
 word_within zero text = Ok ([], text)
 word_within (suc most) [] = Ok ([], [])
-word_within (suc most) (c ∷ rest) = if is_blank c then Ok ([], c ∷ rest) else piece_and_rest (piece c rest) (word_within most)
+word_within (suc most) (c ∷ rest) =
+    if is_word_separator c then Ok ([], c ∷ rest) else piece_and_rest (piece c rest) (word_within most)
 
 -- the word at the front of a text. Each piece takes at least one character, so the length of the text is
 -- enough
@@ -92,7 +93,7 @@ unfoldable pub words_within : ℕ → List ℕ → Reading
 words_within zero text = Ok []
 words_within (suc most) [] = Ok []
 words_within (suc most) (c ∷ rest) =
-    if is_blank c then words_within most rest else word_and_rest (front_word (c ∷ rest)) (words_within most)
+    if is_word_separator c then words_within most rest else word_and_rest (front_word (c ∷ rest)) (words_within most)
 
 -- the words of a text of these characters. Each blank and each word takes at least one, so its length is
 -- enough

@@ -3,7 +3,7 @@ use Rattle.std.specs.Prelude.{ℕ}
 use Rattle.arg_partition.specs.declared.words_fault.WordsFault.{WordsFault}
 use Rattle.arg_partition.specs.declared.words_fault.WordsFault.TheVariants.{OpenQuote, NothingEscaped, OutOfMemory}
 
-abbrev pub number_of : WordsFault → ℕ
-number_of OpenQuote = 1
-number_of NothingEscaped = 2
-number_of OutOfMemory = 3
+abbrev pub words_fault_number : WordsFault → ℕ
+words_fault_number OpenQuote = 1
+words_fault_number NothingEscaped = 2
+words_fault_number OutOfMemory = 3

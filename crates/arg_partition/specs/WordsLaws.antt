@@ -5,7 +5,7 @@ use Rattle.std.proofs.Common.{◌∙◌, inl, inr, ap, sym, arith}
 use Rattle.std.proofs.lemmas.List.{append_assoc, append-nil}
 use Rattle.std.proofs.lemmas.Bool.Decides.{eqb_tells}
 use Rattle.arg_partition.specs.Quoted.{all_quoted, quoted_character, quoted_characters}
-use Rattle.arg_partition.specs.Words.{Front, Reading, adding, bare_escape, before, double_quoted, double_quoted_escape, front_word, is_blank, piece, piece_and_rest, single_quoted, word_and_rest, word_within, words_of, words_of_characters, words_within}
+use Rattle.arg_partition.specs.Words.{Front, Reading, adding, bare_escape, before, double_quoted, double_quoted_escape, front_word, is_word_separator, piece, piece_and_rest, single_quoted, word_and_rest, word_within, words_of, words_of_characters, words_within}
 
 -- ---- what is left after a piece
 
@@ -14,7 +14,8 @@ abbrev LeavesAtMost : ℕ → Front → Type 0
 LeavesAtMost most (Ok (bytes, behind)) = length behind ≤ most
 LeavesAtMost most (Err fault) = ⊤
 
-leaves-adding : (most : ℕ) (bytes : List ℕ) (front : Front) → LeavesAtMost most front → LeavesAtMost most (adding bytes front)
+leaves-adding : (most : ℕ) (bytes : List ℕ) (front : Front) → LeavesAtMost most front
+    → LeavesAtMost most (adding bytes front)
 leaves-adding most bytes (Ok (more, behind)) leaves = leaves
 leaves-adding most bytes (Err fault) leaves = tt
 
@@ -43,7 +44,8 @@ mutual
   double_leaves (c ∷ rest) =
       leaves-one (length rest) _
       (leaves-if (length rest) (c == 34) _ _ (omega arith)
-      (leaves-if (length rest) (c == 92) _ _ (escape_leaves rest) (leaves-adding (length rest) _ _ (double_leaves rest))))
+      (leaves-if (length rest) (c == 92) _ _ (escape_leaves rest)
+      (leaves-adding (length rest) _ _ (double_leaves rest))))
 
   escape_leaves : (text : List ℕ) → LeavesAtMost (length text) (double_quoted_escape text)
   escape_leaves [] = tt
@@ -72,10 +74,10 @@ piece-same most (Err fault) one other leaves same = refl
 
 -- a character has the same effect before two continuations that agree on the text that is left
 word-same : (c : ℕ) (rest : List ℕ) (one other : List ℕ → Front) → Agree (length rest) one other
-    → (if is_blank c then Ok ([], c ∷ rest) else piece_and_rest (piece c rest) one)
-    ≡ (if is_blank c then Ok ([], c ∷ rest) else piece_and_rest (piece c rest) other)
+    → (if is_word_separator c then Ok ([], c ∷ rest) else piece_and_rest (piece c rest) one)
+    ≡ (if is_word_separator c then Ok ([], c ∷ rest) else piece_and_rest (piece c rest) other)
 word-same c rest one other same =
-    ap (λ (on : Front). if is_blank c then Ok ([], c ∷ rest) else on)
+    ap (λ (on : Front). if is_word_separator c then Ok ([], c ∷ rest) else on)
     (piece-same (length rest) (piece c rest) one other (piece_leaves c rest) same)
 
 word_same : (most bound : ℕ) (text : List ℕ) → length text ≤ most → length text ≤ bound
@@ -88,14 +90,16 @@ word_same (suc most) zero [] few also = refl
 word_same (suc most) zero (c ∷ rest) few also = absurd (omega arith)
 word_same (suc most) (suc bound) [] few also = refl
 word_same (suc most) (suc bound) (c ∷ rest) few also =
-    word-same c rest (word_within most) (word_within bound) (λ text short. word_same most bound text (omega arith) (omega arith))
+    word-same c rest (word_within most) (word_within bound)
+    (λ text short. word_same most bound text (omega arith) (omega arith))
 
 pub word_end : front_word [] ≡ Ok ([], [])
 unfolding front_word word_within
 word_end = refl
 
 pub word_on : (c : ℕ) (rest : List ℕ)
-    → front_word (c ∷ rest) ≡ (if is_blank c then Ok ([], c ∷ rest) else piece_and_rest (piece c rest) front_word)
+    → front_word (c ∷ rest) ≡ (if is_word_separator c then Ok ([], c ∷ rest) else piece_and_rest (piece c rest)
+    front_word)
 unfolding front_word word_within
 word_on c rest =
     word-same c rest (word_within (length rest)) front_word
@@ -104,8 +108,10 @@ word_on c rest =
 -- ---- words follow one another
 
 piece_and_rest_leaves : (most : ℕ) (front : Front) (rest : List ℕ → Front) → LeavesAtMost most front
-    → ((text : List ℕ) → length text ≤ most → LeavesAtMost most (rest text)) → LeavesAtMost most (piece_and_rest front rest)
-piece_and_rest_leaves most (Ok (bytes, behind)) rest leaves on = leaves-adding most bytes (rest behind) (on behind leaves)
+    → ((text : List ℕ) → length text ≤ most → LeavesAtMost most (rest text))
+    → LeavesAtMost most (piece_and_rest front rest)
+piece_and_rest_leaves most (Ok (bytes, behind)) rest leaves on =
+    leaves-adding most bytes (rest behind) (on behind leaves)
 piece_and_rest_leaves most (Err fault) rest leaves on = tt
 
 -- the pieces of a word leave no more of a text than there was
@@ -114,13 +120,14 @@ unfolding word_within
 word_leaves zero text = omega arith
 word_leaves (suc most) [] = omega arith
 word_leaves (suc most) (c ∷ rest) =
-    leaves-if (suc (length rest)) (is_blank c) _ _ (omega arith)
+    leaves-if (suc (length rest)) (is_word_separator c) _ _ (omega arith)
     (leaves-one (length rest) _
     (piece_and_rest_leaves (length rest) (piece c rest) (word_within most) (piece_leaves c rest)
     (λ text short. leaves-more (length text) (length rest) _ short (word_leaves most text))))
 
 -- a word that is begun takes at least one character
-begun_leaves : (c : ℕ) (rest : List ℕ) → is_blank c ≡ false → LeavesAtMost (length rest) (front_word (c ∷ rest))
+begun_leaves : (c : ℕ) (rest : List ℕ) → is_word_separator c ≡ false
+    → LeavesAtMost (length rest) (front_word (c ∷ rest))
 unfolding front_word
 begun_leaves c rest begins =
     let on = word_on c rest in
@@ -128,18 +135,19 @@ begun_leaves c rest begins =
     (piece_and_rest_leaves (length rest) (piece c rest) front_word (piece_leaves c rest)
     (λ text short. leaves-more (length text) (length rest) _ short (word_leaves (length text) text)))
 
-followed-same : (most : ℕ) (front : Front) (one other : List ℕ → Reading) → LeavesAtMost most front → Agree most one other
+followed-same : (most : ℕ) (front : Front) (one other : List ℕ → Reading) → LeavesAtMost most front
+    → Agree most one other
     → word_and_rest front one ≡ word_and_rest front other
 followed-same most (Ok (bytes, behind)) one other leaves same = ap (before bytes) (same behind leaves)
 followed-same most (Err fault) one other leaves same = refl
 
 -- a character has the same effect before two readings that agree on the text that is left
 words-same : (c : ℕ) (rest : List ℕ) (one other : List ℕ → Reading) → Agree (length rest) one other
-    → (if is_blank c then one rest else word_and_rest (front_word (c ∷ rest)) one)
-    ≡ (if is_blank c then other rest else word_and_rest (front_word (c ∷ rest)) other)
-words-same c rest one other same = go (is_blank c) refl
+    → (if is_word_separator c then one rest else word_and_rest (front_word (c ∷ rest)) one)
+    ≡ (if is_word_separator c then other rest else word_and_rest (front_word (c ∷ rest)) other)
+words-same c rest one other same = go (is_word_separator c) refl
   where
-    go : (test : Bool) → is_blank c ≡ test
+    go : (test : Bool) → is_word_separator c ≡ test
         → (if test then one rest else word_and_rest (front_word (c ∷ rest)) one)
         ≡ (if test then other rest else word_and_rest (front_word (c ∷ rest)) other)
     go true is = same rest (omega arith)
@@ -164,7 +172,8 @@ words_end = refl
 
 pub words_on : (c : ℕ) (rest : List ℕ)
     → words_of_characters (c ∷ rest)
-    ≡ (if is_blank c then words_of_characters rest else word_and_rest (front_word (c ∷ rest)) words_of_characters)
+    ≡ (if is_word_separator c then words_of_characters rest else word_and_rest (front_word (c ∷ rest))
+    words_of_characters)
 unfolding words_of_characters words_within
 words_on c rest =
     words-same c rest (words_within (length rest)) words_of_characters
@@ -192,7 +201,8 @@ a_quote rest =
     ∙ (ap (adding (encode_utf8 39 ++ [])) (word_on 39 rest)
     ∙ ap (λ bytes. adding bytes (from_quoted rest)) (append-nil (encode_utf8 39)))
 
-in_quotes : (c : ℕ) (rest : List ℕ) → from_quoted (quoted_character c ++ rest) ≡ adding (encode_utf8 c) (from_quoted rest)
+in_quotes : (c : ℕ) (rest : List ℕ) → from_quoted (quoted_character c ++ rest)
+    ≡ adding (encode_utf8 c) (from_quoted rest)
 in_quotes c rest =
     elim (eqb_tells c 39) [
       | inl same ↦ rw same.1 (ap (adding []) (a_quote rest) ∙ adding-append [] (encode_utf8 39) (from_quoted rest))
@@ -221,7 +231,8 @@ quoted_word text rest =
 read_back : (words : List (List ℕ)) → words_of_characters (all_quoted words) ≡ Ok (map encode_utf8_all words)
 read_back [] = words_end
 read_back (text ∷ words) =
-    ap (λ behind. words_of_characters (39 ∷ behind)) (append_assoc (quoted_characters text) (39 ∷ []) (32 ∷ all_quoted words))
+    ap (λ behind. words_of_characters (39 ∷ behind))
+    (append_assoc (quoted_characters text) (39 ∷ []) (32 ∷ all_quoted words))
     ∙ (words_on 39 (quoted_characters text ++ 39 ∷ 32 ∷ all_quoted words)
     ∙ (ap (λ front. word_and_rest front words_of_characters) (quoted_word text (all_quoted words))
     ∙ ap (before (encode_utf8_all text)) (words_on 32 (all_quoted words) ∙ read_back words)))

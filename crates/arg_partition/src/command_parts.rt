@@ -26,7 +26,9 @@ pub fn parts(
     requires { 1 ≤ most }
     ensures cut { IfOk result (λ cuts. AreParts (fits words.now limit) most names.now cuts) }
     ensures all_fit { IfOk result (λ _. too_long_at (fits words.now limit) names.now ≡ None) }
-    ensures refused { IfErr result (λ fault. (fault ≡ PartsFault.OutOfMemory) ⊎ ((index : ℕ) × (fault ≡ PartsFault.TooLong index) × (too_long_at (fits words.now limit) names.now ≡ Some index))) }
+    ensures refused { IfErr result (λ fault. (fault ≡ PartsFault.OutOfMemory)
+        ⊎ ((index : ℕ) × (fault ≡ PartsFault.TooLong index)
+        × (too_long_at (fits words.now limit) names.now ≡ Some index))) }
 {
     let Some(room) = Room::behind(limit, words) else {
         return Err(PartsFault::TooLong(0));

@@ -5,7 +5,7 @@ ghost use Rattle.arg_partition.specs.Words.{words_of};
 ghost use Rattle.arg_partition.specs.WordsSoFar.{resumed};
 
 use crate::WordsFault;
-use crate::place::{Place, Reads};
+use crate::reading_state::{ReadingState, ReadsWords};
 use crate::step::{Gain, Step, step_of};
 use hook_base::{Items, Text};
 use std::alloc::{AllocError, Global};
@@ -24,7 +24,7 @@ pub fn words(alloc: Global, text: &str) -> Result<Items<Text>, WordsFault>
     ensures refused { IfErr result (λ fault. (fault ≡ WordsFault.OutOfMemory) ⊎ (words_of text.now ≡ Err fault)) }
 {
     let mut begun = Begun::new(alloc);
-    let mut place = Place::Between;
+    let mut place = ReadingState::Between;
     'characters: for c in text.chars() {
         let step = step_of(place, c);
         begun.take(alloc, step)?;
@@ -54,8 +54,9 @@ impl Begun {
     // Applies what a step yields.
     fn take(&mut self, alloc: Global, step: Step) -> Result<(), AllocError>
         ensures { IfOk result (λ _. (rest : List ℕ) →
-            resumed self.new.words.items (string_bytes self.new.word) (⟦<Place as Reads>⟧.words step.place rest)
-            ≡ resumed self.old.words.items (string_bytes self.old.word) (⟦<Step as Reads>⟧.words step rest)) }
+            resumed self.new.words.items (string_bytes self.new.word)
+            (⟦<ReadingState as ReadsWords>⟧.words step.place rest)
+            ≡ resumed self.old.words.items (string_bytes self.old.word) (⟦<Step as ReadsWords>⟧.words step rest)) }
     {
         match step.gain {
             Gain::Nothing => Ok(()),
@@ -73,20 +74,21 @@ impl Begun {
     }
 
     // The words of a text that ends in this state.
-    fn ended(self, place: Place) -> Result<Items<Text>, WordsFault>
+    fn ended(self, place: ReadingState) -> Result<Items<Text>, WordsFault>
         ensures { MatchResult result
-            (λ words. resumed self.words.items (string_bytes self.word) (⟦<Place as Reads>⟧.words place []) ≡ Ok words)
-            (λ fault. (fault ≡ WordsFault.OutOfMemory) ⊎ (⟦<Place as Reads>⟧.words place [] ≡ Err fault)) }
+            (λ words. resumed self.words.items (string_bytes self.word) (⟦<ReadingState as ReadsWords>⟧.words place [])
+            ≡ Ok words)
+            (λ fault. (fault ≡ WordsFault.OutOfMemory) ⊎ (⟦<ReadingState as ReadsWords>⟧.words place [] ≡ Err fault)) }
     {
         let Begun { mut words, word } = self;
         match place {
-            Place::Between => Ok(Items::from(words)),
-            Place::Bare => {
+            ReadingState::Between => Ok(Items::from(words)),
+            ReadingState::Bare => {
                 words.push(Text::from(word))?;
                 Ok(Items::from(words))
             }
-            Place::Single | Place::Double => Err(WordsFault::OpenQuote),
-            Place::Escaped | Place::DoubleEscaped => Err(WordsFault::NothingEscaped),
+            ReadingState::Single | ReadingState::Double => Err(WordsFault::OpenQuote),
+            ReadingState::Escaped | ReadingState::DoubleEscaped => Err(WordsFault::NothingEscaped),
         }
     }
 }

@@ -19,7 +19,7 @@ mod cut;
 mod entry_words;
 pub mod laws;
 mod parts_fault;
-mod place;
+mod reading_state;
 mod room;
 mod step;
 mod words_fault;

@@ -1,7 +1,7 @@
 //! The reasons why a command can't be cut into parts.
 
 ghost use Rattle.std.specs.Prelude.{◌≡◌};
-ghost use Rattle.arg_partition.specs.PartsFaults.{number_of};
+ghost use Rattle.arg_partition.specs.PartsFaults.{parts_fault_number};
 ghost use Rattle.arg_partition.specs.declared.parts_fault.PartsFault.TheVariants.{OutOfMemory};
 
 use hook_base::OutOfMemory as Refused;
@@ -23,7 +23,7 @@ pub enum PartsFault {
 impl PartsFault {
     /// The number of the fault: 1 or 2.
     pub fn number(&self) -> u8
-        ensures { result ≡ number_of self.now }
+        ensures { result ≡ parts_fault_number self.now }
     {
         match self {
             PartsFault::TooLong(_) => 1,

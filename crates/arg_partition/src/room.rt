@@ -1,7 +1,7 @@
 //! The room that is left in a command.
 
 ghost use Rattle.std.specs.Prelude.{◌≡◌, ◌+◌, ◌<◌, [], ◌∷◌, false, not, MatchOption, position};
-ghost use Rattle.arg_partition.specs.Rooms.{Leaves, Takes, fits_room};
+ghost use Rattle.arg_partition.specs.Rooms.{LeavesRoom, Takes, fits_room};
 
 use hook_base::{RepoPath, Text};
 
@@ -17,7 +17,8 @@ pub(crate) struct Room {
 impl Room {
     /// The room that a command of at most `limit` bytes has after its words, or `None` if these don't fit.
     pub(crate) fn behind(limit: usize, words: &[Text]) -> Option<Room>
-        ensures { MatchOption result (fits_room (record { left = limit; begun = false }) words.now ≡ false) (λ room. Leaves (record { left = limit; begun = false }) words.now room) }
+        ensures { MatchOption result (fits_room (record { left = limit; begun = false }) words.now ≡ false)
+            (λ room. LeavesRoom (record { left = limit; begun = false }) words.now room) }
     {
         let mut room = Room {
             left: limit,

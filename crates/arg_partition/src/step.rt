@@ -1,10 +1,10 @@
 //! The effect of one character of an entry.
 
 ghost use Rattle.std.specs.Prelude.{◌≡◌, ℕ, List, ◌∷◌, [], encode_utf8};
-ghost use Rattle.arg_partition.specs.Words.{Reading, before, double_quoted, double_quoted_escape, is_blank, piece, single_quoted, words_of_characters};
+ghost use Rattle.arg_partition.specs.Words.{Reading, before, double_quoted, double_quoted_escape, is_word_separator, piece, single_quoted, words_of_characters};
 ghost use Rattle.arg_partition.specs.WordsSoFar.{from_piece, from_word, resumed};
 
-use crate::place::{Place, Reads};
+use crate::reading_state::{ReadingState, ReadsWords};
 
 /// What a character adds to the words.
 #[derive(Clone, Copy)]
@@ -23,13 +23,13 @@ pub(crate) enum Gain {
 #[derive(Clone, Copy)]
 pub(crate) struct Step {
     pub(crate) gain: Gain,
-    pub(crate) place: Place,
+    pub(crate) place: ReadingState,
 }
 
-impl Reads for Step {
+impl ReadsWords for Step {
     ghost use Rattle.arg_partition.specs.declared.step.Gain.TheVariants.{Nothing, Character, BackslashAndCharacter, Word};
 
-    ghost words = { λ step rest. let behind = ⟦<Place as Reads>⟧.words step.place rest in elim step.gain [
+    ghost words = { λ step rest. let behind = ⟦<ReadingState as ReadsWords>⟧.words step.place rest in elim step.gain [
       | Nothing ↦ behind
       | Character c ↦ resumed [] (encode_utf8 c) behind
       | BackslashAndCharacter c ↦ resumed [] (92 ∷ encode_utf8 c) behind
@@ -38,37 +38,38 @@ impl Reads for Step {
 }
 
 /// The effect of the character in a state.
-pub(crate) fn step_of(place: Place, c: char) -> Step
-    ensures { (rest : List ℕ) → ⟦<Step as Reads>⟧.words result rest ≡ ⟦<Place as Reads>⟧.words place (c ∷ rest) }
+pub(crate) fn step_of(place: ReadingState, c: char) -> Step
+    ensures { (rest : List ℕ) → ⟦<Step as ReadsWords>⟧.words result rest
+        ≡ ⟦<ReadingState as ReadsWords>⟧.words place (c ∷ rest) }
 {
     match place {
-        Place::Between => between(c),
-        Place::Bare => bare(c),
-        Place::Escaped => adds(c, Place::Bare),
-        Place::Single => single(c),
-        Place::Double => double(c),
-        Place::DoubleEscaped => double_escaped(c),
+        ReadingState::Between => between(c),
+        ReadingState::Bare => bare(c),
+        ReadingState::Escaped => adds(c, ReadingState::Bare),
+        ReadingState::Single => single(c),
+        ReadingState::Double => double(c),
+        ReadingState::DoubleEscaped => double_escaped(c),
     }
 }
 
 #[tactic(auto, using(crate::proofs::WordLemmas::blank_between, crate::proofs::WordLemmas::word_begins))]
 fn between(c: char) -> Step
-    ensures { (rest : List ℕ) → ⟦<Step as Reads>⟧.words result rest ≡ words_of_characters (c ∷ rest) }
+    ensures { (rest : List ℕ) → ⟦<Step as ReadsWords>⟧.words result rest ≡ words_of_characters (c ∷ rest) }
 {
     if is_blank(c) {
-        return leads(Place::Between);
+        return leads(ReadingState::Between);
     }
     unquoted(c)
 }
 
 #[tactic(auto, using(crate::proofs::WordLemmas::word_ends, crate::proofs::WordLemmas::word_goes_on))]
 fn bare(c: char) -> Step
-    ensures { (rest : List ℕ) → ⟦<Step as Reads>⟧.words result rest ≡ from_word (c ∷ rest) }
+    ensures { (rest : List ℕ) → ⟦<Step as ReadsWords>⟧.words result rest ≡ from_word (c ∷ rest) }
 {
     if is_blank(c) {
         return Step {
             gain: Gain::Word,
-            place: Place::Between,
+            place: ReadingState::Between,
         };
     }
     unquoted(c)
@@ -76,51 +77,52 @@ fn bare(c: char) -> Step
 
 // The effect of a character outside quotes that isn't a blank.
 fn unquoted(c: char) -> Step
-    ensures { (rest : List ℕ) → ⟦<Step as Reads>⟧.words result rest ≡ from_piece (piece c rest) }
+    ensures { (rest : List ℕ) → ⟦<Step as ReadsWords>⟧.words result rest ≡ from_piece (piece c rest) }
 {
     match c {
-        '\'' => leads(Place::Single),
-        '"' => leads(Place::Double),
-        '\\' => leads(Place::Escaped),
-        _ => adds(c, Place::Bare),
+        '\'' => leads(ReadingState::Single),
+        '"' => leads(ReadingState::Double),
+        '\\' => leads(ReadingState::Escaped),
+        _ => adds(c, ReadingState::Bare),
     }
 }
 
 fn single(c: char) -> Step
-    ensures { (rest : List ℕ) → ⟦<Step as Reads>⟧.words result rest ≡ from_piece (single_quoted (c ∷ rest)) }
+    ensures { (rest : List ℕ) → ⟦<Step as ReadsWords>⟧.words result rest ≡ from_piece (single_quoted (c ∷ rest)) }
 {
     match c {
-        '\'' => leads(Place::Bare),
-        _ => adds(c, Place::Single),
+        '\'' => leads(ReadingState::Bare),
+        _ => adds(c, ReadingState::Single),
     }
 }
 
 fn double(c: char) -> Step
-    ensures { (rest : List ℕ) → ⟦<Step as Reads>⟧.words result rest ≡ from_piece (double_quoted (c ∷ rest)) }
+    ensures { (rest : List ℕ) → ⟦<Step as ReadsWords>⟧.words result rest ≡ from_piece (double_quoted (c ∷ rest)) }
 {
     match c {
-        '"' => leads(Place::Bare),
-        '\\' => leads(Place::DoubleEscaped),
-        _ => adds(c, Place::Double),
+        '"' => leads(ReadingState::Bare),
+        '\\' => leads(ReadingState::DoubleEscaped),
+        _ => adds(c, ReadingState::Double),
     }
 }
 
 // In double quotes, a backslash before a double quote or a backslash escapes it, and any other stays
 // (Python's module `shlex`, "Parsing Rules").
 fn double_escaped(c: char) -> Step
-    ensures { (rest : List ℕ) → ⟦<Step as Reads>⟧.words result rest ≡ from_piece (double_quoted_escape (c ∷ rest)) }
+    ensures { (rest : List ℕ) → ⟦<Step as ReadsWords>⟧.words result rest
+        ≡ from_piece (double_quoted_escape (c ∷ rest)) }
 {
     if c == '"' || c == '\\' {
-        return adds(c, Place::Double);
+        return adds(c, ReadingState::Double);
     }
     Step {
         gain: Gain::BackslashAndCharacter(c),
-        place: Place::Double,
+        place: ReadingState::Double,
     }
 }
 
 // The character is added to the word.
-fn adds(c: char, place: Place) -> Step
+fn adds(c: char, place: ReadingState) -> Step
     ensures gain { result.gain ≡ Gain.Character c }
     ensures place { result.place ≡ place }
 {
@@ -131,7 +133,7 @@ fn adds(c: char, place: Place) -> Step
 }
 
 // The character only changes the state.
-fn leads(place: Place) -> Step
+fn leads(place: ReadingState) -> Step
     ensures gain { result.gain ≡ Gain.Nothing }
     ensures place { result.place ≡ place }
 {
@@ -143,7 +145,7 @@ fn leads(place: Place) -> Step
 
 // Whether the character is a blank, which separates words: a space, tab, carriage return or line feed.
 fn is_blank(c: char) -> bool
-    ensures { result ≡ is_blank c }
+    ensures { result ≡ is_word_separator c }
 {
     c == ' ' || c == '\t' || c == '\r' || c == '\n'
 }

@@ -1,7 +1,7 @@
 //! The reasons why a text can't be cut into words.
 
 ghost use Rattle.std.specs.Prelude.{◌≡◌};
-ghost use Rattle.arg_partition.specs.WordsFaults.{number_of};
+ghost use Rattle.arg_partition.specs.WordsFaults.{words_fault_number};
 ghost use Rattle.arg_partition.specs.declared.words_fault.WordsFault.TheVariants.{OutOfMemory};
 
 use hook_base::OutOfMemory as Refused;
@@ -25,7 +25,7 @@ pub enum WordsFault {
 impl WordsFault {
     /// The number of the fault, from 1 to 3.
     pub fn number(&self) -> u8
-        ensures { result ≡ number_of self.now }
+        ensures { result ≡ words_fault_number self.now }
     {
         match self {
             WordsFault::OpenQuote => 1,

@@ -6,36 +6,36 @@ use Rattle.std.proofs.lemmas.List.Elements.{All-from_get_or}
 use Rattle.std.proofs.lemmas.List.Splits.{length-slice_split, slice_split_first, slice_split_none}
 use Rattle.std.proofs.lemmas.List.Sums.{fails_before_first, position_or_len_is}
 use Rattle.memchr.specs.Find.{NoneBefore, Nowhere, Passes, is_byte}
-use Rattle.builtin_hooks.specs.Lines.{is_line_feed, lines_of, pieces_of, without_empty_last}
+use Rattle.builtin_hooks.specs.Lines.{is_line_end, lines_of, pieces_of, without_empty_last}
 
 abbrev pub first_feed : List ℕ → ℕ
-first_feed bytes = position_or_len is_line_feed bytes
+first_feed bytes = position_or_len is_line_end bytes
 
 pub feed_found : (bytes : List ℕ) (place : ℕ) → NoneBefore (Passes (is_byte 10) bytes) 0 (length bytes) place
     → Passes (is_byte 10) bytes place → place ≡ first_feed bytes
 feed_found bytes place first here =
     let high = first.high in
-    sym (position_or_len_is is_line_feed bytes place 0 (omega arith)
+    sym (position_or_len_is is_line_end bytes place 0 (omega arith)
     (λ k before. false_from_ne_true _ (first.before k (omega arith) before)) (λ within. here))
 
 pub feed_none : (bytes : List ℕ) → Nowhere (Passes (is_byte 10) bytes) 0 (length bytes) → length bytes ≡ first_feed bytes
 feed_none bytes none =
-    sym (position_or_len_is is_line_feed bytes (length bytes) 0 (omega arith)
+    sym (position_or_len_is is_line_end bytes (length bytes) 0 (omega arith)
     (λ k before. false_from_ne_true _ (none k (omega arith) before)) (λ within. absurd (omega arith)))
 
 -- ---- pieces
 
 pub some-pieces : (bytes : List ℕ) → 0 < length (pieces_of bytes)
-some-pieces bytes = omega (arith, length-slice_split is_line_feed bytes)
+some-pieces bytes = omega (arith, length-slice_split is_line_end bytes)
 
 pub pieces-cut : (bytes : List ℕ) → first_feed bytes < length bytes
     → pieces_of bytes ≡ take (first_feed bytes) bytes ∷ pieces_of (drop (first_feed bytes + 1) bytes)
-pieces-cut bytes within = slice_split_first is_line_feed bytes 0 within
+pieces-cut bytes within = slice_split_first is_line_end bytes 0 within
 
 pub pieces-whole : (bytes : List ℕ) → length bytes ≤ first_feed bytes → pieces_of bytes ≡ bytes ∷ []
 pieces-whole bytes none =
-    slice_split_none is_line_feed bytes
-    (All-from_get_or (λ byte. is_line_feed byte ≡ false) bytes 0 (λ k within. fails_before_first is_line_feed bytes k 0 (omega arith)))
+    slice_split_none is_line_end bytes
+    (All-from_get_or (λ byte. is_line_end byte ≡ false) bytes 0 (λ k within. fails_before_first is_line_end bytes k 0 (omega arith)))
 
 -- ---- lines
 

@@ -5,7 +5,7 @@ use Rattle.std.specs.Prelude.{slice_index_or}
 use Rattle.std.proofs.Math.Seq.{take-add}
 use Rattle.std.proofs.lemmas.Bool.{cases_lt}
 use Rattle.std.proofs.lemmas.List.Sums.{count_by_more_no, count_by_more_yes, fails_before_first, passes_at_first, prefix_len-le-length, sum_by-append}
-use Rattle.builtin_hooks.specs.Lines.{is_line_feed, line_feeds_before, pieces_of}
+use Rattle.builtin_hooks.specs.Lines.{is_line_end, line_feeds_before, pieces_of}
 use Rattle.builtin_hooks.proofs.FeedLemmas.{first_feed, pieces-cut, pieces-whole, tail-is}
 
 first_feed-le : (bytes : List ℕ) → first_feed bytes ≤ length bytes
@@ -16,17 +16,17 @@ feeds-none bytes zero within = refl
 feeds-none bytes (suc place) within =
     let inside : place < length bytes = omega (arith, first_feed-le bytes) in
     ap (λ n. line_feeds_before n bytes) (sym (add-one place))
-    ∙ count_by_more_no is_line_feed bytes place 0 inside (fails_before_first is_line_feed bytes place 0 (omega arith))
+    ∙ count_by_more_no is_line_end bytes place 0 inside (fails_before_first is_line_end bytes place 0 (omega arith))
     ∙ feeds-none bytes place (omega arith)
 
 feeds-one : (bytes : List ℕ) → first_feed bytes < length bytes → line_feeds_before (first_feed bytes + 1) bytes ≡ 1
 feeds-one bytes within =
-    count_by_more_yes is_line_feed bytes (first_feed bytes) 0 within (passes_at_first is_line_feed bytes 0 within)
+    count_by_more_yes is_line_end bytes (first_feed bytes) 0 within (passes_at_first is_line_end bytes 0 within)
     ∙ ap (λ n. n + 1) (feeds-none bytes (first_feed bytes) (omega arith))
 
 feeds-add : (bytes : List ℕ) (cut more : ℕ) → line_feeds_before (cut + more) bytes ≡ line_feeds_before cut bytes + line_feeds_before more (drop cut bytes)
 feeds-add bytes cut more =
-    ap (count_by is_line_feed) (take-add cut more bytes) ∙ sum_by-append _ (take cut bytes) (take more (drop cut bytes))
+    ap (count_by is_line_end) (take-add cut more bytes) ∙ sum_by-append _ (take cut bytes) (take more (drop cut bytes))
 
 -- the bytes behind the first line feed, as a range without an end takes them
 abbrev pub behind : ℕ → List ℕ → List ℕ

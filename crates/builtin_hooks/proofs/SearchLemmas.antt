@@ -3,10 +3,10 @@ use Rattle.std.proofs.Common.{◌≡◌, ◌∙◌, ap, refl, false, ℕ, ◌<�
 use Rattle.regex.specs.Bytes as raw
 use Rattle.regex.specs.Patterns.{Re, SameCaptures, Reads, find, span}
 use Rattle.regex.specs.declared.bytes.regex.Regex.{Regex}
-use Rattle.regex.proofs.ForCallers.{span_alike}
+use Rattle.builtin_hooks.proofs.Kit.{span_alike}
 use Rattle.regex_syntax.specs.Brackets.{Nested}
 use Rattle.regex_syntax.specs.Grammar.{Names}
-use Rattle.builtin_hooks.specs.Search.{Search, config_of, first_match, match_of, pattern_of}
+use Rattle.builtin_hooks.specs.Search.{Search, config_of, first_match, match_of, pattern_of_search}
 use Rattle.builtin_hooks.specs.Searchers.{SearchesFor}
 
 value-read : (read : Option (Nested Re × Names)) (P : Nested Re × Names → Type 0) (pattern : Re)
@@ -27,7 +27,7 @@ some-and None P is = absurd is
 some-and (Some x) P is = search rules
 
 -- the grammar reads a pattern there
-pub searched_reads : (asked : Search) (pattern : Re) → SearchesFor asked pattern → IsSome (pattern_of asked)
+pub searched_reads : (asked : Search) (pattern : Re) → SearchesFor asked pattern → IsSome (pattern_of_search asked)
 searched_reads asked pattern searches = some-and _ _ searches
 
 match-by : (read : Option Re) (pattern : Re) (hay : List ℕ) → IsSomeAnd read (SameCaptures pattern) → ((k : ℕ) → get_or hay k 0 < 256)
@@ -38,7 +38,7 @@ match-by (Some re) pattern hay same bytes = span_alike same hay bytes false 0
 pub first_match-by : (asked : Search) (pattern : Re) (hay : List ℕ) → SearchesFor asked pattern → ((k : ℕ) → get_or hay k 0 < 256)
     → option_map span (find pattern hay 0) ≡ first_match asked hay
 unfolding first_match
-first_match-by asked pattern hay same bytes = match-by (pattern_of asked) pattern hay same bytes
+first_match-by asked pattern hay same bytes = match-by (pattern_of_search asked) pattern hay same bytes
 
 some-mapped : {A B : Type 0} (f : A → B) (o : Option A) → is_some o ≡ is_some (option_map f o)
 some-mapped f None = refl

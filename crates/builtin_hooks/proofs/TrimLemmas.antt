@@ -1,19 +1,19 @@
 -- A trim at the end, byte by byte.
 use Rattle.std.proofs.Common.{◌≡◌, ◌∙◌, ap, sym, refl, arith, ℕ, ◌+◌, ◌-◌, ◌<◌, ◌==◌, true, false, List, [], ◌∷◌, ◌++◌, length, take, get_or}
 use Rattle.std.proofs.lemmas.List.{take_more, take_all}
-use Rattle.builtin_hooks.specs.Lines.{before_rest, without_returns_after}
+use Rattle.builtin_hooks.specs.Lines.{before_rest_of_line, without_returns_after}
 
 after-return : (bytes : List ℕ) (last : ℕ) → (last == 13) ≡ true → without_returns_after (bytes ++ last ∷ []) ≡ without_returns_after bytes
 after-return [] last is = rw is
-after-return (byte ∷ bytes) last is = ap (before_rest byte) (after-return bytes last is)
+after-return (byte ∷ bytes) last is = ap (before_rest_of_line byte) (after-return bytes last is)
 
-rest_kept : (byte : ℕ) (bytes : List ℕ) (last : ℕ) → before_rest byte (bytes ++ last ∷ []) ≡ byte ∷ bytes ++ last ∷ []
+rest_kept : (byte : ℕ) (bytes : List ℕ) (last : ℕ) → before_rest_of_line byte (bytes ++ last ∷ []) ≡ byte ∷ bytes ++ last ∷ []
 rest_kept byte [] last = refl
 rest_kept byte (next ∷ bytes) last = refl
 
 after-other : (bytes : List ℕ) (last : ℕ) → (last == 13) ≡ false → without_returns_after (bytes ++ last ∷ []) ≡ bytes ++ last ∷ []
 after-other [] last other = rw other
-after-other (byte ∷ bytes) last other = ap (before_rest byte) (after-other bytes last other) ∙ rest_kept byte bytes last
+after-other (byte ∷ bytes) last other = ap (before_rest_of_line byte) (after-other bytes last other) ∙ rest_kept byte bytes last
 
 front_and_last : (bytes : List ℕ) → 0 < length bytes → take (length bytes - 1) bytes ++ get_or bytes (length bytes - 1) 0 ∷ [] ≡ bytes
 front_and_last bytes some =

@@ -9,21 +9,22 @@ use Rattle.regex.specs.Sources.{IsRefusal}
 use Rattle.regex.specs.declared.error.Error.{Error}
 use Rattle.regex.specs.declared.error.Error.TheVariants as library
 
-abbrev pub number_of : GrepFault → ℕ
-number_of NotAPattern = 1
-number_of BadArg = 2
-number_of OutOfMemory = 3
+abbrev pub grep_fault_number : GrepFault → ℕ
+grep_fault_number NotAPattern = 1
+grep_fault_number BadArg = 2
+grep_fault_number OutOfMemory = 3
 
 -- memory was refused, otherwise the entry isn't taken as a pattern
-abbrev pub of_pattern : Error → GrepFault
-of_pattern (library.Syntax error) = NotAPattern
-of_pattern library.CompiledTooBig = NotAPattern
-of_pattern library.Internal = NotAPattern
-of_pattern library.OutOfMemory = OutOfMemory
+abbrev pub grep_fault_of_pattern : Error → GrepFault
+grep_fault_of_pattern (library.Syntax error) = NotAPattern
+grep_fault_of_pattern library.CompiledTooBig = NotAPattern
+grep_fault_of_pattern library.Internal = NotAPattern
+grep_fault_of_pattern library.OutOfMemory = OutOfMemory
 
 -- The fault is that of an error which `regex` may give for this text, read under its flags. It is one of
 -- syntax only if the grammar reads no pattern there, or one that nests too deep. It is one of size only if
 -- there is a pattern.
 abbrev pub IsGrepRefusal : Search → GrepFault → Type 0
 IsGrepRefusal search fault =
-    (error : Error) × IsRefusal (config_of search) search.text error × IsRightKind (config_of search) search.text error × (fault ≡ of_pattern error)
+    (error : Error) × IsRefusal (config_of search) search.text error × IsRightKind (config_of search) search.text error
+    × (fault ≡ grep_fault_of_pattern error)

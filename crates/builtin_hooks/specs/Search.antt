@@ -68,8 +68,8 @@ config_of search = record default_config {
 }
 
 -- the pattern that the grammar reads in the text
-abbrev pub pattern_of : Search → Option Re
-pattern_of search = option_map (λ pattern. pattern.0.value) (read (config_of search) (chars search.text))
+abbrev pub pattern_of_search : Search → Option Re
+pattern_of_search search = option_map (λ pattern. pattern.0.value) (read (config_of search) (chars search.text))
 
 -- where the first match of a pattern in the bytes begins and ends
 abbrev pub match_of : Option Re → List ℕ → Option (ℕ × ℕ)
@@ -78,7 +78,7 @@ match_of (Some pattern) bytes = option_map span (find pattern bytes 0)
 
 -- where the first match in the bytes begins and ends
 unfoldable pub first_match : Search → List ℕ → Option (ℕ × ℕ)
-first_match search bytes = match_of (pattern_of search) bytes
+first_match search bytes = match_of (pattern_of_search search) bytes
 
-abbrev pub is_found : Search → List ℕ → Bool
-is_found search bytes = is_some (first_match search bytes)
+abbrev pub is_search_found : Search → List ℕ → Bool
+is_search_found search bytes = is_some (first_match search bytes)

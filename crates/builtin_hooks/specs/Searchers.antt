@@ -5,8 +5,8 @@ use Rattle.regex.specs.Patterns.{Re, SameCaptures}
 use Rattle.builtin_hooks.specs.declared.flags.Flags.{Flags}
 use Rattle.builtin_hooks.specs.declared.file_lines.FoundLine.{FoundLine}
 use Rattle.builtin_hooks.specs.GrepAnswer.{found_lines}
-use Rattle.builtin_hooks.specs.Lines.{Line, lines_of, numbered}
-use Rattle.builtin_hooks.specs.Search.{Search, pattern_of}
+use Rattle.builtin_hooks.specs.Lines.{MatchedLine, lines_of, numbered}
+use Rattle.builtin_hooks.specs.Search.{Search, pattern_of_search}
 
 abbrev pub search_with : List ℕ → Flags → Search
 search_with text flags = record {
@@ -18,17 +18,18 @@ search_with text flags = record {
 
 -- the pattern matches as the one that the grammar reads in the text
 abbrev pub SearchesFor : Search → Re → Type 0
-SearchesFor search pattern = IsSomeAnd (pattern_of search) (SameCaptures pattern)
+SearchesFor search pattern = IsSomeAnd (pattern_of_search search) (SameCaptures pattern)
 
 -- the lines of the bytes in which the pattern is found, if the first of the bytes' lines has this number
-abbrev pub found_from : Search → List ℕ → ℕ → List ℕ → List Line
+abbrev pub found_from : Search → List ℕ → ℕ → List ℕ → List MatchedLine
 found_from search path number bytes = found_lines search (numbered path number (lines_of bytes))
 
-abbrev pub line_of : List ℕ → FoundLine → Line
-line_of path found = record { path = path; number = found.number; bytes = found.line.now }
+abbrev pub found_line_of : List ℕ → FoundLine → MatchedLine
+found_line_of path found = record { path = path; number = found.number; bytes = found.line.now }
 
 -- the first of these lines, with the bytes after it, or none if there is none
 abbrev pub IsFirstFound : Search → ℕ → List ℕ → Option FoundLine → Type 0
 IsFirstFound search number bytes None = (path : List ℕ) → found_from search path number bytes ≡ []
 IsFirstFound search number bytes (Some found) =
-    (path : List ℕ) → found_from search path number bytes ≡ line_of path found ∷ found_from search path (found.number + 1) found.after.now
+    (path : List ℕ) → found_from search path number bytes
+    ≡ found_line_of path found ∷ found_from search path (found.number + 1) found.after.now

@@ -32,7 +32,8 @@ pub fn first_found_line<'a>(
 ) -> Option<FoundLine<'a>>
     requires countable { first_number + length bytes.now < 2 ^ 64 }
     ensures found { IsFirstFound searcher.old first_number bytes.now result }
-    ensures within { IfSome result (λ found. found.number + 1 + length found.after.now ≤ first_number + length bytes.now) }
+    ensures within { IfSome result (λ found. found.number + 1 + length found.after.now ≤ first_number + length
+        bytes.now) }
     ensures shorter { IfSome result (λ found. length found.after.now < length bytes.now) }
     ensures same { searcher.new ≡ searcher.old }
 {
@@ -76,7 +77,8 @@ pub fn push_found_lines(
     path: &RepoPath,
     bytes: &[u8],
 ) -> Result<(), OutOfMemory>
-    ensures text { OnOk result (output.new.items ≡ output.old.items ++ found_lines_text searcher.old (numbered path.now 1 (lines_of bytes.now))) }
+    ensures text { OnOk result (output.new.items
+        ≡ output.old.items ++ found_lines_text searcher.old (numbered path.now 1 (lines_of bytes.now))) }
     ensures same { searcher.new ≡ searcher.old }
 {
     let mut next_number = 1;

@@ -1,9 +1,9 @@
 //! A pattern with its flags, and what it answers for files.
 
 ghost use Rattle.std.specs.Prelude.{◌≡◌, ◌≢◌, ◌↔◌, IfErr, IfOk, IsSome, false, true, map};
-ghost use Rattle.builtin_hooks.specs.GrepAnswer.{grep_answer, status_of};
+ghost use Rattle.builtin_hooks.specs.GrepAnswer.{grep_answer, status_of_output};
 ghost use Rattle.builtin_hooks.specs.GrepFaults.{IsGrepRefusal};
-ghost use Rattle.builtin_hooks.specs.Search.{are_known, pattern_of, search_of};
+ghost use Rattle.builtin_hooks.specs.Search.{are_known, pattern_of_search, search_of};
 ghost use Rattle.builtin_hooks.specs.Searchers.{SearchesFor, search_with};
 ghost use Rattle.regex.specs.Bytes.{regex_pattern, regex_source};
 
@@ -51,10 +51,12 @@ impl Grep {
     #[tactic(auto, using(crate::proofs::ArgLemmas::known_said, crate::proofs::SearchLemmas::searched_reads))]
     pub fn build(alloc: Global, entry: &str, args: &[&str]) -> Result<Grep, GrepFault>
         ensures built { IfOk result (λ grep. grep ≡ search_of entry.now (map (λ arg. arg.now) args.now)) }
-        ensures read { IfOk result (λ grep. IsSome (pattern_of grep)) }
+        ensures read { IfOk result (λ grep. IsSome (pattern_of_search grep)) }
         ensures known { IfOk result (λ _. are_known (map (λ arg. arg.now) args.now) ≡ true) }
-        ensures bad_arg { IfErr result (λ fault. (fault ≡ GrepFault.BadArg) ↔ (are_known (map (λ arg. arg.now) args.now) ≡ false)) }
-        ensures refused { IfErr result (λ fault. fault ≢ GrepFault.BadArg → IsGrepRefusal (search_of entry.now (map (λ arg. arg.now) args.now)) fault) }
+        ensures bad_arg { IfErr result (λ fault. (fault ≡ GrepFault.BadArg)
+            ↔ (are_known (map (λ arg. arg.now) args.now) ≡ false)) }
+        ensures refused { IfErr result (λ fault. fault ≢ GrepFault.BadArg
+            → IsGrepRefusal (search_of entry.now (map (λ arg. arg.now) args.now)) fault) }
     {
         if !are_known(args) {
             return Err(GrepFault::BadArg);
@@ -121,7 +123,7 @@ fn built(alloc: Global, entry: &str, flags: Flags) -> Result<Regex, GrepFault>
 
 // A hook fails if anything is printed.
 fn status_of(output: &[u8]) -> u8
-    ensures { result ≡ status_of output.now }
+    ensures { result ≡ status_of_output output.now }
 {
     if output.is_empty() { 0 } else { 1 }
 }

@@ -1,7 +1,7 @@
 //! Why a pattern and its arguments make no `Grep`.
 
 ghost use Rattle.std.specs.Prelude.{◌≡◌};
-ghost use Rattle.builtin_hooks.specs.GrepFaults.{number_of};
+ghost use Rattle.builtin_hooks.specs.GrepFaults.{grep_fault_number};
 ghost use Rattle.builtin_hooks.specs.declared.grep_fault.GrepFault.TheVariants.{OutOfMemory};
 
 use std::alloc::AllocError;
@@ -24,7 +24,7 @@ pub enum GrepFault {
 impl GrepFault {
     /// The refusal's number, from 1 to 3.
     pub fn number(&self) -> u8
-        ensures { result ≡ number_of self.now }
+        ensures { result ≡ grep_fault_number self.now }
     {
         match self {
             GrepFault::NotAPattern => 1,
@@ -43,9 +43,9 @@ impl From<AllocError> for GrepFault {
 }
 
 impl From<regex::Error> for GrepFault {
-    ghost use Rattle.builtin_hooks.specs.GrepFaults.{of_pattern};
+    ghost use Rattle.builtin_hooks.specs.GrepFaults.{grep_fault_of_pattern};
 
-    ghost from_gives = { λ given fault. fault ≡ of_pattern given };
+    ghost from_gives = { λ given fault. fault ≡ grep_fault_of_pattern given };
 
     fn from(refused: regex::Error) -> Self {
         match refused {

@@ -1,7 +1,7 @@
 //! What is printed for files, file by file.
 
 ghost use Rattle.std.specs.Prelude.{◌≡◌, ◌++◌, ℕ, IfOk, List, OnOk, not};
-ghost use Rattle.builtin_hooks.specs.GrepAnswer.{file_text, found_text, grep_output, is_empty, unfound_text};
+ghost use Rattle.builtin_hooks.specs.GrepAnswer.{file_text, found_text, grep_output, is_empty_output, unfound_text};
 
 use crate::file_lines::{first_found_line, push_found_lines};
 use crate::matched_file::push_first_match;
@@ -52,7 +52,8 @@ fn push_unfound(
     path: &RepoPath,
     bytes: &[u8],
 ) -> Result<(), OutOfMemory>
-    ensures text { OnOk result (output.new.items ≡ output.old.items ++ unfound_text path.now (found_text searcher.old path.now bytes.now)) }
+    ensures text { OnOk result (output.new.items
+        ≡ output.old.items ++ unfound_text path.now (found_text searcher.old path.now bytes.now)) }
     ensures same { searcher.new ≡ searcher.old }
 {
     if !is_found_in(searcher, bytes) {
@@ -63,7 +64,7 @@ fn push_unfound(
 }
 
 fn is_found_in(searcher: &mut Searcher<'_>, bytes: &[u8]) -> bool
-    ensures found { (path : List ℕ) → is_empty (found_text searcher.old path bytes.now) ≡ not result }
+    ensures found { (path : List ℕ) → is_empty_output (found_text searcher.old path bytes.now) ≡ not result }
     ensures same { searcher.new ≡ searcher.old }
 {
     if searcher.is_multiline() {

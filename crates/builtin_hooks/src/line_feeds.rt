@@ -1,15 +1,15 @@
-//! Line feeds and carriage returns in bytes.
+//! MatchedLine feeds and carriage returns in bytes.
 
 ghost use Rattle.std.specs.Prelude.{◌≡◌, ◌≤◌, length};
 ghost use Rattle.std.specs.List.{position_or_len};
-ghost use Rattle.builtin_hooks.specs.Lines.{is_line_feed, from_line_feed, without_returns_after};
+ghost use Rattle.builtin_hooks.specs.Lines.{is_line_end, from_line_feed, without_returns_after};
 
 use bstr::ByteSlice;
 
 /// The index of the first line feed, or the number of bytes if there is none.
 #[tactic(auto, using(crate::proofs::FeedLemmas::feed_found, crate::proofs::FeedLemmas::feed_none))]
 pub fn line_feed_or_end(bytes: &[u8]) -> usize
-    ensures place { result ≡ position_or_len is_line_feed bytes.now }
+    ensures place { result ≡ position_or_len is_line_end bytes.now }
     ensures within { result ≤ length bytes.now }
 {
     match bytes.find_byte(b'\n') {

@@ -13,7 +13,7 @@ use std::alloc::Global;
 
 /// A line of a file.
 #[derive(Clone, Copy)]
-struct Line<'a> {
+struct MatchedLine<'a> {
     /// Its number, from 1.
     number: usize,
     /// Its bytes, without its line feed.
@@ -29,11 +29,12 @@ pub fn push_first_match(
     path: &RepoPath,
     bytes: &[u8],
 ) -> Result<(), OutOfMemory>
-    ensures text { OnOk result (output.new.items ≡ output.old.items ++ match_text path.now bytes.now (first_match searcher.old bytes.now)) }
+    ensures text { OnOk result (output.new.items
+        ≡ output.old.items ++ match_text path.now bytes.now (first_match searcher.old bytes.now)) }
     ensures same { searcher.new ≡ searcher.old }
 {
     if let Some(found) = searcher.first_match(bytes) {
-        let Line { number, line } = line_at(bytes, found.start());
+        let MatchedLine { number, line } = line_at(bytes, found.start());
         push_place(alloc, output, path, number)?;
         push(output, line)?;
         push(output, from_line_feed(found.as_bytes()))?;
@@ -44,7 +45,7 @@ pub fn push_first_match(
 
 // The line that an index is in: a line feed is in the line that it ends.
 #[tactic(auto, using(crate::proofs::PlaceLemmas::same_start))]
-fn line_at(bytes: &[u8], index: usize) -> Line<'_>
+fn line_at(bytes: &[u8], index: usize) -> MatchedLine<'_>
     requires { index ≤ length bytes.now }
     ensures number { result.number ≡ line_feeds_before index bytes.now + 1 }
     ensures line { result.line.now ≡ slice_index_or (pieces_of bytes.now) (line_feeds_before index bytes.now) [] }
@@ -55,7 +56,7 @@ fn line_at(bytes: &[u8], index: usize) -> Line<'_>
     'lines: loop {
         let end = line_feed_or_end(rest);
         if place <= end {
-            return Line {
+            return MatchedLine {
                 number,
                 line: &rest[..end],
             };

@@ -2,7 +2,7 @@
 
 ghost use Rattle.std.specs.Prelude.{◌≡◌, IfSome, option_map};
 ghost use Rattle.regex.specs.Bytes.{match_haystack, match_span, matcher_pattern};
-ghost use Rattle.builtin_hooks.specs.Search.{first_match, is_found};
+ghost use Rattle.builtin_hooks.specs.Search.{first_match, is_search_found};
 ghost use Rattle.builtin_hooks.specs.Searchers.{SearchesFor, search_with};
 
 use crate::flags::Flags;
@@ -67,7 +67,7 @@ impl<'g> Searcher<'g> {
 
     /// Whether the pattern is found in the bytes.
     pub fn finds(&mut self, bytes: &[u8]) -> bool
-        ensures found { result ≡ is_found self.old bytes.now }
+        ensures found { result ≡ is_search_found self.old bytes.now }
         ensures same { self.new ≡ self.old }
     {
         self.matcher.is_match(bytes)

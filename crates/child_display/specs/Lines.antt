@@ -27,11 +27,12 @@ command_text words before = codes "[" ++ decimal before ++ codes "]" ++ flat_map
 -- the same number, and the hook: its place among so many, and its name
 abbrev pub hook_head : ShownHook → ℕ → List ℕ
 hook_head hook before =
-    codes "[" ++ decimal before ++ codes "] " ++ decimal hook.place ++ codes "/" ++ decimal hook.stage_hooks ++ codes " " ++ hook.name ++ codes ":"
+    codes "[" ++ decimal before ++ codes "] " ++ decimal hook.place ++ codes "/" ++ decimal hook.stage_hooks ++ codes
+    " " ++ hook.name ++ codes ":"
 
 -- that head, and each word of the command after a blank
-abbrev pub hook_text : ShownHook → List (List ℕ) → ℕ → List ℕ
-hook_text hook words before = hook_head hook before ++ flat_map (λ word. 32 ∷ word) words
+abbrev pub shown_hook_text : ShownHook → List (List ℕ) → ℕ → List ℕ
+shown_hook_text hook words before = hook_head hook before ++ flat_map (λ word. 32 ∷ word) words
 
 -- DEC's private mode 7 (DECAWM), reset: text that is wider than the terminal doesn't go on in its next line
 abbrev pub wrapping_off : List ℕ
@@ -50,7 +51,7 @@ line_of_child words before columns = line_of_text (command_text words before) co
 
 -- the line of a child of this hook
 abbrev pub line_of_hook : ShownHook → List (List ℕ) → ℕ → ℕ → List ℕ
-line_of_hook hook words before columns = line_of_text (hook_text hook words before) columns
+line_of_hook hook words before columns = line_of_text (shown_hook_text hook words before) columns
 
 -- the cursor goes to the line's beginning, and everything from there on is erased (ECMA-48, section 8.3.41,
 -- EL)

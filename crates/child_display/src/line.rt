@@ -4,7 +4,7 @@
 
 ghost use Rattle.std.specs.Prelude.{◌≡◌, ◌++◌, ◌∷◌, IfOk, OnOk, chars, encode_utf8_all, string_bytes};
 ghost use Rattle.std.specs.List.{flat_map};
-ghost use Rattle.child_display.specs.Lines.{clearing, columns_of_char, command_text, cut_to, hook_head, hook_text, line_of_child, line_of_hook, line_of_text, shown_char};
+ghost use Rattle.child_display.specs.Lines.{clearing, columns_of_char, command_text, cut_to, hook_head, shown_hook_text, line_of_child, line_of_hook, line_of_text, shown_char};
 
 use crate::ShownHook;
 use hook_base::{OutOfMemory, Text};
@@ -79,7 +79,7 @@ fn hook_text(
     words: &[Text],
     before: u64,
 ) -> Result<String, OutOfMemory>
-    ensures { IfOk result (λ text. string_bytes text ≡ hook_text hook.now words.now before) }
+    ensures { IfOk result (λ text. string_bytes text ≡ shown_hook_text hook.now words.now before) }
 {
     let mut text = hook_head(alloc, hook, before)?;
     push_words(&mut text, words)?;
@@ -107,7 +107,8 @@ fn push_words(text: &mut String, words: &[Text]) -> Result<(), OutOfMemory>
 
 // Appends the text's characters to the line as they are shown, up to the first that doesn't fit.
 fn push_cut(line: &mut String, text: &str, columns: usize) -> Result<(), OutOfMemory>
-    ensures { OnOk result (string_bytes line.new ≡ string_bytes line.old ++ encode_utf8_all (cut_to columns (chars text.now))) }
+    ensures { OnOk result (string_bytes line.new
+        ≡ string_bytes line.old ++ encode_utf8_all (cut_to columns (chars text.now))) }
 {
     let mut left = columns;
     'characters: for c in text.chars() {

@@ -53,9 +53,11 @@ same_marks a b xs ys first rest = cc
 marks_absent : (keeps : List ℕ → Bool) (path : List ℕ) (tree : List File) → entry_of path tree ≡ None → map (λ row. keeps row.path) tree ≡ map (λ row. keeps row.path || bytes_eq path row.path) tree
 marks_absent keeps path [] = λ none. refl
 marks_absent keeps path (row ∷ rows) =
-    elim (bytes_eq path row.path) as (λ b. bytes_eq path row.path ≡ b → (if b then Some row.entry else entry_of path rows) ≡ None → marks_by keeps (row ∷ rows) ≡ marks_by (or_at keeps path) (row ∷ rows)) [
+    elim (bytes_eq path row.path) as (λ b. bytes_eq path row.path ≡ b → (if b then Some row.entry else entry_of path rows) ≡ None
+    → marks_by keeps (row ∷ rows) ≡ marks_by (or_at keeps path) (row ∷ rows)) [
       | true ↦ λ e none. cc
-      | false ↦ λ e none. same_marks (keeps row.path) (or_at keeps path row.path) (marks_by keeps rows) (marks_by (or_at keeps path) rows) (or_false (keeps row.path) (bytes_eq path row.path) e) (marks_absent keeps path rows none)
+      | false ↦ λ e none. same_marks (keeps row.path) (or_at keeps path row.path) (marks_by keeps rows) (marks_by (or_at keeps path) rows) (or_false (keeps row.path) (bytes_eq path row.path) e)
+          (marks_absent keeps path rows none)
     ] refl
 
 marks_agree : (f g : File → Bool) → ((row : File) → f row ≡ g row) → (rows : List File) → map f rows ≡ map g rows
@@ -72,14 +74,18 @@ or_nothing false true c e = sym e
 or_nothing false false c e = sym e
 
 -- word by word
-pub more_marks : (words extra : List (List ℕ)) (i : ℕ) (d path : List ℕ) (tree : List File) → i < length words → path ≡ plain_word (get_or words i d) → map (λ row. is_seen_path (take i words) extra row.path || bytes_eq path row.path) tree ≡ map (λ row. is_seen_path (take (i + 1) words) extra row.path) tree
+pub more_marks : (words extra : List (List ℕ)) (i : ℕ) (d path : List ℕ) (tree : List File) → i < length words → path ≡ plain_word (get_or words i d)
+    → map (λ row. is_seen_path (take i words) extra row.path || bytes_eq path row.path) tree ≡ map (λ row. is_seen_path (take (i + 1) words) extra row.path) tree
 more_marks words extra i d path tree within plain =
     marks_agree (λ row. is_seen_path (take i words) extra row.path || bytes_eq path row.path) (λ row. is_seen_path (take (i + 1) words) extra row.path)
-    (λ row. or_joins (list_any (λ other. bytes_eq other row.path) extra) (list_any (λ word. bytes_eq (plain_word word) row.path) (take i words)) (bytes_eq path row.path) (list_any (λ word. bytes_eq (plain_word word) row.path) (take (i + 1) words))
-    (list_any_more (λ word. bytes_eq (plain_word word) row.path) words i d within ∙ ap (λ (p : List ℕ). list_any (λ word. bytes_eq (plain_word word) row.path) (take i words) || bytes_eq p row.path) (sym plain))) tree
+    (λ row. or_joins (list_any (λ other. bytes_eq other row.path) extra) (list_any (λ word. bytes_eq (plain_word word) row.path) (take i words)) (bytes_eq path row.path)
+    (list_any (λ word. bytes_eq (plain_word word) row.path) (take (i + 1) words))
+    (list_any_more (λ word. bytes_eq (plain_word word) row.path) words i d within
+    ∙ ap (λ (p : List ℕ). list_any (λ word. bytes_eq (plain_word word) row.path) (take i words) || bytes_eq p row.path) (sym plain))) tree
 
 -- path by path
-pub more_extra : (extra : List (List ℕ)) (i : ℕ) (d path : List ℕ) (tree : List File) → i < length extra → path ≡ get_or extra i d → map (λ row. is_seen_path [] (take i extra) row.path || bytes_eq path row.path) tree ≡ map (λ row. is_seen_path [] (take (i + 1) extra) row.path) tree
+pub more_extra : (extra : List (List ℕ)) (i : ℕ) (d path : List ℕ) (tree : List File) → i < length extra → path ≡ get_or extra i d
+    → map (λ row. is_seen_path [] (take i extra) row.path || bytes_eq path row.path) tree ≡ map (λ row. is_seen_path [] (take (i + 1) extra) row.path) tree
 more_extra extra i d path tree within is =
     marks_agree (λ row. is_seen_path [] (take i extra) row.path || bytes_eq path row.path) (λ row. is_seen_path [] (take (i + 1) extra) row.path)
     (λ row. or_nothing (list_any (λ other. bytes_eq other row.path) (take i extra)) (list_any (λ other. bytes_eq other row.path) (take (i + 1) extra)) (bytes_eq path row.path)
@@ -91,7 +97,8 @@ marks_more f g path [] same = refl
 marks_more f g path (row ∷ rows) same =
     let first : f row.path ≡ g row.path = cc in
     let rest : marks_by f rows ≡ marks_by g rows = cc in
-    same_marks (or_at f path row.path) (or_at g path row.path) (marks_by (or_at f path) rows) (marks_by (or_at g path) rows) (ap (λ (b : Bool). b || bytes_eq path row.path) first) (marks_more f g path rows rest)
+    same_marks (or_at f path row.path) (or_at g path row.path) (marks_by (or_at f path) rows) (marks_by (or_at g path) rows) (ap (λ (b : Bool). b || bytes_eq path row.path) first)
+    (marks_more f g path rows rest)
 
 -- the path at an index, by what stands there
 text_at : (paths : List (List ℕ)) (k : ℕ) (path : List ℕ) → slice_get paths k ≡ Some path → get_or paths k [] ≡ path
@@ -99,9 +106,11 @@ text_at [] k path at = cc
 text_at (first ∷ paths) zero path at = same_text first path at
 text_at (first ∷ paths) (suc k) path at = text_at paths k path at
 
-indexed_push : (tree : List File) (indexes : List ℕ) (k : ℕ) (path other : List ℕ) → slice_get (map path_of tree) k ≡ Some path → is_indexed tree (indexes ++ (k ∷ [])) other ≡ (is_indexed tree indexes other || bytes_eq path other)
+indexed_push : (tree : List File) (indexes : List ℕ) (k : ℕ) (path other : List ℕ) → slice_get (map path_of tree) k ≡ Some path
+    → is_indexed tree (indexes ++ (k ∷ [])) other ≡ (is_indexed tree indexes other || bytes_eq path other)
 indexed_push tree indexes k path other at =
-    list_any-append (λ index. bytes_eq (indexed_path tree index) other) indexes (k ∷ []) ∙ ap (λ (b : Bool). is_indexed tree indexes other || b) (or_right (bytes_eq (indexed_path tree k) other) ∙ ap (λ (p : List ℕ). bytes_eq p other) (text_at (map path_of tree) k path at))
+    list_any-append (λ index. bytes_eq (indexed_path tree index) other) indexes (k ∷ [])
+    ∙ ap (λ (b : Bool). is_indexed tree indexes other || b) (or_right (bytes_eq (indexed_path tree k) other) ∙ ap (λ (p : List ℕ). bytes_eq p other) (text_at (map path_of tree) k path at))
 
 no_marks : (tree : List File) → map (λ row. is_indexed tree [] row.path) tree ≡ map (λ row. is_seen_path [] [] row.path) tree
 no_marks tree = marks_agree (λ row. is_indexed tree [] row.path) (λ row. is_seen_path [] [] row.path) (λ row. refl) tree
@@ -109,20 +118,26 @@ no_marks tree = marks_agree (λ row. is_indexed tree [] row.path) (λ row. is_se
 pub no_indexes : (tree : List File) → AreIndexesOf (is_seen_path [] []) tree []
 no_indexes tree = record { within = All-nil (λ index. index < length tree); same = no_marks tree }
 
-pub indexes_absent : (keeps : List ℕ → Bool) (path : List ℕ) (tree : List File) (indexes : List ℕ) → entry_of path tree ≡ None → AreIndexesOf keeps tree indexes → AreIndexesOf (λ other. keeps other || bytes_eq path other) tree indexes
+pub indexes_absent : (keeps : List ℕ → Bool) (path : List ℕ) (tree : List File) (indexes : List ℕ) → entry_of path tree ≡ None → AreIndexesOf keeps tree indexes
+    → AreIndexesOf (λ other. keeps other || bytes_eq path other) tree indexes
 indexes_absent keeps path tree indexes none held = record { within = held.within; same = held.same ∙ marks_absent keeps path tree none }
 
-pub indexes_push : (keeps : List ℕ → Bool) (path : List ℕ) (tree : List File) (indexes : List ℕ) (k : ℕ) → k < length tree → slice_get (map path_of tree) k ≡ Some path → AreIndexesOf keeps tree indexes → AreIndexesOf (λ other. keeps other || bytes_eq path other) tree (indexes ++ (k ∷ []))
+pub indexes_push : (keeps : List ℕ → Bool) (path : List ℕ) (tree : List File) (indexes : List ℕ) (k : ℕ) → k < length tree → slice_get (map path_of tree) k ≡ Some path
+    → AreIndexesOf keeps tree indexes → AreIndexesOf (λ other. keeps other || bytes_eq path other) tree (indexes ++ (k ∷ []))
 indexes_push keeps path tree indexes k below at held = record {
   within = All-push (λ index. index < length tree) indexes k held.within below;
-  same = marks_agree (λ row. is_indexed tree (indexes ++ (k ∷ [])) row.path) (λ row. is_indexed tree indexes row.path || bytes_eq path row.path) (λ row. indexed_push tree indexes k path row.path at) tree ∙ marks_more (is_indexed tree indexes) keeps path tree held.same;
+  same =
+      marks_agree (λ row. is_indexed tree (indexes ++ (k ∷ [])) row.path) (λ row. is_indexed tree indexes row.path || bytes_eq path row.path) (λ row. indexed_push tree indexes k path row.path at) tree
+      ∙ marks_more (is_indexed tree indexes) keeps path tree held.same;
 }
 
 -- the order of the indexes means nothing
 pub indexes_sorted : (keeps : List ℕ → Bool) (tree : List File) (indexes others : List ℕ) → IsPermutation indexes others → AreIndexesOf keeps tree indexes → AreIndexesOf keeps tree others
 indexes_sorted keeps tree indexes others moved held = record {
   within = All-permutation (λ index. index < length tree) indexes others moved held.within;
-  same = marks_agree (λ row. is_indexed tree others row.path) (λ row. is_indexed tree indexes row.path) (λ row. sym (list_any-IsPermutation (λ index. bytes_eq (indexed_path tree index) row.path) indexes others moved)) tree ∙ held.same;
+  same =
+      marks_agree (λ row. is_indexed tree others row.path) (λ row. is_indexed tree indexes row.path)
+      (λ row. sym (list_any-IsPermutation (λ index. bytes_eq (indexed_path tree index) row.path) indexes others moved)) tree ∙ held.same;
 }
 
 pub indexes_as : (f g : List ℕ → Bool) (tree : List File) (indexes : List ℕ) → map (λ row. f row.path) tree ≡ map (λ row. g row.path) tree → AreIndexesOf f tree indexes → AreIndexesOf g tree indexes
@@ -149,7 +164,8 @@ kept_all keeps (row ∷ rows) all =
     rw first (ap (λ (files : List File). row ∷ files) (kept_all keeps rows (λ k below. all (suc k) (omega arith))))
 
 -- index by index
-indexed_more : (tree : List File) (indexes : List ℕ) (i d : ℕ) (path : List ℕ) → i < length indexes → is_indexed tree (take (i + 1) indexes) path ≡ (is_indexed tree (take i indexes) path || bytes_eq (indexed_path tree (get_or indexes i d)) path)
+indexed_more : (tree : List File) (indexes : List ℕ) (i d : ℕ) (path : List ℕ) → i < length indexes
+    → is_indexed tree (take (i + 1) indexes) path ≡ (is_indexed tree (take i indexes) path || bytes_eq (indexed_path tree (get_or indexes i d)) path)
 indexed_more tree indexes i d path within = list_any_more (λ index. bytes_eq (indexed_path tree index) path) indexes i d within
 
 or_left : (b c : Bool) → b ≡ true → (b || c) ≡ true
@@ -162,8 +178,10 @@ indexed_kept tree indexes i path within held =
 
 indexed_here : (tree : List File) (indexes : List ℕ) (i d k : ℕ) → i < length indexes → get_or indexes i d ≡ k → is_indexed tree (take (i + 1) indexes) (indexed_path tree k) ≡ true
 indexed_here tree indexes i d k within here =
-    let same : bytes_eq (indexed_path tree (get_or indexes i d)) (indexed_path tree k) ≡ true = bytes_same (indexed_path tree (get_or indexes i d)) (indexed_path tree k) (ap (indexed_path tree) here) in
-    indexed_more tree indexes i d (indexed_path tree k) within ∙ or_true (is_indexed tree (take i indexes) (indexed_path tree k)) (bytes_eq (indexed_path tree (get_or indexes i d)) (indexed_path tree k)) same
+    let same : bytes_eq (indexed_path tree (get_or indexes i d)) (indexed_path tree k) ≡ true =
+    bytes_same (indexed_path tree (get_or indexes i d)) (indexed_path tree k) (ap (indexed_path tree) here) in
+    indexed_more tree indexes i d (indexed_path tree k) within ∙ or_true (is_indexed tree (take i indexes) (indexed_path tree k))
+    (bytes_eq (indexed_path tree (get_or indexes i d)) (indexed_path tree k)) same
 
 -- the first n indexes of the tree are among these
 pub record HasFirst (n : ℕ) (tree : List File) (indexes : List ℕ) : Type 0 where
@@ -195,7 +213,8 @@ path_below path row (first ∷ rows) (suc k) at all = path_below path row rows k
 none_below : (keeps : List ℕ → Bool) (path : List ℕ) (rows : List File) → IsBelowAll path_of path rows → files_where keeps rows ≡ files_where (or_at keeps path) rows
 none_below keeps path [] all = refl
 none_below keeps path (row ∷ rows) all =
-    if_same (keeps row.path) (or_at keeps path row.path) row (files_where keeps rows) (files_where (or_at keeps path) rows) (or_false (keeps row.path) (bytes_eq path row.path) (below_differs path row.path all.0)) (none_below keeps path rows all.1)
+    if_same (keeps row.path) (or_at keeps path row.path) row (files_where keeps rows) (files_where (or_at keeps path) rows)
+    (or_false (keeps row.path) (bytes_eq path row.path) (below_differs path row.path all.0)) (none_below keeps path rows all.1)
 
 put_first : (keeps : List ℕ → Bool) (row : File) (rows : List File) → IsBelowAll path_of row.path rows → put_row row (files_where keeps (row ∷ rows)) ≡ row ∷ files_where keeps rows
 put_first keeps row rows above =
@@ -210,7 +229,8 @@ first_put keeps row rows above =
     rw here (put_first keeps row rows above ∙ ap (λ (files : List File). row ∷ files) (none_below keeps row.path rows above))
 
 -- a file of the tree that is put among those that pass a test
-put_file_of : (keeps : List ℕ → Bool) (row : File) (tree : List File) (k : ℕ) → IsRising tree → slice_get tree k ≡ Some row → put_row row (files_where keeps tree) ≡ files_where (or_at keeps row.path) tree
+put_file_of : (keeps : List ℕ → Bool) (row : File) (tree : List File) (k : ℕ) → IsRising tree → slice_get tree k ≡ Some row
+    → put_row row (files_where keeps tree) ≡ files_where (or_at keeps row.path) tree
 put_file_of keeps row [] k rising at = cc
 put_file_of keeps row (first ∷ rows) zero rising at =
     subst (λ (r : File). put_row r (files_where keeps (first ∷ rows)) ≡ files_where (or_at keeps r.path) (first ∷ rows)) (same_file first row at) (first_put keeps first rows rising.0)
@@ -218,16 +238,23 @@ put_file_of keeps row (first ∷ rows) (suc k) rising at =
     let below = path_below first.path row rows k at rising.0 in
     let above = greater_from_below first.path row.path below in
     let rest = put_file_of keeps row rows k rising.1 at in
-    subst (λ (b : Bool). put_row row (files_where keeps (first ∷ rows)) ≡ (if b then first ∷ files_where (or_at keeps row.path) rows else files_where (or_at keeps row.path) rows)) (or_false (keeps first.path) (bytes_eq row.path first.path) (above_differs row.path first.path below)) (elim (keeps first.path) as (λ b. put_row row (if b then first ∷ files_where keeps rows else files_where keeps rows) ≡ (if b then first ∷ files_where (or_at keeps row.path) rows else files_where (or_at keeps row.path) rows)) [
+    subst (λ (b : Bool). put_row row (files_where keeps (first ∷ rows)) ≡ (if b then first ∷ files_where (or_at keeps row.path) rows else files_where (or_at keeps row.path) rows))
+    (or_false (keeps first.path) (bytes_eq row.path first.path) (above_differs row.path first.path below))
+    (elim (keeps first.path) as (λ b. put_row row (if b then first ∷ files_where keeps rows else files_where keeps rows)
+    ≡ (if b then first ∷ files_where (or_at keeps row.path) rows else files_where (or_at keeps row.path) rows)) [
       | true ↦ rw above (ap (λ (files : List File). first ∷ files) rest)
       | false ↦ rest
     ])
 
-pub put_more : (tree : List File) (indexes : List ℕ) (i d : ℕ) (row : File) → IsRising tree → i < length indexes → slice_get tree (get_or indexes i d) ≡ Some row → put_row row (files_where (is_indexed tree (take i indexes)) tree) ≡ files_where (is_indexed tree (take (i + 1) indexes)) tree
+pub put_more : (tree : List File) (indexes : List ℕ) (i d : ℕ) (row : File) → IsRising tree → i < length indexes → slice_get tree (get_or indexes i d) ≡ Some row
+    → put_row row (files_where (is_indexed tree (take i indexes)) tree) ≡ files_where (is_indexed tree (take (i + 1) indexes)) tree
 put_more tree indexes i d row rising within at =
     let k = get_or indexes i d in
     let path : indexed_path tree k ≡ row.path = text_at (map path_of tree) k row.path (path_at tree k row at) in
-    put_file_of (is_indexed tree (take i indexes)) row tree k rising at ∙ same_files (or_at (is_indexed tree (take i indexes)) row.path) (is_indexed tree (take (i + 1) indexes)) tree (marks_agree (λ r. is_indexed tree (take i indexes) r.path || bytes_eq row.path r.path) (λ r. is_indexed tree (take (i + 1) indexes) r.path) (λ r. ap (λ (p : List ℕ). is_indexed tree (take i indexes) r.path || bytes_eq p r.path) (sym path) ∙ sym (indexed_more tree indexes i d r.path within)) tree)
+    put_file_of (is_indexed tree (take i indexes)) row tree k rising at
+    ∙ same_files (or_at (is_indexed tree (take i indexes)) row.path) (is_indexed tree (take (i + 1) indexes)) tree
+    (marks_agree (λ r. is_indexed tree (take i indexes) r.path || bytes_eq row.path r.path) (λ r. is_indexed tree (take (i + 1) indexes) r.path)
+    (λ r. ap (λ (p : List ℕ). is_indexed tree (take i indexes) r.path || bytes_eq p r.path) (sym path) ∙ sym (indexed_more tree indexes i d r.path within)) tree)
 
 none_kept : (rows : List File) → [] ≡ filter (λ row. false) rows
 none_kept [] = refl

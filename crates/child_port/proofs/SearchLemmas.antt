@@ -23,7 +23,8 @@ below_at path [] k row at all = cc
 below_at path (first ∷ rows) zero row at all = subst (λ (r : File). IsBelow path r.path) (same_item first row at) all.0
 below_at path (first ∷ rows) (suc k) row at all = below_at path rows k row at all.1
 
-earlier_below : (path : List ℕ) (rows : List File) (i j : ℕ) (early late : File) → i ≤ j → slice_get rows i ≡ Some early → slice_get rows j ≡ Some late → IsRising rows → IsBelow late.path path → IsBelow early.path path
+earlier_below : (path : List ℕ) (rows : List File) (i j : ℕ) (early late : File) → i ≤ j → slice_get rows i ≡ Some early → slice_get rows j ≡ Some late → IsRising rows → IsBelow late.path path
+    → IsBelow early.path path
 earlier_below path [] i j early late order at later rising below = cc
 earlier_below path (first ∷ rows) zero zero early late order at later rising below =
     subst (λ (r : File). IsBelow r.path path) (sym (same_item first late later) ∙ same_item first early at) below
@@ -33,7 +34,8 @@ earlier_below path (first ∷ rows) (suc i) zero early late order at later risin
 earlier_below path (first ∷ rows) (suc i) (suc j) early late order at later rising below =
     earlier_below path rows i j early late (omega arith) at later rising.1 below
 
-later_above : (path : List ℕ) (rows : List File) (i j : ℕ) (early late : File) → i ≤ j → slice_get rows i ≡ Some early → slice_get rows j ≡ Some late → IsRising rows → IsBelow path early.path → IsBelow path late.path
+later_above : (path : List ℕ) (rows : List File) (i j : ℕ) (early late : File) → i ≤ j → slice_get rows i ≡ Some early → slice_get rows j ≡ Some late → IsRising rows → IsBelow path early.path
+    → IsBelow path late.path
 later_above path [] i j early late order at later rising below = cc
 later_above path (first ∷ rows) zero zero early late order at later rising below =
     subst (λ (r : File). IsBelow path r.path) (sym (same_item first early at) ∙ same_item first late later) below

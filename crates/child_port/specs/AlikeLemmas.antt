@@ -23,8 +23,13 @@ same_answer s t x y a b status output changes = cc
 
 pub answer_decides : (a b : Answer) → Decides (answer_eq.ghosts.eq a b) (a ≡ b)
 answer_decides a b =
-    same_decides _ (and_decides _ _ (Decides-eqb a.status b.status) (and_decides _ _ (bytes_decides a.output b.output) (pointwise_decides change_decides a.changes b.changes)))
-    (λ h. same_answer _ _ _ _ _ _ h.0 h.1.0 h.1.1) (λ h. (ap (λ (answer : Answer). answer.status) h, (ap (λ (answer : Answer). answer.output) h, ap (λ (answer : Answer). answer.changes) h)))
+    same_decides _ (and_decides _ _ (Decides-eqb a.status b.status)
+    (and_decides _ _ (bytes_decides a.output b.output) (pointwise_decides change_decides a.changes b.changes)))
+    (λ h. same_answer _ _ _ _ _ _ h.0 h.1.0 h.1.1)
+    (λ h. (
+      ap (λ (answer : Answer). answer.status) h,
+      (ap (λ (answer : Answer). answer.output) h, ap (λ (answer : Answer). answer.changes) h),
+    ))
 
 fault_decides : (a b : Fault) → Decides (fault_eq.ghosts.eq a b) (a ≡ b)
 fault_decides NotStarted NotStarted = (λ h. refl, λ h. refl)

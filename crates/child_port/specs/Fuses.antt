@@ -6,5 +6,6 @@ use Rattle.child_port.specs.declared.fault.Fault.{Fault}
 use Rattle.hook_base.specs.declared.file.File.{File}
 
 -- what these children report, or the fault
-abbrev pub FuseTells : (List (List ℕ) → List File → Outcome → Type 0) → Fault → List (List ℕ) → List File → Outcome → Type 0
+abbrev pub FuseTells : (List (List ℕ) → List File → Outcome → Type 0) → Fault → List (List ℕ) → List File → Outcome
+    → Type 0
 FuseTells tells fault words seen outcome = tells words seen outcome ⊎ (outcome ≡ Failed fault)

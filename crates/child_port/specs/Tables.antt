@@ -13,4 +13,5 @@ IsRowFor words seen row = (row.words ≡ words) × (row.seen ≡ seen)
 abbrev pub TableTells : List TableRow → List (List ℕ) → List File → Outcome → Type 0
 TableTells [] words seen outcome = outcome ≡ Failed NotStarted
 TableTells (row ∷ rows) words seen outcome =
-    (IsRowFor words seen row × (outcome ≡ Done row.answer)) ⊎ (¬ IsRowFor words seen row × TableTells rows words seen outcome)
+    (IsRowFor words seen row × (outcome ≡ Done row.answer))
+    ⊎ (¬ IsRowFor words seen row × TableTells rows words seen outcome)

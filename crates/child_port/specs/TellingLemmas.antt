@@ -7,7 +7,8 @@ use Rattle.hook_base.specs.declared.file.File.{File}
 pub SameTells-refl : (tells : List (List ℕ) → List File → Outcome → Type 0) → SameTells tells tells
 SameTells-refl tells = record { kept = λ _ _ _ told. told; added = λ _ _ _ told. told }
 
-pub SameTells-trans : (a b c : List (List ℕ) → List File → Outcome → Type 0) → SameTells a b → SameTells b c → SameTells a c
+pub SameTells-trans : (a b c : List (List ℕ) → List File → Outcome → Type 0) → SameTells a b → SameTells b c
+    → SameTells a c
 SameTells-trans a b c first second = record {
   kept = λ words seen outcome told. second.kept words seen outcome (first.kept words seen outcome told);
   added = λ words seen outcome told. first.added words seen outcome (second.added words seen outcome told);

@@ -9,7 +9,8 @@ use std::cmp::Ordering;
 /// The index of the file at a path, or `None` if there is none. The file at the index `near` is tried first,
 /// so looking up one path after another needs no search.
 pub(crate) fn path_index(tree: &Tree, path: &str, near: usize) -> Option<usize>
-    ensures place { MatchOption result (entry_of path.now tree.now ≡ None) (λ index. (index < length tree.now) × (slice_get (map path_of tree.now) index ≡ Some path.now)) }
+    ensures place { MatchOption result (entry_of path.now tree.now ≡ None)
+        (λ index. (index < length tree.now) × (slice_get (map path_of tree.now) index ≡ Some path.now)) }
     ensures rising { IsRising tree.now }
 {
     if near < tree.len() && tree.entry(near).path.as_str() == path {
@@ -20,7 +21,8 @@ pub(crate) fn path_index(tree: &Tree, path: &str, near: usize) -> Option<usize>
 
 // The same by binary search, since the paths rise.
 fn halves_index(tree: &Tree, path: &str) -> Option<usize>
-    ensures place { MatchOption result (entry_of path.now tree.now ≡ None) (λ index. (index < length tree.now) × (slice_get (map path_of tree.now) index ≡ Some path.now)) }
+    ensures place { MatchOption result (entry_of path.now tree.now ≡ None)
+        (λ index. (index < length tree.now) × (slice_get (map path_of tree.now) index ≡ Some path.now)) }
     ensures rising { IsRising tree.now }
 {
     let mut low = 0;

@@ -50,7 +50,8 @@ fn push_index(
     path: &str,
     near: usize,
 ) -> Result<usize, OutOfMemory>
-    ensures { OnOk result ((keeps : List ℕ → Bool) → AreIndexesOf keeps tree.now indexes.old.items → AreIndexesOf (λ other. keeps other || bytes_eq path.now other) tree.now indexes.new.items) }
+    ensures { OnOk result ((keeps : List ℕ → Bool) → AreIndexesOf keeps tree.now indexes.old.items
+        → AreIndexesOf (λ other. keeps other || bytes_eq path.now other) tree.now indexes.new.items) }
 {
     let Some(index) = path_index(tree, path, near) else {
         return Ok(near);

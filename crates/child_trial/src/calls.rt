@@ -6,7 +6,7 @@ use child_port::{Children, Outcome};
 use hook_base::{Bytes, Content, FileEntry, Mode, OutOfMemory, RepoPath, Text, Tree};
 use hook_config::{Config, read_config};
 use hook_run::run_hooks;
-use process_children::{ProcessChildren, Trouble};
+use process_children::{Obstacle, ProcessChildren};
 use result_book::{Book, ListBook};
 use std::alloc::Global;
 use store_faults::FIRST_LIMIT;
@@ -131,7 +131,7 @@ impl Play {
     }
 
     // What hindered a child, as its place and the error there. Empty if nothing did.
-    fn told(&self, trouble: Option<&Trouble>) -> Result<Vec<u8>, Stop> {
+    fn told(&self, trouble: Option<&Obstacle>) -> Result<Vec<u8>, Stop> {
         let Some(trouble) = trouble else {
             return Ok(Vec::new(self.alloc));
         };

@@ -15,7 +15,7 @@ use Rattle.clap.specs.declared.error.Error.{Error}
 use Rattle.clap.specs.declared.parser.matches.ArgMatches.{ArgMatches}
 use Rattle.clap.specs.declared.parser.matches.ArgMatches.TheViews.{out-SubCommand}
 use Rattle.clap.specs.declared.parser.matches.SubCommand.{SubCommand}
-use Rattle.clap.proofs.OnLiterals.{clap_on_literals}
+use Rattle.command_line.proofs.Kit.{clap_on_literals}
 use Rattle.command_line.specs.CommandLine.{hookhost_app}
 
 some-is : {X : Type 0} (a b : X) → Some a ≡ Some b → a ≡ b

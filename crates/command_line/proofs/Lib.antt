@@ -1,3 +1,4 @@
 pub mod CommandLemmas
+pub mod Kit
 pub mod MessageLemmas
 pub mod ValueLemmas

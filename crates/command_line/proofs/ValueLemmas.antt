@@ -10,7 +10,7 @@ use Rattle.clap.specs.ValueTests.{is_unsigned_in}
 use Rattle.clap.specs.declared.builder.value_parser.ValueParser.TheVariants.{Unsigned}
 use Rattle.clap.specs.declared.error.Error.{Error}
 use Rattle.clap.specs.declared.error.kind.ErrorKind.TheVariants.{InvalidValue}
-use Rattle.clap.proofs.ValueTestLemmas.{Accepts-accepts, accepts-Accepts}
+use Rattle.command_line.proofs.Kit.{Accepts-accepts, accepts-Accepts}
 use Rattle.hook_base.specs.declared.file.Mode.TheVariants.{Executable}
 use Rattle.command_line.specs.declared.line.ColorChoice.{ColorChoice}
 use Rattle.command_line.specs.declared.line.ColorChoice.TheVariants.{Auto}
@@ -18,7 +18,7 @@ use Rattle.command_line.specs.declared.line.FileVersion.{FileVersion}
 use Rattle.command_line.specs.declared.line.FileVersion.TheVariants.{Staged, Fixed, Committed}
 use Rattle.command_line.specs.declared.line.StageChoice.TheVariants.{PreCommit, Manual}
 use Rattle.command_line.specs.AnswerLimit.{IsAnswerLimit, most_limit}
-use Rattle.command_line.specs.CommandLine.{IsValueOf, color_in, limit_in, limit_number, mode_in, number_in, stage_in, value_fault, version_in}
+use Rattle.command_line.specs.CommandLine.{IsValueOf, color_in, limit_in, limit_number, mode_in, number_in, asked_stage_in, value_fault, version_in}
 
 pub text_or : (found : Option (Bor (List ℕ))) (empty : Bor (List ℕ)) (text : List ℕ) (rows : Option (List ℕ))
     → empty.now ≡ [] → option_map (λ s. s.now) found ≡ rows → text ≡ (unwrap_or found empty).now → text ≡ unwrap_or rows []
@@ -155,28 +155,29 @@ module _ (flag fixed : Bool) (found given : Option Text) (held : Option (Bor Tex
   pub versions-refused : (value : Bor Text) (error : Error) → fixed ≡ true → held ≡ Some value → HasKind (InvalidValue ∷ []) error → HasKind (value_fault (version_in flag given)) error
   versions-refused value error asked_so is kind = subst (λ (v : Option FileVersion). HasKind (value_fault v) error) (sym (asked-is true (Some value) asked_so is)) kind
 
-  pub version-committed : (value : Bor Text) (result : Result FileVersion Error) → fixed ≡ false → held ≡ Some value → IsValueOf (version_in false (Some value.now)) result → IsValueOf (version_in flag given) result
+  pub version-committed : (value : Bor Text) (result : Result FileVersion Error) → fixed ≡ false → held ≡ Some value → IsValueOf (version_in false (Some value.now)) result
+      → IsValueOf (version_in flag given) result
   version-committed value result unasked is of = subst (λ (v : Option FileVersion). IsValueOf v result) (sym (asked-is false (Some value) unasked is)) of
 
 -- ---- the stage
 
 pub stage-none : (found given : Option Text) (held : Option (Bor Text)) → option_map (λ s. s.now) held ≡ found → found ≡ given → held ≡ None
-    → stage_in given ≡ Some PreCommit
-stage-none found given held known same is = ap stage_in (given-is found given held None known same is)
+    → asked_stage_in given ≡ Some PreCommit
+stage-none found given held known same is = ap asked_stage_in (given-is found given held None known same is)
 
 pub stage-pre-commit : (found given : Option Text) (held : Option (Bor Text)) (value : Bor Text) → option_map (λ s. s.now) held ≡ found → found ≡ given
-    → held ≡ Some value → value.now ≡ codes "pre-commit" → stage_in given ≡ Some PreCommit
+    → held ≡ Some value → value.now ≡ codes "pre-commit" → asked_stage_in given ≡ Some PreCommit
 stage-pre-commit found given held value known same is text =
-    ap stage_in (given-is found given held (Some value) known same is ∙ ap (λ (t : Text). Some t) text)
+    ap asked_stage_in (given-is found given held (Some value) known same is ∙ ap (λ (t : Text). Some t) text)
 
 pub stage-manual : (found given : Option Text) (held : Option (Bor Text)) (value : Bor Text) → option_map (λ s. s.now) held ≡ found → found ≡ given
-    → held ≡ Some value → value.now ≡ codes "manual" → stage_in given ≡ Some Manual
+    → held ≡ Some value → value.now ≡ codes "manual" → asked_stage_in given ≡ Some Manual
 stage-manual found given held value known same is text =
-    ap stage_in (given-is found given held (Some value) known same is ∙ ap (λ (t : Text). Some t) text)
+    ap asked_stage_in (given-is found given held (Some value) known same is ∙ ap (λ (t : Text). Some t) text)
 
 pub stage-refused : (found given : Option Text) (held : Option (Bor Text)) (value : Bor Text) (error : Error) → option_map (λ s. s.now) held ≡ found
     → found ≡ given → held ≡ Some value → value.now ≢ codes "pre-commit" → value.now ≢ codes "manual" → HasKind (InvalidValue ∷ []) error
-    → HasKind (value_fault (stage_in given)) error
+    → HasKind (value_fault (asked_stage_in given)) error
 stage-refused found given held value error known same is other another kind =
     let differs : bytes_eq value.now (codes "pre-commit") ≡ false = false_from_ne_true _ (λ e. other ((bytes_eq-Decides value.now (codes "pre-commit")).0 e)) in
     let differs_too : bytes_eq value.now (codes "manual") ≡ false = false_from_ne_true _ (λ e. another ((bytes_eq-Decides value.now (codes "manual")).0 e)) in

@@ -21,13 +21,13 @@ use Rattle.command_line.specs.declared.line.FileChoice.{FileChoice}
 use Rattle.command_line.specs.declared.line.FileChoice.TheVariants.{Changed, All, Named, Listed as ListedFiles}
 use Rattle.command_line.specs.declared.line.FileVersion.{FileVersion}
 use Rattle.command_line.specs.declared.line.FileVersion.TheVariants.{Staged, Fixed, Committed}
-use Rattle.command_line.specs.declared.line.Line.{Line}
+use Rattle.command_line.specs.declared.line.CommandLine.{CommandLine}
 use Rattle.command_line.specs.declared.line.PathSource.{PathSource}
 use Rattle.command_line.specs.declared.line.PathSource.TheVariants.{Words, Listed}
 use Rattle.command_line.specs.declared.line.RunChoice.{RunChoice}
 use Rattle.command_line.specs.declared.line.StageChoice.{StageChoice}
 use Rattle.command_line.specs.declared.line.StageChoice.TheVariants.{PreCommit, Manual}
-use Rattle.command_line.specs.declared.line.Line.TheVariants as line
+use Rattle.command_line.specs.declared.line.CommandLine.TheVariants as line
 use Rattle.command_line.specs.declared.line.LookUp.TheVariants.{Status, Fixes, Cat, Log, Show, Memory}
 use Rattle.command_line.specs.declared.line.Standalone.TheVariants.{Init, Try, Check, Explain}
 use Rattle.command_line.specs.declared.line.Update.TheVariants.{Add, Remove, Run, Accept, Commit, Forget, Limit}
@@ -91,7 +91,9 @@ init_app = new_app (codes "init")
 
 -- `try [--color=WHEN] CONFIG PATH..`
 abbrev pub try_app : App
-try_app = with_rule (with_rule (with_rule (new_app (codes "try")) color_rule) (word_rule (codes "CONFIG"))) (words_rule (codes "PATH"))
+try_app =
+    with_rule (with_rule (with_rule (new_app (codes "try")) color_rule) (word_rule (codes "CONFIG")))
+    (words_rule (codes "PATH"))
 
 abbrev pub check_app : App
 check_app = new_app (codes "check")
@@ -102,7 +104,9 @@ explain_app = with_rule (new_app (codes "explain")) (new_rule (codes "FILE"))
 
 -- `add [--chmod=MODE] [--paths-from=FILE] [PATH..]`
 abbrev pub add_app : App
-add_app = with_rule (with_rule (with_rule (new_app (codes "add")) chmod_rule) paths_from_rule) (optional_words_rule (codes "PATH"))
+add_app =
+    with_rule (with_rule (with_rule (new_app (codes "add")) chmod_rule) paths_from_rule)
+    (optional_words_rule (codes "PATH"))
 
 -- `rm [--paths-from=FILE] [PATH..]`
 abbrev pub remove_app : App
@@ -113,12 +117,14 @@ status_app = new_app (codes "status")
 
 -- after the options of a run `[--cautious] [--verbose] [--color=WHEN]`
 abbrev pub with_choice : App → App
-with_choice app = with_rule (with_rule (with_rule app (flag_rule (codes "cautious"))) (flag_rule (codes "verbose"))) color_rule
+with_choice app =
+    with_rule (with_rule (with_rule app (flag_rule (codes "cautious"))) (flag_rule (codes "verbose"))) color_rule
 
 -- `run [--all-files] [--hook-stage=STAGE] [--fresh] [--cautious] [--verbose] [--color=WHEN]`
 abbrev pub run_with_options_app : App
 run_with_options_app =
-    with_choice (with_rule (with_rule (with_rule (new_app (codes "run")) (flag_rule (codes "all-files"))) stage_rule) (flag_rule (codes "fresh")))
+    with_choice (with_rule (with_rule (with_rule (new_app (codes "run")) (flag_rule (codes "all-files"))) stage_rule)
+    (flag_rule (codes "fresh")))
 
 -- after them `[ID]`
 abbrev pub run_app : App
@@ -127,7 +133,8 @@ run_app = with_rule run_with_options_app (new_rule (codes "ID"))
 -- `run-files [--only=ID] [--hook-stage=STAGE] [--fresh] [--cautious] [--verbose] [--color=WHEN]`
 abbrev pub run_files_with_options_app : App
 run_files_with_options_app =
-    with_choice (with_rule (with_rule (with_rule (new_app (codes "run-files")) only_rule) stage_rule) (flag_rule (codes "fresh")))
+    with_choice (with_rule (with_rule (with_rule (new_app (codes "run-files")) only_rule) stage_rule)
+    (flag_rule (codes "fresh")))
 
 -- after them `[--paths-from=FILE] [PATH..]`
 abbrev pub run_files_app : App
@@ -141,11 +148,14 @@ accept_app = new_app (codes "accept")
 
 -- `commit [--no-verify] [--color=WHEN] -m TEXT`
 abbrev pub commit_app : App
-commit_app = with_rule (with_rule (with_rule (new_app (codes "commit")) (flag_rule (codes "no-verify"))) color_rule) message_rule
+commit_app =
+    with_rule (with_rule (with_rule (new_app (codes "commit")) (flag_rule (codes "no-verify"))) color_rule) message_rule
 
 -- `cat [--fixed] [--commit=N] PATH`
 abbrev pub cat_app : App
-cat_app = with_rule (with_rule (with_rule (new_app (codes "cat")) (flag_rule (codes "fixed"))) commit_rule) (word_rule (codes "PATH"))
+cat_app =
+    with_rule (with_rule (with_rule (new_app (codes "cat")) (flag_rule (codes "fixed"))) commit_rule)
+    (word_rule (codes "PATH"))
 
 abbrev pub log_app : App
 log_app = new_app (codes "log")
@@ -175,7 +185,8 @@ hookhost_base = on_top (λ s. record s {
 
 abbrev pub all_commands : List App
 all_commands =
-    init_app ∷ try_app ∷ check_app ∷ explain_app ∷ add_app ∷ remove_app ∷ status_app ∷ cat_app ∷ run_app ∷ run_files_app ∷ fixes_app ∷ accept_app
+    init_app ∷ try_app ∷ check_app ∷ explain_app ∷ add_app ∷ remove_app ∷ status_app ∷ cat_app ∷ run_app ∷ run_files_app
+    ∷ fixes_app ∷ accept_app
     ∷ commit_app ∷ log_app ∷ show_app ∷ memory_app ∷ forget_app ∷ []
 
 abbrev pub hookhost_app : App
@@ -206,17 +217,19 @@ mode_in None = Some None
 mode_in (Some text) = if bytes_eq text (codes "+x") then Some (Some Executable) else None
 
 -- the stage that `--hook-stage` asks for, `pre-commit` if it is left out
-abbrev pub stage_in : Option Text → Option StageChoice
-stage_in None = Some PreCommit
-stage_in (Some text) =
-    if bytes_eq text (codes "pre-commit") then Some PreCommit else (if bytes_eq text (codes "manual") then Some Manual else None)
+abbrev pub asked_stage_in : Option Text → Option StageChoice
+asked_stage_in None = Some PreCommit
+asked_stage_in (Some text) =
+    if bytes_eq text (codes "pre-commit") then Some PreCommit else
+    (if bytes_eq text (codes "manual") then Some Manual else None)
 
 -- when a report has colors, as `--color` asks for it, `auto` if it is left out
 abbrev pub color_in : Option Text → Option ColorChoice
 color_in None = Some Auto
 color_in (Some text) =
     if bytes_eq text (codes "auto") then Some Auto
-    else (if bytes_eq text (codes "always") then Some Always else (if bytes_eq text (codes "never") then Some Never else None))
+    else (if bytes_eq text (codes "always") then Some Always else
+    (if bytes_eq text (codes "never") then Some Never else None))
 
 -- the staged files that the hooks of `run` may get
 abbrev pub files_in : List Row → FileChoice
@@ -257,72 +270,82 @@ paths_in rows = source_in (words_in (codes "PATH") rows) (first_of (codes "paths
 
 -- ---- what a line of words asks for
 
-abbrev pub try_line : List Row → Option Line
+abbrev pub try_line : List Row → Option CommandLine
 try_line rows =
-    option_map (λ (color : ColorChoice). line.Standalone (Try (word_in (codes "CONFIG") rows) (words_in (codes "PATH") rows) color))
+    option_map (λ (color : ColorChoice). line.Standalone
+    (Try (word_in (codes "CONFIG") rows) (words_in (codes "PATH") rows) color))
     (color_in (first_of (codes "color") rows))
 
-abbrev pub explain_line : List Row → Line
+abbrev pub explain_line : List Row → CommandLine
 explain_line rows = line.Standalone (Explain (first_of (codes "FILE") rows))
 
-abbrev pub add_line : List Row → Option Line
+abbrev pub add_line : List Row → Option CommandLine
 add_line rows =
-    option_and_then (λ (paths : PathSource). option_map (λ (mode : Option Mode). line.Update (Add paths mode)) (mode_in (first_of (codes "chmod") rows)))
+    option_and_then (λ (paths : PathSource). option_map (λ (mode : Option Mode). line.Update (Add paths mode))
+    (mode_in (first_of (codes "chmod") rows)))
     (paths_in rows)
 
-abbrev pub remove_line : List Row → Option Line
+abbrev pub remove_line : List Row → Option CommandLine
 remove_line rows = option_map (λ (paths : PathSource). line.Update (Remove paths)) (paths_in rows)
 
 -- what `--cautious`, `--verbose` and `--color` ask of a run
 abbrev pub choice_in : List Row → Option RunChoice
 choice_in rows =
     option_map
-    (λ (color : ColorChoice). record { cautious = flag_in (codes "cautious") rows; verbose = flag_in (codes "verbose") rows; color = color })
+    (λ (color : ColorChoice). record {
+      cautious = flag_in (codes "cautious") rows;
+      verbose = flag_in (codes "verbose")
+          rows;
+      color = color;
+    })
     (color_in (first_of (codes "color") rows))
 
-abbrev pub run_line : List Row → Option Line
+abbrev pub run_line : List Row → Option CommandLine
 run_line rows =
     option_and_then
     (λ (stage : StageChoice). option_map
-    (λ (choice : RunChoice). line.Update (Run (files_in rows) (first_of (codes "ID") rows) stage (flag_in (codes "fresh") rows) choice))
-    (choice_in rows)) (stage_in (first_of (codes "hook-stage") rows))
+    (λ (choice : RunChoice). line.Update (Run (files_in rows) (first_of (codes "ID") rows) stage
+    (flag_in (codes "fresh") rows) choice))
+    (choice_in rows)) (asked_stage_in (first_of (codes "hook-stage") rows))
 
 -- the files that are named, in words or in a file
 abbrev pub named_in : PathSource → FileChoice
 named_in (Words paths) = Named paths
 named_in (Listed from) = ListedFiles from
 
-abbrev pub run_files_line : List Row → Option Line
+abbrev pub run_files_line : List Row → Option CommandLine
 run_files_line rows =
     option_and_then
     (λ (paths : PathSource). option_and_then
     (λ (stage : StageChoice). option_map
-    (λ (choice : RunChoice). line.Update (Run (named_in paths) (first_of (codes "only") rows) stage (flag_in (codes "fresh") rows) choice))
-    (choice_in rows)) (stage_in (first_of (codes "hook-stage") rows))) (paths_in rows)
+    (λ (choice : RunChoice). line.Update (Run (named_in paths) (first_of (codes "only") rows) stage
+    (flag_in (codes "fresh") rows) choice))
+    (choice_in rows)) (asked_stage_in (first_of (codes "hook-stage") rows))) (paths_in rows)
 
-abbrev pub commit_line : List Row → Option Line
+abbrev pub commit_line : List Row → Option CommandLine
 commit_line rows =
-    option_map (λ (color : ColorChoice). line.Update (Commit (word_in (codes "message") rows) (flag_in (codes "no-verify") rows) color))
+    option_map (λ (color : ColorChoice). line.Update
+    (Commit (word_in (codes "message") rows) (flag_in (codes "no-verify") rows) color))
     (color_in (first_of (codes "color") rows))
 
-abbrev pub cat_line : List Row → Option Line
+abbrev pub cat_line : List Row → Option CommandLine
 cat_line rows =
     option_map (λ (version : FileVersion). line.LookUp (Cat (word_in (codes "PATH") rows) version))
     (version_in (flag_in (codes "fixed") rows) (first_of (codes "commit") rows))
 
-abbrev pub show_line : List Row → Option Line
+abbrev pub show_line : List Row → Option CommandLine
 show_line rows = option_map (λ (number : ℕ). line.LookUp (Show number)) (number_in (word_in (codes "N") rows))
 
 -- `memory` without a limit is a look-up, and with one a change
-abbrev pub memory_by : Option ℕ → Line
+abbrev pub memory_by : Option ℕ → CommandLine
 memory_by None = line.LookUp Memory
 memory_by (Some limit) = line.Update (Limit limit)
 
-abbrev pub memory_line : List Row → Option Line
+abbrev pub memory_line : List Row → Option CommandLine
 memory_line rows = option_map memory_by (limit_in (first_of (codes "limit") rows))
 
 -- what a command asks for with its values, unless one of them can't be taken
-abbrev pub line_by : Text → List Row → Option Line
+abbrev pub line_by : Text → List Row → Option CommandLine
 line_by name rows =
     if bytes_eq name (codes "init") then Some (line.Standalone Init)
     else (if bytes_eq name (codes "try") then try_line rows
@@ -343,11 +366,11 @@ line_by name rows =
     else (if bytes_eq name (codes "forget") then Some (line.Update Forget) else None))))))))))))))))
 
 -- what the words that `clap` gets ask for: a command with its values, as it finds them
-abbrev pub line_in : List Text → Option Line
+abbrev pub line_in : List Text → Option CommandLine
 line_in words = option_and_then (λ p. line_by p.0 p.1) (subcommand_of hookhost_app words)
 
 -- what the words of a line ask for
-abbrev pub line_asked : List Text → Option Line
+abbrev pub line_asked : List Text → Option CommandLine
 line_asked words = line_in (words_for_clap words)
 
 -- ---- what is refused

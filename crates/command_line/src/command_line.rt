@@ -14,7 +14,7 @@ use crate::values::{
     color_of, flag_of, limit_of, maybe_text_of, mode_of, number_of, stage_of, text_of, texts_of,
     version_of,
 };
-use crate::{FileChoice, Line, LookUp, PathSource, RunChoice, Standalone, Update};
+use crate::{CommandLine, FileChoice, LookUp, PathSource, RunChoice, Standalone, Update};
 use clap::{ArgMatches, Error};
 use std::alloc::{AllocError, Global};
 
@@ -30,7 +30,7 @@ use std::alloc::{AllocError, Global};
 /// - a number of `show` or `--commit` that isn't one of 32 bits, or a number of `--limit` that isn't from 1
 ///   to 100,000;
 /// - neither a path nor `--paths-from`, or both.
-pub fn line_of<'a>(alloc: Global, words: &'a [&'a str]) -> Result<Line, Error>
+pub fn line_of<'a>(alloc: Global, words: &'a [&'a str]) -> Result<CommandLine, Error>
     ensures line { IfOk result (λ line. line_asked (map (λ s. s.now) words.entry.now) ≡ Some line) }
     ensures fault { FailsBy (line_fault (map (λ s. s.now) words.entry.now)) result }
 {
@@ -45,7 +45,7 @@ pub fn line_of<'a>(alloc: Global, words: &'a [&'a str]) -> Result<Line, Error>
 }
 
 // What the words ask for, as `clap` gets them.
-fn line_in<'a>(alloc: Global, words: &'a [&'a str]) -> Result<Line, Error>
+fn line_in<'a>(alloc: Global, words: &'a [&'a str]) -> Result<CommandLine, Error>
     ensures line { IfOk result (λ line. line_in (map (λ s. s.now) words.entry.now) ≡ Some line) }
     ensures fault { FailsBy (line_fault_of (map (λ s. s.now) words.entry.now)) result }
 {
@@ -58,7 +58,8 @@ fn line_in<'a>(alloc: Global, words: &'a [&'a str]) -> Result<Line, Error>
 
 // What `clap` finds in the words. A command must be there.
 fn matches_of<'a>(alloc: Global, words: &'a [&'a str]) -> Result<ArgMatches<'a>, Error>
-    ensures rows { IfOk result (λ m. subcommand_rows_of m ≡ subcommand_of hookhost_app (map (λ s. s.now) words.entry.now)) }
+    ensures rows { IfOk result (λ m. subcommand_rows_of m
+        ≡ subcommand_of hookhost_app (map (λ s. s.now) words.entry.now)) }
     ensures met { IfOk result (λ m. is_some (subcommand_rows_of m) ≡ true) }
     ensures fault { FailsBy (fault_of hookhost_app (map (λ s. s.now) words.entry.now)) result }
 {
@@ -73,72 +74,72 @@ fn command_of<'m, 'a>(matches: &'m ArgMatches<'a>) -> Option<(&'a str, &'m ArgMa
 }
 
 // What a command asks for with its values.
-fn line_by(alloc: Global, name: &str, values: &ArgMatches<'_>) -> Result<Line, Error>
+fn line_by(alloc: Global, name: &str, values: &ArgMatches<'_>) -> Result<CommandLine, Error>
     requires { is_command name.now ≡ true }
     ensures { IsValueOf (line_by name.now (rows_of (found_of values.now))) result }
 {
     match name {
-        "init" => Ok(Line::Standalone(Standalone::Init)),
+        "init" => Ok(CommandLine::Standalone(Standalone::Init)),
         "try" => try_line(alloc, values),
-        "check" => Ok(Line::Standalone(Standalone::Check)),
+        "check" => Ok(CommandLine::Standalone(Standalone::Check)),
         "explain" => Ok(explain_line(alloc, values)?),
-        "status" => Ok(Line::LookUp(LookUp::Status)),
-        "fixes" => Ok(Line::LookUp(LookUp::Fixes)),
+        "status" => Ok(CommandLine::LookUp(LookUp::Status)),
+        "fixes" => Ok(CommandLine::LookUp(LookUp::Fixes)),
         "cat" => cat_line(alloc, values),
-        "log" => Ok(Line::LookUp(LookUp::Log)),
+        "log" => Ok(CommandLine::LookUp(LookUp::Log)),
         "show" => show_line(alloc, values),
         "memory" => memory_line(alloc, values),
         "add" => add_line(alloc, values),
         "rm" => remove_line(alloc, values),
         "run" => run_line(alloc, values),
         "run-files" => run_files_line(alloc, values),
-        "accept" => Ok(Line::Update(Update::Accept)),
+        "accept" => Ok(CommandLine::Update(Update::Accept)),
         "commit" => commit_line(alloc, values),
-        "forget" => Ok(Line::Update(Update::Forget)),
+        "forget" => Ok(CommandLine::Update(Update::Forget)),
         _ => unreachable!(),
     }
 }
 
-fn try_line(alloc: Global, values: &ArgMatches<'_>) -> Result<Line, Error>
+fn try_line(alloc: Global, values: &ArgMatches<'_>) -> Result<CommandLine, Error>
     ensures { IsValueOf (try_line (rows_of (found_of values.now))) result }
 {
-    Ok(Line::Standalone(Standalone::Try {
+    Ok(CommandLine::Standalone(Standalone::Try {
         config: text_of(alloc, values, "CONFIG")?,
         paths: texts_of(alloc, values, "PATH")?,
         color: color_of(alloc, "try", values)?,
     }))
 }
 
-fn explain_line(alloc: Global, values: &ArgMatches<'_>) -> Result<Line, AllocError>
+fn explain_line(alloc: Global, values: &ArgMatches<'_>) -> Result<CommandLine, AllocError>
     ensures { IfOk result (λ line. line ≡ explain_line (rows_of (found_of values.now))) }
 {
-    Ok(Line::Standalone(Standalone::Explain {
+    Ok(CommandLine::Standalone(Standalone::Explain {
         file: maybe_text_of(alloc, values, "FILE")?,
     }))
 }
 
-fn add_line(alloc: Global, values: &ArgMatches<'_>) -> Result<Line, Error>
+fn add_line(alloc: Global, values: &ArgMatches<'_>) -> Result<CommandLine, Error>
     ensures { IsValueOf (add_line (rows_of (found_of values.now))) result }
 {
     let paths = paths_of(alloc, "add", values)?;
     let mode = mode_of(alloc, values)?;
-    Ok(Line::Update(Update::Add { paths, mode }))
+    Ok(CommandLine::Update(Update::Add { paths, mode }))
 }
 
-fn remove_line(alloc: Global, values: &ArgMatches<'_>) -> Result<Line, Error>
+fn remove_line(alloc: Global, values: &ArgMatches<'_>) -> Result<CommandLine, Error>
     ensures { IsValueOf (remove_line (rows_of (found_of values.now))) result }
 {
-    Ok(Line::Update(Update::Remove {
+    Ok(CommandLine::Update(Update::Remove {
         paths: paths_of(alloc, "rm", values)?,
     }))
 }
 
-fn run_line(alloc: Global, values: &ArgMatches<'_>) -> Result<Line, Error>
+fn run_line(alloc: Global, values: &ArgMatches<'_>) -> Result<CommandLine, Error>
     ensures { IsValueOf (run_line (rows_of (found_of values.now))) result }
 {
     let stage = stage_of(alloc, "run", values)?;
     let options = choice_of(alloc, "run", values)?;
-    Ok(Line::Update(Update::Run {
+    Ok(CommandLine::Update(Update::Run {
         files: files_of(values),
         only: maybe_text_of(alloc, values, "ID")?,
         stage,
@@ -169,13 +170,13 @@ fn files_of(values: &ArgMatches<'_>) -> FileChoice
     }
 }
 
-fn run_files_line(alloc: Global, values: &ArgMatches<'_>) -> Result<Line, Error>
+fn run_files_line(alloc: Global, values: &ArgMatches<'_>) -> Result<CommandLine, Error>
     ensures { IsValueOf (run_files_line (rows_of (found_of values.now))) result }
 {
     let paths = paths_of(alloc, "run-files", values)?;
     let stage = stage_of(alloc, "run-files", values)?;
     let options = choice_of(alloc, "run-files", values)?;
-    Ok(Line::Update(Update::Run {
+    Ok(CommandLine::Update(Update::Run {
         files: named_by(paths),
         only: maybe_text_of(alloc, values, "only")?,
         stage,
@@ -193,39 +194,39 @@ fn named_by(paths: PathSource) -> FileChoice
     }
 }
 
-fn commit_line(alloc: Global, values: &ArgMatches<'_>) -> Result<Line, Error>
+fn commit_line(alloc: Global, values: &ArgMatches<'_>) -> Result<CommandLine, Error>
     ensures { IsValueOf (commit_line (rows_of (found_of values.now))) result }
 {
-    Ok(Line::Update(Update::Commit {
+    Ok(CommandLine::Update(Update::Commit {
         message: text_of(alloc, values, "message")?,
         no_verify: flag_of(values, "no-verify"),
         color: color_of(alloc, "commit", values)?,
     }))
 }
 
-fn cat_line(alloc: Global, values: &ArgMatches<'_>) -> Result<Line, Error>
+fn cat_line(alloc: Global, values: &ArgMatches<'_>) -> Result<CommandLine, Error>
     ensures { IsValueOf (cat_line (rows_of (found_of values.now))) result }
 {
-    Ok(Line::LookUp(LookUp::Cat {
+    Ok(CommandLine::LookUp(LookUp::Cat {
         path: text_of(alloc, values, "PATH")?,
         version: version_of(alloc, values)?,
     }))
 }
 
-fn show_line(alloc: Global, values: &ArgMatches<'_>) -> Result<Line, Error>
+fn show_line(alloc: Global, values: &ArgMatches<'_>) -> Result<CommandLine, Error>
     ensures { IsValueOf (show_line (rows_of (found_of values.now))) result }
 {
-    Ok(Line::LookUp(LookUp::Show {
+    Ok(CommandLine::LookUp(LookUp::Show {
         number: number_of(alloc, values)?,
     }))
 }
 
 // With a limit it changes the cache, and without one it only looks it up.
-fn memory_line(alloc: Global, values: &ArgMatches<'_>) -> Result<Line, Error>
+fn memory_line(alloc: Global, values: &ArgMatches<'_>) -> Result<CommandLine, Error>
     ensures { IsValueOf (memory_line (rows_of (found_of values.now))) result }
 {
     match limit_of(alloc, values)? {
-        Some(limit) => Ok(Line::Update(Update::Limit(limit))),
-        None => Ok(Line::LookUp(LookUp::Memory)),
+        Some(limit) => Ok(CommandLine::Update(Update::Limit(limit))),
+        None => Ok(CommandLine::LookUp(LookUp::Memory)),
     }
 }

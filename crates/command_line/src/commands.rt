@@ -56,7 +56,8 @@ fn with_configurations<'a>(
     help: HelpLength,
     program: Command<'a>,
 ) -> Result<Command<'a>, AllocError>
-    ensures { IfOk result (λ command. app_of command ≡ with_commands (app_of program.entry) (init_app ∷ try_app ∷ check_app ∷ explain_app ∷ [])) }
+    ensures { IfOk result (λ command. app_of command
+        ≡ with_commands (app_of program.entry) (init_app ∷ try_app ∷ check_app ∷ explain_app ∷ [])) }
 {
     let program = program.subcommand(init_command(alloc, help))?;
     with_readings(alloc, help, program)
@@ -68,7 +69,8 @@ fn with_readings<'a>(
     help: HelpLength,
     program: Command<'a>,
 ) -> Result<Command<'a>, AllocError>
-    ensures { IfOk result (λ command. app_of command ≡ with_commands (app_of program.entry) (try_app ∷ check_app ∷ explain_app ∷ [])) }
+    ensures { IfOk result (λ command. app_of command
+        ≡ with_commands (app_of program.entry) (try_app ∷ check_app ∷ explain_app ∷ [])) }
 {
     program
         .subcommand(try_command(alloc, help)?)?
@@ -105,7 +107,8 @@ fn with_runs<'a>(
     help: HelpLength,
     program: Command<'a>,
 ) -> Result<Command<'a>, AllocError>
-    ensures { IfOk result (λ command. app_of command ≡ with_commands (app_of program.entry) (run_app ∷ run_files_app ∷ [])) }
+    ensures { IfOk result (λ command. app_of command
+        ≡ with_commands (app_of program.entry) (run_app ∷ run_files_app ∷ [])) }
 {
     program
         .subcommand(run_command(alloc, help)?)?
@@ -117,7 +120,8 @@ fn with_fixes<'a>(
     help: HelpLength,
     program: Command<'a>,
 ) -> Result<Command<'a>, AllocError>
-    ensures { IfOk result (λ command. app_of command ≡ with_commands (app_of program.entry) (fixes_app ∷ accept_app ∷ [])) }
+    ensures { IfOk result (λ command. app_of command
+        ≡ with_commands (app_of program.entry) (fixes_app ∷ accept_app ∷ [])) }
 {
     program
         .subcommand(fixes_command(alloc, help))?
@@ -129,7 +133,8 @@ fn with_commits<'a>(
     help: HelpLength,
     program: Command<'a>,
 ) -> Result<Command<'a>, AllocError>
-    ensures { IfOk result (λ command. app_of command ≡ with_commands (app_of program.entry) (commit_app ∷ log_app ∷ show_app ∷ [])) }
+    ensures { IfOk result (λ command. app_of command
+        ≡ with_commands (app_of program.entry) (commit_app ∷ log_app ∷ show_app ∷ [])) }
 {
     program
         .subcommand(commit_command(alloc, help)?)?
@@ -142,7 +147,8 @@ fn with_answers<'a>(
     help: HelpLength,
     program: Command<'a>,
 ) -> Result<Command<'a>, AllocError>
-    ensures { IfOk result (λ command. app_of command ≡ with_commands (app_of program.entry) (memory_app ∷ forget_app ∷ [])) }
+    ensures { IfOk result (λ command. app_of command
+        ≡ with_commands (app_of program.entry) (memory_app ∷ forget_app ∷ [])) }
 {
     program
         .subcommand(memory_command(alloc, help)?)?

@@ -1,4 +1,4 @@
-//! The command line of `hookhost`: what a line of words asks for (`line_of`), as a value (`Line`), and the
+//! The command line of `hookhost`: what a line of words asks for (`line_of`), as a value (`CommandLine`), and the
 //! help. A line that limits the cached results holds an `AnswerLimit`.
 //!
 //! The contracts cite `specs/CommandLine.antt`, which states the command line as `clap` sees it, and
@@ -20,6 +20,6 @@ mod version;
 pub use answer_limit::AnswerLimit;
 pub use command_line::line_of;
 pub use line::{
-    ColorChoice, FileChoice, FileVersion, Line, LookUp, PathSource, RunChoice, StageChoice,
+    ColorChoice, CommandLine, FileChoice, FileVersion, LookUp, PathSource, RunChoice, StageChoice,
     Standalone, Update,
 };

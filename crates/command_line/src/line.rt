@@ -5,7 +5,7 @@ use hook_base::{Items, Mode, Text};
 
 /// What a line of words asks the program for.
 #[derive(Debug, Drop)]
-pub enum Line {
+pub enum CommandLine {
     /// What is done without a repository.
     Standalone(Standalone),
     /// What is looked up in the repository, which stays as it is.

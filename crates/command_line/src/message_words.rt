@@ -22,7 +22,8 @@ pub(crate) struct AroundMessage<'w, 'a> {
 /// The words around the message of the first `-m`, or `None` if it has no message or comes after `--`.
 pub(crate) fn around_message<'w, 'a>(words: &'w [&'a str]) -> Option<AroundMessage<'w, 'a>>
     ensures { MatchOption result (words_for_clap (map (λ s. s.now) words.now) ≡ map (λ s. s.now) words.now)
-        (λ around. words_for_clap (map (λ s. s.now) words.now) ≡ map (λ s. s.now) around.before.now ++ joined_message around.message.now ∷ map (λ s. s.now) around.behind.now) }
+        (λ around. words_for_clap (map (λ s. s.now) words.now)
+        ≡ map (λ s. s.now) around.before.now ++ joined_message around.message.now ∷ map (λ s. s.now) around.behind.now) }
 {
     'words: for (place, word) in words.iter().enumerate() {
         if *word == "--" {
@@ -38,7 +39,8 @@ pub(crate) fn around_message<'w, 'a>(words: &'w [&'a str]) -> Option<AroundMessa
 // The words around the message of the flag at this place, or `None` if the flag is the last word.
 fn around_flag<'w, 'a>(words: &'w [&'a str], place: usize) -> Option<AroundMessage<'w, 'a>>
     ensures { MatchOption result (drop (place + 1) (map (λ s. s.now) words.now) ≡ [])
-        (λ around. (map (λ s. s.now) around.before.now ≡ take place (map (λ s. s.now) words.now)) × (drop (place + 1) (map (λ s. s.now) words.now) ≡ around.message.now ∷ map (λ s. s.now) around.behind.now)) }
+        (λ around. (map (λ s. s.now) around.before.now ≡ take place (map (λ s. s.now) words.now))
+        × (drop (place + 1) (map (λ s. s.now) words.now) ≡ around.message.now ∷ map (λ s. s.now) around.behind.now)) }
 {
     let (before, others) = words.split_at_checked(place)?;
     match others {
@@ -69,7 +71,8 @@ impl<'w, 'a> AroundMessage<'w, 'a> {
     ) -> Result<Vec<&'b str>, AllocError>
     where
         'a: 'b,
-        ensures { IfOk result (λ words. map (λ s. s.now) words.items ≡ map (λ s. s.now) self.now.before.now ++ joined.now ∷ map (λ s. s.now) self.now.behind.now) }
+        ensures { IfOk result (λ words. map (λ s. s.now) words.items
+            ≡ map (λ s. s.now) self.now.before.now ++ joined.now ∷ map (λ s. s.now) self.now.behind.now) }
     {
         let mut words = Vec::new(alloc);
         words.extend_from_slice(self.before)?;

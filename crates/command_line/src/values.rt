@@ -5,7 +5,7 @@
 ghost use Rattle.std.specs.Prelude.{◌≡◌, ◌∷◌, IfOk, Some, [], codes, false, map};
 ghost use Rattle.clap.specs.Words.{HasKind, first_of, found_of, rows_of};
 ghost use Rattle.clap.specs.declared.error.kind.ErrorKind.TheVariants.{InvalidValue};
-ghost use Rattle.command_line.specs.CommandLine.{IsValueOf, color_in, flag_in, limit_in, limit_number, mode_in, number_in, stage_in, version_in, word_in, words_in};
+ghost use Rattle.command_line.specs.CommandLine.{IsValueOf, color_in, flag_in, limit_in, limit_number, mode_in, number_in, asked_stage_in, version_in, word_in, words_in};
 
 use crate::commands::{
     add_command, cat_command, commit_command, memory_command, run_command, run_files_command,
@@ -94,7 +94,7 @@ pub(crate) fn stage_of(
     command: &str,
     values: &ArgMatches<'_>,
 ) -> Result<StageChoice, Error>
-    ensures { IsValueOf (stage_in (first_of (codes "hook-stage") (rows_of (found_of values.now)))) result }
+    ensures { IsValueOf (asked_stage_in (first_of (codes "hook-stage") (rows_of (found_of values.now)))) result }
 {
     match values.get_str("hook-stage") {
         None => Ok(StageChoice::PreCommit),
@@ -136,7 +136,8 @@ pub(crate) fn number_of(alloc: Global, values: &ArgMatches<'_>) -> Result<u32, E
 /// The bytes that `--fixed` or `--commit` asks for. Both together are an error, and so is a commit that is no
 /// number of 32 bits.
 pub(crate) fn version_of(alloc: Global, values: &ArgMatches<'_>) -> Result<FileVersion, Error>
-    ensures { IsValueOf (version_in (flag_in (codes "fixed") (rows_of (found_of values.now))) (first_of (codes "commit") (rows_of (found_of values.now)))) result }
+    ensures { IsValueOf (version_in (flag_in (codes "fixed") (rows_of (found_of values.now)))
+        (first_of (codes "commit") (rows_of (found_of values.now)))) result }
 {
     let is_fixed = flag_of(values, "fixed");
     match values.get_str("commit") {

@@ -5,7 +5,7 @@ use Rattle.sqlite_trees.specs.declared.store.Store.{Ghosts}
 use Rattle.sqlite_trees.specs.Tree.{Trees}
 use Rattle.sqlite.specs.Held.{state}
 use Rattle.sqlite.specs.State.{State, Survives}
-use Rattle.sqlite.proofs.StateLemmas.{survives_weaker}
+use Rattle.commit_flow.proofs.Kit.{survives_weaker}
 use Rattle.hook_base.specs.declared.file.Mode.{Mode}
 use Rattle.hook_base.specs.Trees.{entry_of, put_file}
 use Rattle.store_faults.specs.declared.fault.StoreFault.{StoreFault}
@@ -42,7 +42,8 @@ survives_itself s P = record {
 }
 
 -- a command that asks the store for one change
-module _ {S : Type 0} (g : Ghosts S) (old new : Shown S) (command : Command) (asked after : Kept) (is : asked ≡ after) (reached : (trees : Trees) → Leaves after trees → LeavesDone old.kept command trees) where
+module _ {S : Type 0} (g : Ghosts S) (old new : Shown S) (command : Command) (asked after : Kept) (is : asked ≡ after)
+    (reached : (trees : Trees) → Leaves after trees → LeavesDone old.kept command trees) where
   leaves_done : Survives (state g old.conn) (state g new.conn) (Leaves asked) → Survives (state g old.conn) (state g new.conn) (LeavesDone old.kept command)
   leaves_done =
       survives_weaker (state g old.conn) (state g new.conn) (Leaves asked) (LeavesDone old.kept command) (λ _ trees leaves. reached trees (subst (λ (kept : Kept). Leaves kept trees) is leaves))
@@ -71,7 +72,8 @@ pub same_staging : (kept : Kept) (path bytes : List ℕ) (asked : Option Mode) (
     → staging taken (record { mode = mode; bytes = bytes }) kept ≡ staging path (entry_to_add kept.repo path bytes asked) kept
 same_staging kept path bytes asked taken mode same is = let moded = rw same at is in rw (same, moded) refl
 
-pub add_reached : (kept : Kept) (path bytes : List ℕ) (asked : Option Mode) → IsAddable kept.repo path bytes → (trees : Trees) → Leaves (staging path (entry_to_add kept.repo path bytes asked) kept) trees → LeavesDone kept (Add path bytes asked) trees
+pub add_reached : (kept : Kept) (path bytes : List ℕ) (asked : Option Mode) → IsAddable kept.repo path bytes → (trees : Trees)
+    → Leaves (staging path (entry_to_add kept.repo path bytes asked) kept) trees → LeavesDone kept (Add path bytes asked) trees
 add_reached kept path bytes asked addable trees leaves = record {
   kept = staging path (entry_to_add kept.repo path bytes asked) kept;
   reply = Added;
@@ -111,7 +113,8 @@ module _ {S : Type 0} (g : Ghosts S) (before old new : Shown S) (is : old ≡ be
       subst (λ (at : Shown S). IsOneCommand g at new Accept (Refused refusal)) is
       (refused_command g old new Accept (accepting old.kept) (accepting old.kept) refl (accept_reached old.kept kept_fixes) fault refusal one)
 
-  pub accept_done : {A E : Type 0} (x : A) → new.kept ≡ accepting old.kept → IsOneTransaction {E = E} g old new (Ok x) (accepting old.kept) → (number : ℕ) → IsOneCommand g before new Accept (Accepted number)
+  pub accept_done : {A E : Type 0} (x : A) → new.kept ≡ accepting old.kept → IsOneTransaction {E = E} g old new (Ok x) (accepting old.kept) → (number : ℕ)
+      → IsOneCommand g before new Accept (Accepted number)
   accept_done x same one number =
       subst (λ (at : Shown S). IsOneCommand g at new Accept (Accepted number)) is
       (done_command g old new Accept (accepting old.kept) (accepting old.kept) refl (accept_reached old.kept kept_fixes) x (Accepted number) same one)
@@ -131,7 +134,8 @@ module _ {S : Type 0} (g : Ghosts S) (old new : Shown S) where
   pub forget_refused : {A E : Type 0} (fault : E) (refusal : HostRefusal) → IsOneTransaction {A = A} g old new (Err fault) (forgetting old.kept) → IsOneCommand g old new Forget (Refused refusal)
   forget_refused fault refusal one = refused_command g old new Forget (forgetting old.kept) (forgetting old.kept) refl (forget_reached old.kept) fault refusal one
 
-  pub forget_done : {A E : Type 0} (x : A) (number : ℕ) → new.kept ≡ forgetting old.kept → IsOneTransaction {E = E} g old new (Ok x) (forgetting old.kept) → IsOneCommand g old new Forget (Forgot number)
+  pub forget_done : {A E : Type 0} (x : A) (number : ℕ) → new.kept ≡ forgetting old.kept → IsOneTransaction {E = E} g old new (Ok x) (forgetting old.kept)
+      → IsOneCommand g old new Forget (Forgot number)
   forget_done x number same one = done_command g old new Forget (forgetting old.kept) (forgetting old.kept) refl (forget_reached old.kept) x (Forgot number) same one
 
 -- as many are remembered as the store has answers, and none once they are forgotten

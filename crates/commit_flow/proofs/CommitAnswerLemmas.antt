@@ -10,12 +10,12 @@ use Rattle.hook_run.specs.Parts.{Part}
 use Rattle.store_faults.specs.Limits.{IsSmall, most_commits}
 use Rattle.repo_store.specs.Repository.{Repository, with_new_commit}
 use Rattle.commit_flow.specs.declared.command.Command.TheVariants.{Commit}
-use Rattle.commit_flow.specs.declared.course.Course.{Course}
+use Rattle.commit_flow.specs.declared.commit_state.CommitState.{CommitState}
 use Rattle.commit_flow.specs.declared.host_refusal.HostRefusal.TheVariants.{OutOfMemory, Store, TooLarge, TooMany, NoConfig, BadConfig, NothingStaged, EmptyMessage, Collision, Spent}
 use Rattle.commit_flow.specs.declared.reply.PostCommit.TheVariants.{Told, Stopped}
 use Rattle.commit_flow.specs.declared.reply.Reply.{Reply}
 use Rattle.commit_flow.specs.declared.reply.Reply.TheVariants.{Committed, HooksFailed, Refused}
-use Rattle.commit_flow.specs.CommitStages.{FailedAt, HavePassed, StageTold, course_of, parts_of, reports_of, stages_before_commit}
+use Rattle.commit_flow.specs.CommitStages.{FailedAt, HavePassed, StageTold, course_of, parts_of_stages, reports_of, stages_before_commit}
 use Rattle.commit_flow.specs.Commits.{HasNothingNew, IsPost}
 use Rattle.commit_flow.specs.Configured.{IsConfigured, LacksConfig}
 use Rattle.commit_flow.specs.Messages.{cleaned_message}
@@ -57,20 +57,20 @@ module _ (tells : List (List ℕ) → List File → Outcome → Type 0) (before 
   -- the stages before the commit passed
   record HasPassed (config : Config) (reply : Reply) (after : Repository) : Type 0 where
     told : List StageTold
-    left : Course
+    left : CommitState
     last : List ℕ
     passed : HavePassed config (changed_paths before) skip (stages_before_commit no_verify) (course_of before message) told left
     message_left : last ≡ left.message
-    clear : AreClear tells (parts_of told)
+    clear : AreClear tells (parts_of_stages told)
     way : MessageWay config (reports_of told) (cleaned_message last) reply after
 
   -- a hook failed in one of them
   record HasFailed (config : Config) (reply : Reply) (after : Repository) : Type 0 where
     told : List StageTold
-    left : Course
+    left : CommitState
     failed : Stage
     run : FailedAt config (changed_paths before) skip (stages_before_commit no_verify) (course_of before message) told failed left
-    clear : AreClear tells (parts_of told)
+    clear : AreClear tells (parts_of_stages told)
     is : reply ≡ HooksFailed failed (reports_of told)
     made : after ≡ fixing (changes_between before.staged left.tree) before
 
@@ -86,10 +86,11 @@ module _ (tells : List (List ℕ) → List File → Outcome → Type 0) (before 
   abbrev CommitWay : Reply → Repository → Type 0
   CommitWay reply after = ((¬ IsSmall message) × IsRefusedSo before TooLarge reply after) ⊎ (IsSmall message × NewWay reply after)
 
-  commit_way : (reply : Reply) (parts : List Part) (after : Repository) → Step before (Commit message no_verify skip) reply parts after → IsUnhindered reply → AreClear tells parts → CommitWay reply after
+  commit_way : (reply : Reply) (parts : List Part) (after : Repository) → Step before (Commit message no_verify skip) reply parts after → IsUnhindered reply → AreClear tells parts
+      → CommitWay reply after
   commit_way (Committed number reports (Told report)) parts after step unhindered clear =
       let verified = step.verified in
-      let all = clear_as tells parts (parts_of step.told ++ step.post_parts) step.traced clear in
+      let all = clear_as tells parts (parts_of_stages step.told ++ step.post_parts) step.traced clear in
       inr (
         verified.committable.small,
         inr (
@@ -103,7 +104,7 @@ module _ (tells : List (List ℕ) → List File → Outcome → Type 0) (before 
               last = step.last;
               passed = verified.passed;
               message_left = verified.message_left;
-              clear = clear_front tells (parts_of step.told) step.post_parts all;
+              clear = clear_front tells (parts_of_stages step.told) step.post_parts all;
               way = inr (
                 step.some,
                 inr (record {
@@ -111,7 +112,7 @@ module _ (tells : List (List ℕ) → List File → Outcome → Type 0) (before 
                   report = report;
                   parts = step.post_parts;
                   behind = step.behind;
-                  clear = clear_back tells (parts_of step.told) step.post_parts all;
+                  clear = clear_back tells (parts_of_stages step.told) step.post_parts all;
                   is = committed_as number (length before.history + 1) reports (reports_of step.told) report step.counted step.reported;
                   made = step.made;
                 }),
@@ -134,7 +135,7 @@ module _ (tells : List (List ℕ) → List File → Outcome → Type 0) (before 
               left = step.last;
               failed = stage;
               run = step.run;
-              clear = clear_as tells parts (parts_of step.told) step.traced clear;
+              clear = clear_as tells parts (parts_of_stages step.told) step.traced clear;
               is = ap (HooksFailed stage) step.reported;
               made = step.made;
             }),
@@ -160,7 +161,7 @@ module _ (tells : List (List ℕ) → List File → Outcome → Type 0) (before 
               last = but.last;
               passed = verified.passed;
               message_left = verified.message_left;
-              clear = clear_as tells parts (parts_of but.told) but.traced clear;
+              clear = clear_as tells parts (parts_of_stages but.told) but.traced clear;
               way = inl (but.why, record { is = refl; left = step.1 });
             }),
           ),
@@ -182,7 +183,7 @@ module _ (tells : List (List ℕ) → List File → Outcome → Type 0) (before 
               last = but.last;
               passed = verified.passed;
               message_left = verified.message_left;
-              clear = clear_as tells parts (parts_of but.told) but.traced clear;
+              clear = clear_as tells parts (parts_of_stages but.told) but.traced clear;
               way = inr (but.why.0, inl (but.why.2, record { is = refl; left = step.1 }));
             }),
           ),
@@ -198,7 +199,8 @@ module _ (tells : List (List ℕ) → List File → Outcome → Type 0) (before 
 
   module _ (alone : OneAnswer tells) (reply second : Reply) (after other : Repository) where
     -- what is committed, or there is no room for it
-    same_room : (config : Config) (reports : List (List ℕ)) (cleaned : List ℕ) → RoomWay config reports cleaned reply after → RoomWay config reports cleaned second other → AreAlike reply second after other
+    same_room : (config : Config) (reports : List (List ℕ)) (cleaned : List ℕ) → RoomWay config reports cleaned reply after → RoomWay config reports cleaned second other
+        → AreAlike reply second after other
     same_room config reports cleaned (inl p) (inl q) = refused_alike before after other TooMany TooMany reply second refl p.1 q.1
     same_room config reports cleaned (inl p) (inr q) = let full = p.0 in let room = q.room in absurd (omega arith)
     same_room config reports cleaned (inr p) (inl q) = let full = q.0 in let room = p.room in absurd (omega arith)
@@ -209,7 +211,8 @@ module _ (tells : List (List ℕ) → List File → Outcome → Type 0) (before 
       p.made ∙ sym q.made,
     )
 
-    same_message : (config : Config) (reports : List (List ℕ)) (cleaned : List ℕ) → MessageWay config reports cleaned reply after → MessageWay config reports cleaned second other → AreAlike reply second after other
+    same_message : (config : Config) (reports : List (List ℕ)) (cleaned : List ℕ) → MessageWay config reports cleaned reply after → MessageWay config reports cleaned second other
+        → AreAlike reply second after other
     same_message config reports cleaned (inl p) (inl q) = refused_alike before after other EmptyMessage EmptyMessage reply second refl p.1 q.1
     same_message config reports cleaned (inl p) (inr q) = absurd (q.0 p.0)
     same_message config reports cleaned (inr p) (inl q) = absurd (p.0 q.0)
@@ -217,8 +220,9 @@ module _ (tells : List (List ℕ) → List File → Outcome → Type 0) (before 
 
     same_stages : (config : Config) → HasPassed config reply after ⊎ HasFailed config reply after → HasPassed config second other ⊎ HasFailed config second other → AreAlike reply second after other
     same_stages config (inl p) (inl q) =
-        let same = same_passed tells alone config (changed_paths before) skip (stages_before_commit no_verify) (course_of before message) p.told q.told p.left q.left p.passed q.passed p.clear q.clear in
-        let last = p.message_left ∙ ap (λ (course : Course). course.message) same.1 ∙ sym q.message_left in
+        let same =
+        same_passed tells alone config (changed_paths before) skip (stages_before_commit no_verify) (course_of before message) p.told q.told p.left q.left p.passed q.passed p.clear q.clear in
+        let last = p.message_left ∙ ap (λ (course : CommitState). course.message) same.1 ∙ sym q.message_left in
         same_message config (reports_of p.told) (cleaned_message p.last) p.way
         (subst (λ (reports : List (List ℕ)). MessageWay config reports (cleaned_message p.last) second other) (sym same.0)
         (subst (λ (message : List ℕ). MessageWay config (reports_of q.told) (cleaned_message message) second other) (sym last) q.way))
@@ -227,9 +231,11 @@ module _ (tells : List (List ℕ) → List File → Outcome → Type 0) (before 
     same_stages config (inr p) (inl q) =
         absurd (not_both tells alone config (changed_paths before) skip (stages_before_commit no_verify) (course_of before message) q.told p.told q.left p.left p.failed q.passed p.run q.clear p.clear)
     same_stages config (inr p) (inr q) =
-        let same = same_failed tells alone config (changed_paths before) skip (stages_before_commit no_verify) (course_of before message) p.told q.told p.left q.left p.failed q.failed p.run q.run p.clear q.clear in (
+        let same =
+        same_failed tells alone config (changed_paths before) skip (stages_before_commit no_verify) (course_of before message) p.told q.told p.left q.left p.failed q.failed p.run q.run p.clear
+        q.clear in (
           ap without_memory (p.is ∙ same_hooks_failed p.failed q.failed (reports_of p.told) (reports_of q.told) same.1 same.0 ∙ sym q.is),
-          p.made ∙ ap (λ (course : Course). fixing (changes_between before.staged course.tree) before) same.2 ∙ sym q.made,
+          p.made ∙ ap (λ (course : CommitState). fixing (changes_between before.staged course.tree) before) same.2 ∙ sym q.made,
         )
 
     same_configured : ConfigWay reply after → ConfigWay second other → AreAlike reply second after other

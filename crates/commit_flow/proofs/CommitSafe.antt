@@ -15,7 +15,7 @@ use Rattle.result_book.specs.Told.{AddsTold}
 use Rattle.commit_flow.specs.declared.command.Command.TheVariants.{Commit}
 use Rattle.commit_flow.specs.declared.commit.Through.{Through}
 use Rattle.commit_flow.specs.declared.commit_stages.StagesEnd.TheVariants.{Passed, Failed}
-use Rattle.commit_flow.specs.declared.course.Course.{Course}
+use Rattle.commit_flow.specs.declared.commit_state.CommitState.{CommitState}
 use Rattle.commit_flow.specs.declared.host_refusal.HostRefusal.{HostRefusal}
 use Rattle.commit_flow.specs.declared.reply.PostCommit.{PostCommit}
 use Rattle.commit_flow.specs.declared.reply.Reply.{Reply}
@@ -31,7 +31,8 @@ use Rattle.commit_flow.proofs.HookCommandLemmas.{done_between_hooks, hooks_then_
 use Rattle.commit_flow.proofs.LeftLemmas.{left_then}
 use Rattle.commit_flow.proofs.SafeLemmas.{ended_safely}
 
-module _ {S : Type 0} (g : Ghosts S) (tells : List (List ℕ) → List File → Outcome → Type 0) (from : Moment) (calls faults : ℕ) (old between : Shown S) (entry : from.remembered ≡ remembered_by old.kept)
+module _ {S : Type 0} (g : Ghosts S) (tells : List (List ℕ) → List File → Outcome → Type 0) (from : Moment) (calls faults : ℕ) (old between : Shown S)
+    (entry : from.remembered ≡ remembered_by old.kept)
     (rest : IsAtRest g old between) (left : LeavesTold tells (remembered_by old.kept) (MayRemember g old) (MayRemember g between)) (message : List ℕ) (no_verify : Bool) (skip : List (List ℕ))
     (through : Through) (ran : IsThrough tells from (moment calls faults (remembered_by between.kept)) old.kept.repo message no_verify skip through) where
   -- a step whose stages came to an end, as the store keeps it behind them
@@ -43,7 +44,7 @@ module _ {S : Type 0} (g : Ghosts S) (tells : List (List ℕ) → List File → 
 
   -- ---- a hook failed
 
-  module _ (new : Shown S) (stage : Stage) (reports : List (List ℕ)) (course : Course) (is : through.end ≡ Failed stage reports course) where
+  module _ (new : Shown S) (stage : Stage) (reports : List (List ℕ)) (course : CommitState) (is : through.end ≡ Failed stage reports course) where
     abbrev first_failed : List Part
     first_failed = failed_parts tells from (moment calls faults (remembered_by between.kept)) old.kept.repo between.kept rest.repo message no_verify skip through ran stage reports course is
 
@@ -89,7 +90,7 @@ module _ {S : Type 0} (g : Ghosts S) (tells : List (List ℕ) → List File → 
 
   -- ---- the stages passed
 
-  module _ (new : Shown S) (reports : List (List ℕ)) (course : Course) (is : through.end ≡ Passed reports course) (last : List ℕ) (same_message : last ≡ course.message) where
+  module _ (new : Shown S) (reports : List (List ℕ)) (course : CommitState) (is : through.end ≡ Passed reports course) (last : List ℕ) (same_message : last ≡ course.message) where
     abbrev first_passed : List Part
     first_passed = passed_parts tells from (moment calls faults (remembered_by between.kept)) old.kept.repo between.kept rest.repo message no_verify skip through ran reports course is
 
@@ -104,7 +105,8 @@ module _ {S : Type 0} (g : Ghosts S) (tells : List (List ℕ) → List File → 
     module _ (same : new.kept ≡ between.kept) (refusal : HostRefusal) (why : IsUncommitted between.kept.repo (cleaned_message last) refusal) where
       uncommitted : Steps (Refused refusal) new.kept first_passed
       uncommitted = subst (λ (after : Kept). Steps (Refused refusal) after first_passed) (sym same)
-          (uncommitted_step tells from (moment calls faults (remembered_by between.kept)) old.kept.repo between.kept rest.repo message no_verify skip through ran reports course is refusal last same_message why)
+          (uncommitted_step tells from (moment calls faults (remembered_by between.kept)) old.kept.repo between.kept rest.repo message no_verify skip through ran reports course is refusal last
+          same_message why)
 
       pub uncommitted_so : IsCommitStep tells from (moment calls faults (remembered_by new.kept)) old.kept.repo message no_verify skip (Refused refusal) new.kept
       uncommitted_so = uncommitted.step
@@ -113,7 +115,8 @@ module _ {S : Type 0} (g : Ghosts S) (tells : List (List ℕ) → List File → 
       uncommitted_safely {A} first unasked one =
           ended_safely g tells from (moment calls faults (remembered_by new.kept)) old new entry refl message no_verify skip (Refused refusal) first_passed uncommitted
           (uncommitted_safe {A = A} g tells (Commit message no_verify skip) old (first_passed ++ uncommitted.front.behind) between new first refusal (cleaned_message last) rest left unasked
-          (passed_reached tells from (moment calls faults (remembered_by between.kept)) old.kept.repo between.kept rest.repo message no_verify skip through ran reports course is uncommitted.front.behind last same_message)
+          (passed_reached tells from (moment calls faults (remembered_by between.kept)) old.kept.repo between.kept rest.repo message no_verify skip through ran reports course is
+          uncommitted.front.behind last same_message)
           one (left_then_change g tells old between new (Err first) made adds_passed left refl one))
 
     -- and a commit was made, and hooks were run behind it
@@ -138,7 +141,9 @@ module _ {S : Type 0} (g : Ghosts S) (tells : List (List ℕ) → List File → 
       committed_safely x one =
           ended_safely g tells from end old after entry end_is message no_verify skip (Committed number reports post) first_passed committed
           (done_between_hooks g tells (Commit message no_verify skip) old (first_passed ++ committed.front.behind) between new made rest
-          (passed_reached tells from (moment calls faults (remembered_by between.kept)) old.kept.repo between.kept rest.repo message no_verify skip through ran reports course is committed.front.behind last same_message may.some)
+          (passed_reached tells from (moment calls faults (remembered_by between.kept)) old.kept.repo between.kept rest.repo message no_verify skip through ran reports course is committed.front.behind
+          last same_message may.some)
           after further x (Committed number reports post)
-          (passed_made tells from (moment calls faults (remembered_by between.kept)) old.kept.repo between.kept rest.repo message no_verify skip through ran reports course is committed.front.behind new.kept last same_message may done)
+          (passed_made tells from (moment calls faults (remembered_by between.kept)) old.kept.repo between.kept rest.repo message no_verify skip through ran reports course is committed.front.behind
+          new.kept last same_message may done)
           one (left_all x one))

@@ -26,12 +26,12 @@ use Rattle.repo_store.specs.Repository.{Commit as Entry, Repository, last_tree, 
 use Rattle.repo_store.specs.Rows.{commit_rows}
 use Rattle.repo_store.specs.Shown.{IsOneTransaction, Leaves, LeavesOnly, Shown}
 use Rattle.commit_flow.specs.declared.command.Command.TheVariants.{Commit}
-use Rattle.commit_flow.specs.declared.course.Course.{Course}
+use Rattle.commit_flow.specs.declared.commit_state.CommitState.{CommitState}
 use Rattle.commit_flow.specs.declared.host_refusal.HostRefusal.{HostRefusal}
 use Rattle.commit_flow.specs.declared.reply.PostCommit.TheVariants.{Stopped}
 use Rattle.commit_flow.specs.declared.reply.Reply.TheVariants.{Committed, HooksFailed}
 use Rattle.commit_flow.specs.CommitCalls.{IsOneChange, IsUncommitted, IsUnfixed}
-use Rattle.commit_flow.specs.CommitStages.{FailedAt, StageTold, course_of, parts_of, reports_of, stages_before_commit}
+use Rattle.commit_flow.specs.CommitStages.{FailedAt, StageTold, course_of, parts_of_stages, reports_of, stages_before_commit}
 use Rattle.commit_flow.specs.Commits.{HasNothingNew, IsCommittable, IsVerified, MayCommit}
 use Rattle.commit_flow.specs.Configured.{IsConfigured}
 use Rattle.commit_flow.specs.Messages.{cleaned_message}
@@ -79,9 +79,9 @@ last_small n (first ∷ history) entry all = last_small (n + 1) history entry al
 module _ (message : List ℕ) (no_verify : Bool) (skip : List (List ℕ)) (config : Config) (told : List StageTold) (behind : List Part) where
   -- so a commit that may be made is reached
   pub commit_made : (before : Repository) (last : List ℕ) → IsVerified before message no_verify skip config told last → MayCommit before (cleaned_message last)
-      → Reaches before (Commit message no_verify skip) (parts_of told ++ behind) (with_new_commit (cleaned_message last) before)
+      → Reaches before (Commit message no_verify skip) (parts_of_stages told ++ behind) (with_new_commit (cleaned_message last) before)
   commit_made before last verified may = record {
-    first = parts_of told;
+    first = parts_of_stages told;
     others = behind;
     stretch = refl;
     reply = Committed (length before.history + 1) (reports_of told) (Stopped run.OutOfMemory);
@@ -98,14 +98,15 @@ module _ (message : List ℕ) (no_verify : Bool) (skip : List (List ℕ)) (confi
       counted = refl;
       reported = refl;
       behind = (λ is. cc, tt, refl);
-      traced = sym (append-nil (parts_of told));
+      traced = sym (append-nil (parts_of_stages told));
       made = refl;
     };
   }
 
   -- and one that the store has taken may be made
   pub commit_reached : (kept : Kept) (last : List ℕ) → IsVerified kept.repo message no_verify skip config told last → (cleaned_message last ≡ [] → ⊥)
-      → (trees : Trees) → Leaves (committing (cleaned_message last) kept) trees → Reaches kept.repo (Commit message no_verify skip) (parts_of told ++ behind) (committing (cleaned_message last) kept).repo
+      → (trees : Trees) → Leaves (committing (cleaned_message last) kept) trees
+      → Reaches kept.repo (Commit message no_verify skip) (parts_of_stages told ++ behind) (committing (cleaned_message last) kept).repo
   commit_reached kept last verified some trees leaves =
       let numbered = leaves.complete.sound.numbered in
       let long = length-append kept.repo.history (record { message = cleaned_message last; tree = kept.repo.staged } ∷ []) in
@@ -113,11 +114,11 @@ module _ (message : List ℕ) (no_verify : Bool) (skip : List (List ℕ)) (confi
       commit_made kept.repo last verified (record { some = λ none. some none; small = small; room = omega arith })
 
   -- so are the fixes where a hook failed
-  pub fix_reached : (kept : Kept) (failed : Stage) (last : Course) → IsCommittable kept.repo message → IsConfigured kept.repo config
+  pub fix_reached : (kept : Kept) (failed : Stage) (last : CommitState) → IsCommittable kept.repo message → IsConfigured kept.repo config
       → FailedAt config (changed_paths kept.repo) skip (stages_before_commit no_verify) (course_of kept.repo message) told failed last
-      → Reaches kept.repo (Commit message no_verify skip) (parts_of told ++ behind) (setting (changes_between kept.repo.staged last.tree) kept).repo
+      → Reaches kept.repo (Commit message no_verify skip) (parts_of_stages told ++ behind) (setting (changes_between kept.repo.staged last.tree) kept).repo
   fix_reached kept failed last committable configured ran = record {
-    first = parts_of told;
+    first = parts_of_stages told;
     others = behind;
     stretch = refl;
     reply = HooksFailed failed (reports_of told);

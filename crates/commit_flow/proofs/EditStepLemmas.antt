@@ -3,7 +3,7 @@ use Rattle.std.proofs.Common.{◌≡◌, ◌⊎◌, ℕ, List, [], ◌∷◌, ta
 use Rattle.sqlite_trees.specs.declared.store.Store.{Ghosts}
 use Rattle.sqlite.specs.Held.{Held, state}
 use Rattle.sqlite.specs.State.{Survives}
-use Rattle.sqlite.proofs.StateLemmas.{survives_weaker}
+use Rattle.commit_flow.proofs.Kit.{survives_weaker}
 use Rattle.hook_base.specs.declared.file.Mode.{Mode}
 use Rattle.store_faults.specs.declared.fault.StoreFault.TheVariants as store
 use Rattle.repo_store.specs.declared.staging_edit.StagingEdit.{StagingEdit}
@@ -94,16 +94,22 @@ module _ (edits : List StagingEdit) (kept : Kept) where
 -- ---- a crash
 
 module _ {S : Type 0} (g : Ghosts S) (old new : Shown S) (edits : List StagingEdit) where
-  leaves_edited : AreEditable edits old.kept → Survives (state g old.conn) (state g new.conn) (Leaves (all_edited edits old.kept)) → Survives (state g old.conn) (state g new.conn) (LeavesEdited edits old.kept)
+  leaves_edited : AreEditable edits old.kept → Survives (state g old.conn) (state g new.conn) (Leaves (all_edited edits old.kept))
+      → Survives (state g old.conn) (state g new.conn) (LeavesEdited edits old.kept)
   leaves_edited are =
-      survives_weaker (state g old.conn) (state g new.conn) (Leaves (all_edited edits old.kept)) (LeavesEdited edits old.kept) (λ _ trees leaves. record { steps = all_steps edits old.kept are; leaves = leaves })
+      survives_weaker (state g old.conn) (state g new.conn) (Leaves (all_edited edits old.kept)) (LeavesEdited edits old.kept)
+      (λ _ trees leaves. record { steps = all_steps edits old.kept are; leaves = leaves })
 
-  leaves_or_not : (new.conn ≡ old.conn) ⊎ AreEditable edits old.kept → Survives (state g old.conn) (state g new.conn) (Leaves (all_edited edits old.kept)) → Survives (state g old.conn) (state g new.conn) (LeavesEdited edits old.kept)
-  leaves_or_not (inl same) crash = subst (λ (conn : Held S). Survives (state g old.conn) (state g conn) (LeavesEdited edits old.kept)) (sym same) (survives_itself (state g old.conn) (LeavesEdited edits old.kept))
+  leaves_or_not : (new.conn ≡ old.conn) ⊎ AreEditable edits old.kept → Survives (state g old.conn) (state g new.conn) (Leaves (all_edited edits old.kept))
+      → Survives (state g old.conn) (state g new.conn) (LeavesEdited edits old.kept)
+  leaves_or_not (inl same) crash =
+      subst (λ (conn : Held S). Survives (state g old.conn) (state g conn) (LeavesEdited edits old.kept)) (sym same) (survives_itself (state g old.conn) (LeavesEdited edits old.kept))
   leaves_or_not (inr are) crash = leaves_edited are crash
 
-  pub edits_refused : {A B E : Type 0} (fault : E) (stop : StagingStop) → (new.conn ≡ old.conn) ⊎ AreEditable edits old.kept → IsOneTransaction {A = A} g old new (Err fault) (all_edited edits old.kept) → AreOneCommand {A = B} g old new edits (Err stop)
+  pub edits_refused : {A B E : Type 0} (fault : E) (stop : StagingStop) → (new.conn ≡ old.conn) ⊎ AreEditable edits old.kept
+      → IsOneTransaction {A = A} g old new (Err fault) (all_edited edits old.kept) → AreOneCommand {A = B} g old new edits (Err stop)
   edits_refused fault stop why one = record { stands = λ _. one.stands; crash = leaves_or_not why one.crash; durable = tt }
 
-  pub edits_done : {A B E : Type 0} (x : A) (y : B) → AreEditable edits old.kept → new.kept ≡ all_edited edits old.kept → IsOneTransaction {E = E} g old new (Ok x) (all_edited edits old.kept) → AreOneCommand {A = B} g old new edits (Ok y)
+  pub edits_done : {A B E : Type 0} (x : A) (y : B) → AreEditable edits old.kept → new.kept ≡ all_edited edits old.kept → IsOneTransaction {E = E} g old new (Ok x) (all_edited edits old.kept)
+      → AreOneCommand {A = B} g old new edits (Ok y)
   edits_done x y are same one = record { stands = λ _. one.stands; crash = leaves_edited are one.crash; durable = subst (LeavesOnly g new.conn) (sym same) one.durable }

@@ -40,7 +40,8 @@ module _ (files : List File) where
   kept_change : (row : File) (now : Option FileEntry) → is_there files row.path ≡ true → filter keeps (change_to row now) ≡ change_to row now
   kept_change row None there = rw there refl
   kept_change row (Some entry) there =
-      elim (bytes_eq row.entry.bytes entry.bytes) as (λ b. filter keeps (if b then [] else (record { path = row.path; now = Some entry.bytes } ∷ [])) ≡ (if b then [] else (record { path = row.path; now = Some entry.bytes } ∷ []))) [
+      elim (bytes_eq row.entry.bytes entry.bytes) as (λ b. filter keeps (if b then [] else (record { path = row.path; now = Some entry.bytes } ∷ []))
+      ≡ (if b then [] else (record { path = row.path; now = Some entry.bytes } ∷ []))) [
         | true ↦ refl
         | false ↦ rw there refl
       ]

@@ -5,7 +5,7 @@ use Rattle.sqlite_trees.specs.declared.store.Store.{Ghosts}
 use Rattle.sqlite_trees.specs.Tree.{Trees}
 use Rattle.sqlite.specs.Held.{state}
 use Rattle.sqlite.specs.State.{HasCleanDisk, Survives}
-use Rattle.sqlite.proofs.StateLemmas.{survives_then, survives_weaker}
+use Rattle.commit_flow.proofs.Kit.{survives_then, survives_weaker}
 use Rattle.hook_base.specs.declared.file.File.{File}
 use Rattle.child_port.specs.declared.answer.Outcome.{Outcome}
 use Rattle.child_port.specs.TellingLemmas.{SameTells-refl}
@@ -30,7 +30,8 @@ use Rattle.commit_flow.proofs.LeftLemmas.{left_then}
 -- ---- what one change of the store leaves remembered
 
 -- a change that keeps the answers leaves remembered what it could leave before, or no more than what was remembered
-pub change_left : {S A : Type 0} (g : Ghosts S) (tells : List (List ℕ) → List File → Outcome → Type 0) (old new : Shown S) (result : Result A HostRefusal) (after : Kept) → after.answers ≡ old.kept.answers
+pub change_left : {S A : Type 0} (g : Ghosts S) (tells : List (List ℕ) → List File → Outcome → Type 0) (old new : Shown S) (result : Result A HostRefusal) (after : Kept)
+    → after.answers ≡ old.kept.answers
     → IsOneChange g old new result after → LeavesTold tells (remembered_by old.kept) (MayRemember g old) (MayRemember g new)
 change_left g tells old new result after same one = λ left may.
     elim (one.crash.crash may.clean may.trees may.may) [
@@ -44,7 +45,8 @@ change_left g tells old new result after same one = λ left may.
 
 -- and so it does behind hooks
 pub left_then_change : {S A : Type 0} (g : Ghosts S) (tells : List (List ℕ) → List File → Outcome → Type 0) (old between new : Shown S) (result : Result A HostRefusal) (after : Kept)
-    → AddsTold tells (remembered_by old.kept) (remembered_by between.kept) → LeavesTold tells (remembered_by old.kept) (MayRemember g old) (MayRemember g between) → after.answers ≡ between.kept.answers
+    → AddsTold tells (remembered_by old.kept) (remembered_by between.kept) → LeavesTold tells (remembered_by old.kept) (MayRemember g old) (MayRemember g between)
+    → after.answers ≡ between.kept.answers
     → IsOneChange g between new result after → LeavesTold tells (remembered_by old.kept) (MayRemember g old) (MayRemember g new)
 left_then_change g tells old between new result after adds left same one =
     left_then tells tells (remembered_by old.kept) (remembered_by between.kept) (MayRemember g old) (MayRemember g between) (MayRemember g new) (SameTells-refl tells) adds left
@@ -108,7 +110,8 @@ module _ {S : Type 0} (g : Ghosts S) (tells : List (List ℕ) → List File → 
     leaves_either crash = survives_then (state g old.conn) (state g between.conn) (state g new.conn) (LeavesRepository old.kept.repo) (Leaves after) LeavesEither
         (λ _ trees leaves. inl leaves) (λ _ trees leaves. inr (reached_so trees leaves)) rest.survives crash
 
-    pub hooks_then_refused : {A : Type 0} (first second : HostRefusal) → IsOneChange {A = A} g between new (Err first) after → LeavesTold tells (remembered_by old.kept) (MayRemember g old) (MayRemember g new)
+    pub hooks_then_refused : {A : Type 0} (first second : HostRefusal) → IsOneChange {A = A} g between new (Err first) after
+        → LeavesTold tells (remembered_by old.kept) (MayRemember g old) (MayRemember g new)
         → IsCrashSafe g tells old new command (Refused second) parts
     hooks_then_refused first second one left = record { stands = λ stands. one.stands (rest.stands stands); crash = stopped_so new (leaves_either one.crash) left; durable = λ done. absurd done }
 

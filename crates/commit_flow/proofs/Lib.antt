@@ -9,6 +9,7 @@ pub mod ConfigLemmas
 pub mod EditStepLemmas
 pub mod FixLemmas
 pub mod HookCommandLemmas
+pub mod Kit
 pub mod LeftLemmas
 pub mod MessageLemmas
 pub mod PathLemmas

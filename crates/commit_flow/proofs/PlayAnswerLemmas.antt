@@ -121,7 +121,8 @@ module _ (tells : List (List ℕ) → List File → Outcome → Type 0) (alone :
   steady_reply from to before after command (Ran passed report changes unsteady) played book = absurd played.step
   steady_reply from to before after command reply played book = tt
 
-  still_told : (from to : Moment) (before after : Repository) (command : Command) (reply : Reply) → IsPlayed tells from to before command reply after → IsTold tells from.remembered → IsTold tells to.remembered
+  still_told : (from to : Moment) (before after : Repository) (command : Command) (reply : Reply) → IsPlayed tells from to before command reply after → IsTold tells from.remembered
+      → IsTold tells to.remembered
   still_told from to before after command reply played book =
       told-adds tells from.remembered to.remembered book (one_adds tells from to before command reply after played)
 

@@ -36,7 +36,8 @@ refused_leaves before after Forget refusal parts step = step.1
 same_history : (before after : Repository) → after ≡ before → after.history ≡ before.history
 same_history before after same = ap (λ (repo : Repository). repo.history) same
 
-pub history_kept : (before after : Repository) (command : Command) (reply : Reply) (parts : List Part) → Step before command reply parts after → (¬ SaysCommitted reply) → after.history ≡ before.history
+pub history_kept : (before after : Repository) (command : Command) (reply : Reply) (parts : List Part) → Step before command reply parts after → (¬ SaysCommitted reply)
+    → after.history ≡ before.history
 history_kept before after command (Committed number reports post) parts step not = absurd (not tt)
 history_kept before after command (Refused refusal) parts step not = same_history before after (refused_leaves before after command refusal parts step)
 history_kept before after (Add path bytes asked) Added parts step not = ap (λ (repo : Repository). repo.history) step.0.made
@@ -107,7 +108,8 @@ module _ (tells : List (List ℕ) → List File → Outcome → Type 0) (from to
   made_none Forget reply parts makes no_parts = (makes.1.called, makes.1.faulted)
   made_none command reply parts makes no_parts = none_started (reuse_in command) parts makes no_parts
 
-module _ (tells : List (List ℕ) → List File → Outcome → Type 0) (from to : Moment) (before : Repository) (command : Command) (reply : Reply) (after : Repository) (one : IsPlayed tells from to before command reply after) where
+module _ (tells : List (List ℕ) → List File → Outcome → Type 0) (from to : Moment) (before : Repository) (command : Command) (reply : Reply) (after : Repository)
+    (one : IsPlayed tells from to before command reply after) where
   one_faults : to.faults ≡ from.faults + faults_of one.parts + faults_of one.left_out
   one_faults =
       let first = made_faults tells from one.between command reply one.parts one.makes in

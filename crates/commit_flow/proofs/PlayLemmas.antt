@@ -30,11 +30,11 @@ use Rattle.commit_flow.specs.declared.reply.Reply.{Reply}
 use Rattle.commit_flow.specs.declared.reply.Reply.TheVariants.{Committed, Forgot, Refused}
 use Rattle.commit_flow.specs.declared.staged_run.StagedRun.{StagedRun}
 use Rattle.commit_flow.specs.CommitSteps.{AreLeftOut, HasBegunBefore, HasBegunBehind, HasFailedBut, HasFurtherBefore, HasFurtherBehind, IsCommitStep, IsUnkept, SaysSpent, StandsOnAll, StoreStopsCommit}
-use Rattle.commit_flow.specs.CommitStages.{HaveBegun, ask_in, course_of, parts_of, stages_before_commit}
+use Rattle.commit_flow.specs.CommitStages.{HaveBegun, ask_in, course_of, parts_of_stages, stages_before_commit}
 use Rattle.commit_flow.specs.Commits.{IsVerifiedBut}
 use Rattle.commit_flow.specs.Configured.{IsConfigured}
 use Rattle.commit_flow.specs.Plays.{ArePlayed, HasForgotten, HooksBegin, HooksNeedChild, IsPlay, IsPlayed, Makes, RunsHooks, reuse_in}
-use Rattle.commit_flow.specs.RunSteps.{HasBegun, HasFurther, HasRunBut, IsRunStep, IsStoppedAt, IsStoppedStep, IsUnrun, IsUnset, StoreStopsRun, reply_of_run}
+use Rattle.commit_flow.specs.RunSteps.{HasRunBegun, HasFurther, HasRunBut, IsRunStep, IsStoppedAt, IsStoppedStep, IsUnrun, IsUnset, StoreStopsRun, reply_of_run}
 use Rattle.commit_flow.specs.Runs.{changed_paths, reuse_of, run_ask_of}
 use Rattle.commit_flow.specs.Steps.{Step}
 use Rattle.commit_flow.proofs.CommitLemmas.{says_spent}
@@ -142,16 +142,16 @@ module _ (tells : List (List ℕ) → List File → Outcome → Type 0) (from to
   run_needed refusal stopped says = absurd says
 
   -- hooks that were run to their end begin with all of their parts
-  ran_begun : (reason : List Change → Type 0) → HasRunBut before ask parts reason → HasBegun before ask parts
-  ran_begun reason ran = subst (HasBegun before ask) (sym ran.traced)
+  ran_begun : (reason : List Change → Type 0) → HasRunBut before ask parts reason → HasRunBegun before ask parts
+  ran_begun reason ran = subst (HasRunBegun before ask) (sym ran.traced)
       (record { config = ran.config; runnable = ran.runnable; begun = begun_all ran.config (run_ask_of ask before) before.staged ran.trace ran.out ran.run })
 
   -- and so do those that the store stopped
-  store_begun : (reason : List Change → Type 0) → StoreStopsRun tells from to before ask parts reason → HasBegun before ask parts
+  store_begun : (reason : List Change → Type 0) → StoreStopsRun tells from to before ask parts reason → HasRunBegun before ask parts
   store_begun reason (inl behind) = ran_begun reason behind.0
   store_begun reason (inr begun) = begun
 
-  pub run_begun : (refusal : HostRefusal) → IsStoppedAt tells from to before ask parts contents refusal → IsUnrun from to parts ⊎ HasBegun before ask parts
+  pub run_begun : (refusal : HostRefusal) → IsStoppedAt tells from to before ask parts contents refusal → IsUnrun from to parts ⊎ HasRunBegun before ask parts
   run_begun OutOfMemory stopped = stopped
   run_begun Spent stopped =
       let further = stopped.0 in
@@ -178,7 +178,8 @@ stopped_played tells from to before ask after refusal over = record {
 
 -- ---- a commit
 
-module _ (tells : List (List ℕ) → List File → Outcome → Type 0) (from to : Moment) (before : Repository) (message : List ℕ) (no_verify : Bool) (skip : List (List ℕ)) (parts : List Part) (contents : List (List ℕ)) where
+module _ (tells : List (List ℕ) → List File → Outcome → Type 0) (from to : Moment) (before : Repository) (message : List ℕ) (no_verify : Bool) (skip : List (List ℕ)) (parts : List Part)
+    (contents : List (List ℕ)) where
   pub none_left_out : (reply : Reply) → AreLeftOut tells from to before message no_verify skip parts contents reply → StandsOnAll reply → IsUnrun from to parts
   none_left_out (Refused OutOfMemory) why stands = absurd stands
   none_left_out (Refused (Store fault)) why stands = absurd stands
@@ -187,7 +188,8 @@ module _ (tells : List (List ℕ) → List File → Outcome → Type 0) (from to
   none_left_out (Committed number reports (Stopped refusal)) why stands = absurd stands
   none_left_out reply why stands = why
 
-  pub commit_needed : (reply : Reply) → AreLeftOut tells from to before message no_verify skip parts contents reply → SaysSpent reply → HooksNeedChild before (Commit message no_verify skip) reply to.remembered parts
+  pub commit_needed : (reply : Reply) → AreLeftOut tells from to before message no_verify skip parts contents reply → SaysSpent reply
+      → HooksNeedChild before (Commit message no_verify skip) reply to.remembered parts
   commit_needed (Refused Spent) why says = why
   commit_needed (Committed number reports (Stopped run.Spent)) why says = why
   commit_needed reply why says = absurd says
@@ -198,11 +200,11 @@ module _ (before : Repository) (message : List ℕ) (no_verify : Bool) (skip : L
   begins_so config others configured same begun = subst (HasBegunBefore before message no_verify skip) (sym same) (record { config = config; configured = configured; begun = begun })
 
   failed_begun : (reason : List Change → Type 0) → HasFailedBut before message no_verify skip parts reason → HasBegunBefore before message no_verify skip parts
-  failed_begun reason it = begins_so it.config (parts_of it.told) it.configured it.traced
+  failed_begun reason it = begins_so it.config (parts_of_stages it.told) it.configured it.traced
       (begun_failed it.config (changed_paths before) skip (stages_before_commit no_verify) (course_of before message) it.told it.failed it.last it.run)
 
   verified_begun : (reason : List ℕ → Type 0) → IsVerifiedBut before message no_verify skip parts reason → HasBegunBefore before message no_verify skip parts
-  verified_begun reason it = begins_so it.config (parts_of it.told) it.verified.configured it.traced
+  verified_begun reason it = begins_so it.config (parts_of_stages it.told) it.verified.configured it.traced
       (begun_verified it.config (changed_paths before) skip no_verify (course_of before message) it.told it.verified.left it.verified.passed)
 
   further_begun : (remembered : Contents) → HasFurtherBefore before message no_verify skip remembered parts → HasBegunBefore before message no_verify skip parts
@@ -216,13 +218,15 @@ behind_begun before skip remembered parts it = record {
   begun = begun_before it.config (ask_in (changed_paths before) skip stage.PostCommit) before.staged remembered parts it.needs;
 }
 
-module _ (tells : List (List ℕ) → List File → Outcome → Type 0) (from to : Moment) (before : Repository) (message : List ℕ) (no_verify : Bool) (skip : List (List ℕ)) (parts : List Part) (contents : List (List ℕ)) where
+module _ (tells : List (List ℕ) → List File → Outcome → Type 0) (from to : Moment) (before : Repository) (message : List ℕ) (no_verify : Bool) (skip : List (List ℕ)) (parts : List Part)
+    (contents : List (List ℕ)) where
   store_begun_before : (behind : Type 0) → (behind → HasBegunBefore before message no_verify skip parts) → StoreStopsCommit tells from to before message no_verify skip parts behind
       → HasBegunBefore before message no_verify skip parts
   store_begun_before behind begins (inl whole) = begins whole.0
   store_begun_before behind begins (inr begun) = begun
 
-  pub commit_begun : (reply : Reply) → AreLeftOut tells from to before message no_verify skip parts contents reply → IsUnrun from to parts ⊎ HooksBegin before (Commit message no_verify skip) reply parts
+  pub commit_begun : (reply : Reply) → AreLeftOut tells from to before message no_verify skip parts contents reply
+      → IsUnrun from to parts ⊎ HooksBegin before (Commit message no_verify skip) reply parts
   commit_begun (Refused OutOfMemory) why = why
   commit_begun (Refused Spent) why = inr (further_begun before message no_verify skip parts to.remembered why)
   commit_begun (Refused (Store fault)) why =
@@ -232,14 +236,16 @@ module _ (tells : List (List ℕ) → List File → Outcome → Type 0) (from to
         | inr verified ↦ verified_begun before message no_verify skip parts (IsUnkept before fault) verified
       ]) why)
   commit_begun (Refused Collision) why =
-      inr (store_begun_before (HasFailedBut before message no_verify skip parts (λ fixes. FixCollides fixes contents)) (failed_begun before message no_verify skip parts (λ fixes. FixCollides fixes contents)) why)
+      inr (store_begun_before (HasFailedBut before message no_verify skip parts (λ fixes. FixCollides fixes contents))
+      (failed_begun before message no_verify skip parts (λ fixes. FixCollides fixes contents)) why)
   commit_begun (Committed number reports (Stopped run.Spent)) why = inr (behind_begun before skip to.remembered parts why)
   commit_begun (Committed number reports (Stopped run.OutOfMemory)) why = inr why
   commit_begun (Committed number reports (Stopped (run.Book fault))) why = inr why
   commit_begun (Committed number reports (Stopped run.NoSuchHook)) why = inr why
   commit_begun reply why = inl why
 
-unfoldable pub commit_played : (tells : List (List ℕ) → List File → Outcome → Type 0) (from to : Moment) (before : Repository) (message : List ℕ) (no_verify : Bool) (skip : List (List ℕ)) (reply : Reply) (after : Kept)
+unfoldable pub commit_played : (tells : List (List ℕ) → List File → Outcome → Type 0) (from to : Moment) (before : Repository) (message : List ℕ) (no_verify : Bool) (skip : List (List ℕ))
+    (reply : Reply) (after : Kept)
     → IsCommitStep tells from to before message no_verify skip reply after → IsPlayed tells from to before (Commit message no_verify skip) reply after.repo
 commit_played tells from to before message no_verify skip reply after over = record {
   parts = over.parts;
@@ -257,7 +263,8 @@ commit_played tells from to before message no_verify skip reply after over = rec
 
 -- ---- a list of commands
 
-module _ (tells : List (List ℕ) → List File → Outcome → Type 0) (from to : Moment) (before : Repository) (command : Command) (reply : Reply) (after : Repository) (one : IsPlayed tells from to before command reply after) where
+module _ (tells : List (List ℕ) → List File → Outcome → Type 0) (from to : Moment) (before : Repository) (command : Command) (reply : Reply) (after : Repository)
+    (one : IsPlayed tells from to before command reply after) where
   one_told : IsTold tells from.remembered → AllTold tells one.parts
   one_told book = made_told tells from one.between command reply one.parts one.makes book
 

@@ -55,7 +55,8 @@ one_unchanged tells from to before command reply after one runless =
     (one_unrun tells from to before command reply after one runs).1
     ∙ made_unchanged tells from one.between command reply one.parts one.makes runless (runless_parts before after command reply one.parts one.step runs)
 
-pub all_unchanged : (tells : List (List ℕ) → List File → Outcome → Type 0) (to : Moment) (after : Repository) (from : Moment) (before : Repository) (commands : List Command) (replies : List Reply) (parts : List Part)
+pub all_unchanged : (tells : List (List ℕ) → List File → Outcome → Type 0) (to : Moment) (after : Repository) (from : Moment) (before : Repository) (commands : List Command) (replies : List Reply)
+    (parts : List Part)
     → ArePlayed tells from to before commands replies parts after → All IsRunless commands → to ≡ from
 all_unchanged tells to after from before [] [] parts played runless = played.unmade
 all_unchanged tells to after from before (command ∷ commands) (reply ∷ replies) parts played runless =
@@ -70,7 +71,8 @@ record HasStarted (from to : Moment) (command : Command) (reply : Reply) (parts 
   starts : CommandStarts command reply from.remembered to.remembered parts started
   counted : IsCounted from to started
 
-made_starts : (tells : List (List ℕ) → List File → Outcome → Type 0) (from to : Moment) (command : Command) (reply : Reply) (parts : List Part) → Makes tells from to command reply parts → HasStarted from to command reply parts
+made_starts : (tells : List (List ℕ) → List File → Outcome → Type 0) (from to : Moment) (command : Command) (reply : Reply) (parts : List Part) → Makes tells from to command reply parts
+    → HasStarted from to command reply parts
 made_starts tells from to Forget reply parts makes =
     let called = makes.1.called in
     let faulted = makes.1.faulted in
@@ -82,7 +84,8 @@ one_starts : (tells : List (List ℕ) → List File → Outcome → Type 0) (fro
 one_starts tells from to before command reply after one stands =
     subst (λ (at : Moment). HasStarted from at command reply one.parts) (sym (one.none stands).1) (made_starts tells from one.between command reply one.parts one.makes)
 
-pub all_started : (tells : List (List ℕ) → List File → Outcome → Type 0) (to : Moment) (after : Repository) (from : Moment) (before : Repository) (commands : List Command) (replies : List Reply) (parts : List Part)
+pub all_started : (tells : List (List ℕ) → List File → Outcome → Type 0) (to : Moment) (after : Repository) (from : Moment) (before : Repository) (commands : List Command) (replies : List Reply)
+    (parts : List Part)
     → ArePlayed tells from to before commands replies parts after → All StandsOnAll replies
     → (started : List Part) × PlayStarts before from.remembered commands replies parts started to.remembered after × IsCounted from to started
 all_started tells to after from before [] [] parts played stand = (

@@ -133,8 +133,10 @@ module _ (before : Repository) (ask : HostAsk) where
     ),
   )
   run_way (Refused NoConfig) parts after step unhindered = inl (step.0.0, record { is = refl; left = step.1 })
-  run_way (Refused (BadPath fault)) parts after step unhindered = inr (with_options ask.options step.0.0.0.0, configured_for ask.options before step.0.0.0.0 step.0.0.0.1, inl (BadPath fault, step.0.0.1, record { is = refl; left = step.1 }))
-  run_way (Refused NotStaged) parts after step unhindered = inr (with_options ask.options step.0.0.0.0, configured_for ask.options before step.0.0.0.0 step.0.0.0.1, inl (NotStaged, step.0.0.1, record { is = refl; left = step.1 }))
+  run_way (Refused (BadPath fault)) parts after step unhindered =
+      inr (with_options ask.options step.0.0.0.0, configured_for ask.options before step.0.0.0.0 step.0.0.0.1, inl (BadPath fault, step.0.0.1, record { is = refl; left = step.1 }))
+  run_way (Refused NotStaged) parts after step unhindered =
+      inr (with_options ask.options step.0.0.0.0, configured_for ask.options before step.0.0.0.0 step.0.0.0.1, inl (NotStaged, step.0.0.1, record { is = refl; left = step.1 }))
   run_way (Refused NoSuchHook) parts after step unhindered =
       let none = step.0.0 in inr (none.config, none.configured, inr (none.named, inl (none.unknown, record { is = refl; left = step.1 })))
   run_way (Refused OutOfMemory) parts after step unhindered = absurd unhindered
@@ -156,7 +158,8 @@ module _ (before : Repository) (ask : HostAsk) where
         (clear_as tells parts (all_parts p.trace) p.traced clear) (clear_as tells more (all_parts q.trace) q.traced also) in
         let fixes = ap (changes_between before.staged) same.tree in (
           ap without_memory p.is
-              ∙ ran_as p.out.passed q.out.passed p.out.report q.out.report (changes_between before.staged p.out.tree) (changes_between before.staged q.out.tree) [] [] same.passed same.report fixes refl
+              ∙ ran_as p.out.passed q.out.passed p.out.report q.out.report (changes_between before.staged p.out.tree) (changes_between before.staged q.out.tree) [] [] same.passed same.report fixes
+              refl
               ∙ sym (ap without_memory q.is),
           p.made ∙ ap (λ (changes : List Change). fixing changes before) fixes ∙ sym q.made,
         )

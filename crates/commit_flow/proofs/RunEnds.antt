@@ -27,7 +27,8 @@ use Rattle.commit_flow.proofs.HookCommandLemmas.{hooks_then_done, hooks_then_ref
 use Rattle.commit_flow.proofs.RunLemmas.{IsStoppedShort, ran_reaches, run_step, set_refused, settled}
 use Rattle.commit_flow.proofs.SafeLemmas.{run_safely, stopped_safely}
 
-module _ {S : Type 0} (g : Ghosts S) (tells : List (List ℕ) → List File → Outcome → Type 0) (from : Moment) (calls faults : ℕ) (old between new : Shown S) (entry : from.remembered ≡ remembered_by old.kept)
+module _ {S : Type 0} (g : Ghosts S) (tells : List (List ℕ) → List File → Outcome → Type 0) (from : Moment) (calls faults : ℕ) (old between new : Shown S)
+    (entry : from.remembered ≡ remembered_by old.kept)
     (rest : IsAtRest g old between) (left : LeavesTold tells (remembered_by old.kept) (MayRemember g old) (MayRemember g between))
     (ask : HostAsk) (ready : Prepared) (is : IsPrepared old.kept.repo ask ready) (ran : StagedRun) (has : HasRunReady tells from (moment calls faults (remembered_by between.kept)) ready ran)
     (asked : List Change) (is_asked : asked ≡ ran.changes) where
@@ -56,7 +57,9 @@ module _ {S : Type 0} (g : Ghosts S) (tells : List (List ℕ) → List File → 
   -- the fixes are set
   module _ (done : new.kept ≡ setting asked between.kept) where
     pub set_step : IsRunStep tells from (moment calls faults (remembered_by new.kept)) old.kept.repo ask ran new.kept.repo
-    set_step = subst (λ (after : Kept). IsRunStep tells from (moment calls faults (remembered_by after)) old.kept.repo ask ran after.repo) (sym (settled between.kept new.kept asked ran.changes done is_asked))
+    set_step =
+        subst (λ (after : Kept). IsRunStep tells from (moment calls faults (remembered_by after)) old.kept.repo ask ran after.repo)
+        (sym (settled between.kept new.kept asked ran.changes done is_asked))
         (run_step tells from (moment calls faults (remembered_by between.kept)) old.kept.repo ask ready is ran has between.kept rest.repo)
 
     pub set_safely : {A : Type 0} (x : A) → IsOneChange g between new (Ok x) (setting asked between.kept)

@@ -36,7 +36,7 @@ use Rattle.commit_flow.specs.Configured.{HasReadableConfig}
 use Rattle.commit_flow.specs.Preparations.{HasRunOnStaged, HasRunReady, HasStoppedReady, HaveRun, HaveRunCounted, HaveStopped, IsConfigRefusal, IsPrepared, IsUnprepared, staged_run_of}
 use Rattle.commit_flow.specs.Refusals.{of_run, of_store}
 use Rattle.commit_flow.specs.RunRefusals.{IsRunRefusal}
-use Rattle.commit_flow.specs.RunSteps.{HasBegun, HasRunBut, IsRunStep, IsStoppedAt, IsStoppedStep, IsUnset, StoreStopsRun, reply_of_run}
+use Rattle.commit_flow.specs.RunSteps.{HasRunBegun, HasRunBut, IsRunStep, IsStoppedAt, IsStoppedStep, IsUnset, StoreStopsRun, reply_of_run}
 use Rattle.commit_flow.specs.Stops.{Reaches}
 use Rattle.commit_flow.specs.Runs.{IsNameRefusal, IsNamesRefusal, IsRan, IsRunnable, fixing, names_in, reuse_of, run_ask_of}
 use Rattle.commit_flow.proofs.FixLemmas.{changes_are_staged, setting_is_fixing}
@@ -99,7 +99,8 @@ module _ (tells : List (List ℕ) → List File → Outcome → Type 0) (at : Mo
             ]
       ]
 
-pub unready : (tells : List (List ℕ) → List File → Outcome → Type 0) (at : Moment) (before : Repository) (ask : HostAsk) (after : Kept) (refusal : HostRefusal) → after.repo ≡ before → IsUnprepared before ask refusal
+pub unready : (tells : List (List ℕ) → List File → Outcome → Type 0) (at : Moment) (before : Repository) (ask : HostAsk) (after : Kept) (refusal : HostRefusal) → after.repo ≡ before
+    → IsUnprepared before ask refusal
     → IsStoppedStep tells at at before ask after refusal
 unready tells at before ask after refusal left why =
     let p = early tells at before ask after.contents refusal why in
@@ -119,7 +120,8 @@ never_true : (test : Bool) → (test ≢ true) → test ≡ false
 never_true true never = absurd (never refl)
 never_true false never = refl
 
-pub stopped_if : (refuses : BookFault → Type 0) (tells : List (List ℕ) → List File → Outcome → Type 0) (from to : Moment) (config : Config) (ask : RunAsk) (tree : List File) (result : Result HooksRun RunRefusal)
+pub stopped_if : (refuses : BookFault → Type 0) (tells : List (List ℕ) → List File → Outcome → Type 0) (from to : Moment) (config : Config) (ask : RunAsk) (tree : List File)
+    (result : Result HooksRun RunRefusal)
     → IfErr result (IsStoppedRun tells from to config ask tree) → ((result ≡ Err run.NoSuchHook) ↔ (names_no_hook config ask ≡ true)) → IfErr result (IsOfBook refuses)
     → IfErr result (HaveStopped refuses tells from to config ask tree)
 stopped_if refuses tells from to config ask tree (Ok ran) stopped no_hook refused = tt
@@ -178,12 +180,14 @@ same_prepared : (config : Config) (first second : RunAsk) (tree other : List Fil
 same_prepared config first second tree other asked same = cc
 
 -- A run is refused behind its hooks. Done, it would have made this of the repository.
-pub record IsStoppedShort (tells : List (List ℕ) → List File → Outcome → Type 0) (from to : Moment) (before : Repository) (ask : HostAsk) (after : Kept) (refusal : HostRefusal) (made : Repository) : Type 0 where
+pub record IsStoppedShort (tells : List (List ℕ) → List File → Outcome → Type 0) (from to : Moment) (before : Repository) (ask : HostAsk) (after : Kept) (refusal : HostRefusal)
+    (made : Repository) : Type 0 where
   pub over : IsStoppedStep tells from to before ask after refusal
   pub reaches : Reaches before (Run ask) over.parts made
 
 -- a run that isn't refused reaches what it makes
-pub ran_reaches : (tells : List (List ℕ) → List File → Outcome → Type 0) (from to : Moment) (before : Repository) (ask : HostAsk) (ran : StagedRun) (after : Repository) (over : IsRunStep tells from to before ask ran after)
+pub ran_reaches : (tells : List (List ℕ) → List File → Outcome → Type 0) (from to : Moment) (before : Repository) (ask : HostAsk) (ran : StagedRun) (after : Repository)
+    (over : IsRunStep tells from to before ask ran after)
     → Reaches before (Run ask) over.parts after
 ran_reaches tells from to before ask ran after over = record { first = over.parts; others = []; stretch = sym (append-nil over.parts); reply = reply_of_run ran; done = tt; step = over.step }
 
@@ -243,7 +247,7 @@ module _ (tells : List (List ℕ) → List File → Outcome → Type 0) (from to
         reused = subst (AreReused (all_parts w.run.over.trace) w.run.over.answered.started) (sym (ap (λ (r : StagedRun). r.reused) w.gives)) w.counted;
       }
 
-  begun_all : (ran : StagedRun) (has : HasRunReady tells from to whole ran) → HasBegun before ask (all_parts has.run.over.trace)
+  begun_all : (ran : StagedRun) (has : HasRunReady tells from to whole ran) → HasRunBegun before ask (all_parts has.run.over.trace)
   begun_all ran has =
       let over = has.run.over in
       record {
@@ -252,7 +256,8 @@ module _ (tells : List (List ℕ) → List File → Outcome → Type 0) (from to
         begun = record { trace = over.trace; rest = []; out = has.hooks.out; joined = sym (append-nil (all_parts over.trace)); run = over.run };
       }
 
-  run_but : (ran : StagedRun) (has : HasRunReady tells from to whole ran) (reason : List Change → Type 0) → reason (staged_changes ran.changes before.staged) → HasRunBut before ask (all_parts has.run.over.trace) reason
+  run_but : (ran : StagedRun) (has : HasRunReady tells from to whole ran) (reason : List Change → Type 0) → reason (staged_changes ran.changes before.staged)
+      → HasRunBut before ask (all_parts has.run.over.trace) reason
   run_but ran has reason why = record {
     config = ready.config;
     trace = has.run.over.trace;
@@ -263,7 +268,8 @@ module _ (tells : List (List ℕ) → List File → Outcome → Type 0) (from to
     why = subst reason (staged_fixes ran has) why;
   }
 
-  by_store : (ran : StagedRun) (has : HasRunReady tells from to whole ran) (reason : List Change → Type 0) → reason (staged_changes ran.changes before.staged) → StoreStopsRun tells from to before ask (all_parts has.run.over.trace) reason
+  by_store : (ran : StagedRun) (has : HasRunReady tells from to whole ran) (reason : List Change → Type 0) → reason (staged_changes ran.changes before.staged)
+      → StoreStopsRun tells from to before ask (all_parts has.run.over.trace) reason
   by_store ran has reason why = inl (run_but ran has reason why, has.run.over.answered)
 
   at_store : (ran : StagedRun) (has : HasRunReady tells from to whole ran) (contents : List (List ℕ)) (fault : StoreFault)
@@ -312,14 +318,15 @@ module _ (tells : List (List ℕ) → List File → Outcome → Type 0) (from to
       → IsInner contents have.over.parts (of_run inner)
   by_known contents inner have named =
       let able = runnable (have.known named) in
-      let begun : HasBegun before ask have.over.parts = record { config = ready.config; runnable = able; begun = have.over.begins named } in
+      let begun : HasRunBegun before ask have.over.parts = record { config = ready.config; runnable = able; begun = have.over.begins named } in
       by_stop (IsInner contents have.over.parts) inner named have.of_book
       (tt, inr begun)
       (((ready.config, able), tt), inr begun)
       (λ fault of_fixes. (((ready.config, able), of_fixes), inr begun))
       (λ spent. (((ready.config, able), tt), (record { config = ready.config; runnable = able; needs = have.over.needs spent }, have.over.spent spent)))
 
-  by_inner : (contents : List (List ℕ)) (inner : RunRefusal) (have : HaveStopped RefusesAnswers tells from to ready.config (run_ask_of ask before) before.staged inner) → IsInner contents have.over.parts (of_run inner)
+  by_inner : (contents : List (List ℕ)) (inner : RunRefusal) (have : HaveStopped RefusesAnswers tells from to ready.config (run_ask_of ask before) before.staged inner)
+      → IsInner contents have.over.parts (of_run inner)
   by_inner contents run.NoSuchHook have = (record { config = ready.config; configured = is.configured; named = is.named; unknown = have.unknown refl }, have.over.no_hook refl)
   by_inner contents inner have = by_known contents inner have (λ is. cc)
 

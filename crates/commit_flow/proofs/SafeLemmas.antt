@@ -4,7 +4,7 @@ use Rattle.std.proofs.lemmas.List.{append-nil}
 use Rattle.sqlite_trees.specs.declared.store.Store.{Ghosts}
 use Rattle.sqlite_trees.specs.Tree.{Trees}
 use Rattle.sqlite.specs.Held.{state}
-use Rattle.sqlite.proofs.StateLemmas.{survives_weaker}
+use Rattle.commit_flow.proofs.Kit.{survives_weaker}
 use Rattle.hook_base.specs.declared.file.File.{File}
 use Rattle.child_port.specs.declared.answer.Outcome.{Outcome}
 use Rattle.child_port.specs.Telling.{SameTells}
@@ -36,7 +36,8 @@ use Rattle.commit_flow.proofs.PlayLemmas.{commit_played, play_of, played_back, r
 
 -- ---- one command
 
-module _ {S : Type 0} (g : Ghosts S) (tells : List (List ℕ) → List File → Outcome → Type 0) (from to : Moment) (old new : Shown S) (entry : from.remembered ≡ remembered_by old.kept) (exit : to.remembered ≡ remembered_by new.kept) where
+module _ {S : Type 0} (g : Ghosts S) (tells : List (List ℕ) → List File → Outcome → Type 0) (from to : Moment) (old new : Shown S) (entry : from.remembered ≡ remembered_by old.kept)
+    (exit : to.remembered ≡ remembered_by new.kept) where
   -- a run that isn't refused
   pub run_safely : (ask : HostAsk) (ran : StagedRun) (over : IsRunStep tells from to old.kept.repo ask ran new.kept.repo) → IsCrashSafe g tells old new (Run ask) (reply_of_run ran) over.parts
       → IsPlayedSafely g tells from to old new (Run ask) (reply_of_run ran)
@@ -49,19 +50,22 @@ module _ {S : Type 0} (g : Ghosts S) (tells : List (List ℕ) → List File → 
   }
 
   -- and one that is
-  pub stopped_safely : (ask : HostAsk) (refusal : HostRefusal) (over : IsStoppedStep tells from to old.kept.repo ask new.kept refusal) → IsCrashSafe g tells old new (Run ask) (Refused refusal) over.parts
+  pub stopped_safely : (ask : HostAsk) (refusal : HostRefusal) (over : IsStoppedStep tells from to old.kept.repo ask new.kept refusal)
+      → IsCrashSafe g tells old new (Run ask) (Refused refusal) over.parts
       → IsPlayedSafely g tells from to old new (Run ask) (Refused refusal)
   unfolding stopped_played
   stopped_safely ask refusal over safe = record { entry = entry; exit = exit; played = stopped_played tells from to old.kept.repo ask new.kept refusal over; safe = safe }
 
   -- one whose hooks were stopped
-  pub halted_safely : (ask : HostAsk) (refusal : HostRefusal) → IsStoppedStep tells from to old.kept.repo ask new.kept refusal → IsAtRest g old new → LeavesTold tells (remembered_by old.kept) (MayRemember g old) (MayRemember g new)
+  pub halted_safely : (ask : HostAsk) (refusal : HostRefusal) → IsStoppedStep tells from to old.kept.repo ask new.kept refusal → IsAtRest g old new
+      → LeavesTold tells (remembered_by old.kept) (MayRemember g old) (MayRemember g new)
       → IsPlayedSafely g tells from to old new (Run ask) (Refused refusal)
   halted_safely ask refusal over rest left = stopped_safely ask refusal over (hooks_alone g tells (Run ask) old over.parts new refusal rest left)
 
   module _ (message : List ℕ) (no_verify : Bool) (skip : List (List ℕ)) where
     -- a commit
-    pub commit_safely : (reply : Reply) (over : IsCommitStep tells from to old.kept.repo message no_verify skip reply new.kept) → IsCrashSafe g tells old new (Commit message no_verify skip) reply (over.parts ++ over.left_out)
+    pub commit_safely : (reply : Reply) (over : IsCommitStep tells from to old.kept.repo message no_verify skip reply new.kept)
+        → IsCrashSafe g tells old new (Commit message no_verify skip) reply (over.parts ++ over.left_out)
         → IsPlayedSafely g tells from to old new (Commit message no_verify skip) reply
     unfolding commit_played
     commit_safely reply over safe = record { entry = entry; exit = exit; played = commit_played tells from to old.kept.repo message no_verify skip reply new.kept over; safe = safe }
@@ -93,12 +97,15 @@ module _ {S : Type 0} (g : Ghosts S) (tells : List (List ℕ) → List File → 
       durable = λ done clean trees may. record { kept = new.kept; leaves = one.durable done clean trees may; same = refl };
     }
 
-    pub runless_safely : (¬ RunsHooks command) → Step old.kept.repo command reply [] new.kept.repo → Makes tells from to command reply [] → IsOneCommand g old new command reply → IsPlayedSafely g tells from to old new command reply
+    pub runless_safely : (¬ RunsHooks command) → Step old.kept.repo command reply [] new.kept.repo → Makes tells from to command reply [] → IsOneCommand g old new command reply
+        → IsPlayedSafely g tells from to old new command reply
     unfolding runless_played
-    runless_safely runless step makes one = record { entry = entry; exit = exit; played = runless_played tells from to old.kept.repo new.kept.repo command reply runless step makes; safe = one_safe one }
+    runless_safely runless step makes one =
+        record { entry = entry; exit = exit; played = runless_played tells from to old.kept.repo new.kept.repo command reply runless step makes; safe = one_safe one }
 
 -- over children that tell the same
-module _ {S : Type 0} (g : Ghosts S) (tells next : List (List ℕ) → List File → Outcome → Type 0) (same : SameTells tells next) (from to : Moment) (old new : Shown S) (command : Command) (reply : Reply) where
+module _ {S : Type 0} (g : Ghosts S) (tells next : List (List ℕ) → List File → Outcome → Type 0) (same : SameTells tells next) (from to : Moment) (old new : Shown S) (command : Command)
+    (reply : Reply) where
   stopped_back : (parts : List Part) (trees : Trees) → LeavesStopped g next old command parts trees → LeavesStopped g tells old command parts trees
   stopped_back parts trees left = record {
     kept = left.kept;
@@ -113,7 +120,9 @@ module _ {S : Type 0} (g : Ghosts S) (tells next : List (List ℕ) → List File
   safe_back : (parts : List Part) → IsCrashSafe g next old new command reply parts → IsCrashSafe g tells old new command reply parts
   safe_back parts it = record {
     stands = it.stands;
-    crash = survives_weaker (state g old.conn) (state g new.conn) (LeavesStopped g next old command parts) (LeavesStopped g tells old command parts) (λ _ trees left. stopped_back parts trees left) it.crash;
+    crash =
+        survives_weaker (state g old.conn) (state g new.conn) (LeavesStopped g next old command parts) (LeavesStopped g tells old command parts) (λ _ trees left. stopped_back parts trees left)
+        it.crash;
     durable = it.durable;
   }
 
@@ -134,10 +143,13 @@ module _ {S : Type 0} (g : Ghosts S) (tells : List (List ℕ) → List File → 
       → ArePlayedSafely g tells from to old new (commands ++ command ∷ []) (replies ++ reply ∷ []) (answered ++ (last.played.parts ++ last.played.left_out) ∷ [])
   one_more from at to old mid new [] [] [] command reply so_far last = alone so_far.unmade so_far.same
     where
-      alone : at ≡ from → mid ≡ old → ArePlayedSafelyFrom g tells from old command reply (last.played.parts ++ last.played.left_out) (λ between shown. ArePlayedSafely g tells between to shown new [] [] [])
+      alone : at ≡ from → mid ≡ old → ArePlayedSafelyFrom g tells from old command reply (last.played.parts ++ last.played.left_out)
+          (λ between shown. ArePlayedSafely g tells between to shown new [] [] [])
       alone unmade same =
-          subst (λ (shown : Shown S). ArePlayedSafelyFrom g tells from shown command reply (last.played.parts ++ last.played.left_out) (λ between shown. ArePlayedSafely g tells between to shown new [] [] [])) same
-          (subst (λ (start : Moment). ArePlayedSafelyFrom g tells start mid command reply (last.played.parts ++ last.played.left_out) (λ between shown. ArePlayedSafely g tells between to shown new [] [] [])) unmade
+          subst (λ (shown : Shown S). ArePlayedSafelyFrom g tells from shown command reply (last.played.parts ++ last.played.left_out)
+          (λ between shown. ArePlayedSafely g tells between to shown new [] [] [])) same
+          (subst (λ (start : Moment). ArePlayedSafelyFrom g tells start mid command reply (last.played.parts ++ last.played.left_out)
+          (λ between shown. ArePlayedSafely g tells between to shown new [] [] [])) unmade
           (record { between = to; shown = new; first = last; all = refl; rest = record { unmade = refl; same = refl } }))
   one_more from at to old mid new (first ∷ commands) (reply_first ∷ replies) (own ∷ answered) command reply so_far last = record {
     between = so_far.between;
@@ -152,20 +164,35 @@ module _ {S : Type 0} (g : Ghosts S) (tells : List (List ℕ) → List File → 
   none_safely at shown = record { answered = []; played = record { unmade = refl; same = refl } }
 
   -- commands are played, and then one more, by children that tell the same
-  pub one_more_safely : (next : List (List ℕ) → List File → Outcome → Type 0) → SameTells tells next → (from at to : Moment) (old mid new : Shown S) (commands : List Command) (replies : List Reply) (command : Command) (reply : Reply)
+  pub one_more_safely : (next : List (List ℕ) → List File → Outcome → Type 0) → SameTells tells next
+      → (from at to : Moment) (old mid new : Shown S) (commands : List Command) (replies : List Reply) (command : Command) (reply : Reply)
       → IsSafePlay g tells from at old mid commands replies → IsPlayedSafely g next at to mid new command reply
       → IsSafePlay g tells from to old new (commands ++ command ∷ []) (replies ++ reply ∷ [])
   one_more_safely next same from at to old mid new commands replies command reply so_far last =
       let back = safely_back g tells next same at to mid new command reply last in
-      record { answered = so_far.answered ++ (back.played.parts ++ back.played.left_out) ∷ []; played = one_more from at to old mid new commands replies so_far.answered command reply so_far.played back }
+      record {
+        answered = so_far.answered ++ (back.played.parts ++ back.played.left_out) ∷ [];
+        played = one_more from at to old mid new commands replies so_far.answered command reply so_far.played
+            back;
+      }
 
   -- what is played safely is played, and stands in the tables
   parts_of : (from to : Moment) (old new : Shown S) (commands : List Command) (replies : List Reply) (answered : List (List Part)) → ArePlayedSafely g tells from to old new commands replies answered
       → (parts : List Part) × ArePlayed tells from to old.kept.repo commands replies parts new.kept.repo
   parts_of from to old new [] [] [] played = ([], record { unmade = played.unmade; no_parts = refl; same = ap (λ (shown : Shown S). shown.kept.repo) played.same })
   parts_of from to old new (command ∷ commands) (reply ∷ replies) (own ∷ answered) played =
-      let further = parts_of played.between to played.shown new commands replies answered played.rest in
-      (played.first.played.parts ++ further.0, record { between = played.between; repo_between = played.shown.kept.repo; further = further.0; first = played.first.played; rest = further.1; joined = refl })
+      let further = parts_of played.between to played.shown new commands replies answered played.rest in (
+        played.first.played.parts ++ further.0,
+        record {
+          between = played.between;
+          repo_between = played.shown.kept.repo;
+          further = further.0;
+          first = played.first.played;
+          rest = further.1;
+          joined =
+              refl;
+        },
+      )
   parts_of from to old new commands replies answered played = absurd played
 
   pub play_of_safe : (from to : Moment) (old new : Shown S) (commands : List Command) (replies : List Reply) → IsSafePlay g tells from to old new commands replies

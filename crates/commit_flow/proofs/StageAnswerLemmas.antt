@@ -19,9 +19,9 @@ use Rattle.hook_run.specs.SameRuns.{GiveSame}
 use Rattle.repo_store.specs.Repository.{Repository}
 use Rattle.run_options.specs.declared.options.RunOptions.{RunOptions}
 use Rattle.run_options.specs.Options.{with_options}
-use Rattle.commit_flow.specs.declared.course.Course.{Course}
+use Rattle.commit_flow.specs.declared.commit_state.CommitState.{CommitState}
 use Rattle.commit_flow.specs.declared.reply.PostCommit.TheVariants.{Told}
-use Rattle.commit_flow.specs.CommitStages.{FailedAt, HavePassed, IsStageTold, StageTold, ask_in, course_after, parts_of, reports_of, tree_in}
+use Rattle.commit_flow.specs.CommitStages.{FailedAt, HavePassed, IsStageTold, StageTold, ask_in, course_after, parts_of_stages, reports_of, tree_in}
 use Rattle.commit_flow.specs.Commits.{IsPost}
 use Rattle.commit_flow.specs.Configured.{IsConfigured, IsConfiguredFor, LacksConfig}
 use Rattle.commit_flow.specs.Runs.{changed_paths}
@@ -86,15 +86,15 @@ in_both true first second one two = first one two
 in_both false first second one two = second one two
 
 module _ (tells : List (List ℕ) → List File → Outcome → Type 0) (alone : OneAnswer tells) (config : Config) (changed skip : List (List ℕ)) where
-  same_stage : (stage : Stage) (course : Course) (one two : StageTold)
+  same_stage : (stage : Stage) (course : CommitState) (one two : StageTold)
       → IsStageTold config changed skip stage course one → IsStageTold config changed skip stage course two
       → AreClear tells (all_parts one.trace) → AreClear tells (all_parts two.trace) → GiveSame one.out two.out
   same_stage stage course one two run second clear also = same_out tells alone config (ask_in changed skip stage) (tree_in stage course) one.trace two.trace one.out two.out run second clear also
 
   -- the same is reported and passed on
-  pub same_passed : (stages : List Stage) (course : Course) (told others : List StageTold) (left last : Course)
+  pub same_passed : (stages : List Stage) (course : CommitState) (told others : List StageTold) (left last : CommitState)
       → HavePassed config changed skip stages course told left → HavePassed config changed skip stages course others last
-      → AreClear tells (parts_of told) → AreClear tells (parts_of others) → (reports_of told ≡ reports_of others) × (left ≡ last)
+      → AreClear tells (parts_of_stages told) → AreClear tells (parts_of_stages others) → (reports_of told ≡ reports_of others) × (left ≡ last)
   same_passed [] course [] [] left last passed second clear also = (refl, passed ∙ sym second)
   same_passed [] course [] (two ∷ more) left last passed second clear also = absurd second
   same_passed [] course (one ∷ rest) others left last passed second clear also = absurd passed
@@ -102,57 +102,59 @@ module _ (tells : List (List ℕ) → List File → Outcome → Type 0) (alone :
   same_passed (stage ∷ stages) course (one ∷ rest) [] left last passed second clear also = absurd second
   same_passed (stage ∷ stages) course (one ∷ rest) (two ∷ more) left last passed second clear also =
       let same = same_stage stage course one two passed.0 second.0
-      (clear_front tells (all_parts one.trace) (parts_of rest) clear) (clear_front tells (all_parts two.trace) (parts_of more) also) in
+      (clear_front tells (all_parts one.trace) (parts_of_stages rest) clear) (clear_front tells (all_parts two.trace) (parts_of_stages more) also) in
       let on = subst (λ (tree : List File). HavePassed config changed skip stages (course_after stage course tree) more last) (sym same.tree) second.2 in
       let behind = same_passed stages (course_after stage course one.out.tree) rest more left last passed.2 on
-      (clear_back tells (all_parts one.trace) (parts_of rest) clear) (clear_back tells (all_parts two.trace) (parts_of more) also) in
+      (clear_back tells (all_parts one.trace) (parts_of_stages rest) clear) (clear_back tells (all_parts two.trace) (parts_of_stages more) also) in
       (ap₂ (λ (report : List ℕ) (reports : List (List ℕ)). report ∷ reports) same.report behind.0, behind.1)
 
-  pub not_both : (stages : List Stage) (course : Course) (told others : List StageTold) (left last : Course) (failed : Stage)
+  pub not_both : (stages : List Stage) (course : CommitState) (told others : List StageTold) (left last : CommitState) (failed : Stage)
       → HavePassed config changed skip stages course told left → FailedAt config changed skip stages course others failed last
-      → AreClear tells (parts_of told) → AreClear tells (parts_of others) → ⊥
+      → AreClear tells (parts_of_stages told) → AreClear tells (parts_of_stages others) → ⊥
   not_both [] course told others left last failed passed second clear also = second
   not_both (stage ∷ stages) course [] others left last failed passed second clear also = passed
   not_both (stage ∷ stages) course (one ∷ rest) [] left last failed passed second clear also = second
   not_both (stage ∷ stages) course (one ∷ rest) (two ∷ more) left last failed passed second clear also =
       let same = same_stage stage course one two passed.0 second.0
-      (clear_front tells (all_parts one.trace) (parts_of rest) clear) (clear_front tells (all_parts two.trace) (parts_of more) also) in
+      (clear_front tells (all_parts one.trace) (parts_of_stages rest) clear) (clear_front tells (all_parts two.trace) (parts_of_stages more) also) in
       let further = subst (λ (b : Bool). MatchBool b
       (FailedAt config changed skip stages (course_after stage course two.out.tree) more failed last)
       ((more ≡ []) × (failed ≡ stage) × (last ≡ course_after stage course two.out.tree))) (sym same.passed ∙ passed.1) second.1 in
       let on = subst (λ (tree : List File). FailedAt config changed skip stages (course_after stage course tree) more failed last) (sym same.tree) further in
       not_both stages (course_after stage course one.out.tree) rest more left last failed passed.2 on
-      (clear_back tells (all_parts one.trace) (parts_of rest) clear) (clear_back tells (all_parts two.trace) (parts_of more) also)
+      (clear_back tells (all_parts one.trace) (parts_of_stages rest) clear) (clear_back tells (all_parts two.trace) (parts_of_stages more) also)
 
   -- what follows a stage with this tree, where it passed or not
-  abbrev Follows : Stage → List Stage → Course → Bool → List File → List StageTold → Stage → Course → Type 0
+  abbrev Follows : Stage → List Stage → CommitState → Bool → List File → List StageTold → Stage → CommitState → Type 0
   Follows stage stages course passed tree more failed last = MatchBool passed
       (FailedAt config changed skip stages (course_after stage course tree) more failed last)
       ((more ≡ []) × (failed ≡ stage) × (last ≡ course_after stage course tree))
 
-  pub same_failed : (stages : List Stage) (course : Course) (told others : List StageTold) (left last : Course) (failed other : Stage)
+  pub same_failed : (stages : List Stage) (course : CommitState) (told others : List StageTold) (left last : CommitState) (failed other : Stage)
       → FailedAt config changed skip stages course told failed left → FailedAt config changed skip stages course others other last
-      → AreClear tells (parts_of told) → AreClear tells (parts_of others) → (reports_of told ≡ reports_of others) × (failed ≡ other) × (left ≡ last)
+      → AreClear tells (parts_of_stages told) → AreClear tells (parts_of_stages others) → (reports_of told ≡ reports_of others) × (failed ≡ other) × (left ≡ last)
   same_failed [] course told others left last failed other run second clear also = absurd run
   same_failed (stage ∷ stages) course [] others left last failed other run second clear also = absurd run
   same_failed (stage ∷ stages) course (one ∷ rest) [] left last failed other run second clear also = absurd second
   same_failed (stage ∷ stages) course (one ∷ rest) (two ∷ more) left last failed other run second clear also =
       let same = same_stage stage course one two run.0 second.0
-      (clear_front tells (all_parts one.trace) (parts_of rest) clear) (clear_front tells (all_parts two.trace) (parts_of more) also) in
+      (clear_front tells (all_parts one.trace) (parts_of_stages rest) clear) (clear_front tells (all_parts two.trace) (parts_of_stages more) also) in
       let on = subst (λ (b : Bool). Follows stage stages course b one.out.tree more other last) (sym same.passed)
       (subst (λ (tree : List File). Follows stage stages course two.out.passed tree more other last) (sym same.tree) second.1) in
       let reported = λ (behind : reports_of rest ≡ reports_of more). ap₂ (λ (report : List ℕ) (reports : List (List ℕ)). report ∷ reports) same.report behind in
       in_both one.out.passed
-      (λ (p : FailedAt config changed skip stages (course_after stage course one.out.tree) rest failed left) (q : FailedAt config changed skip stages (course_after stage course one.out.tree) more other last).
+      (λ (p : FailedAt config changed skip stages (course_after stage course one.out.tree) rest failed left)
+      (q : FailedAt config changed skip stages (course_after stage course one.out.tree) more other last).
       let behind = same_failed stages (course_after stage course one.out.tree) rest more left last failed other p q
-      (clear_back tells (all_parts one.trace) (parts_of rest) clear) (clear_back tells (all_parts two.trace) (parts_of more) also) in
+      (clear_back tells (all_parts one.trace) (parts_of_stages rest) clear) (clear_back tells (all_parts two.trace) (parts_of_stages more) also) in
       (reported behind.0, behind.1, behind.2))
       (λ (p : (rest ≡ []) × (failed ≡ stage) × (left ≡ course_after stage course one.out.tree)) (q : (more ≡ []) × (other ≡ stage) × (last ≡ course_after stage course one.out.tree)).
       (reported (ap reports_of (p.0 ∙ sym q.0)), p.1 ∙ sym q.1, p.2 ∙ sym q.2))
       run.1 on
 
 -- the same is reported of the hooks behind a commit
-pub same_post : (tells : List (List ℕ) → List File → Outcome → Type 0) (alone : OneAnswer tells) (config : Config) (before : Repository) (skip : List (List ℕ)) (report other : List ℕ) (parts more : List Part)
+pub same_post : (tells : List (List ℕ) → List File → Outcome → Type 0) (alone : OneAnswer tells) (config : Config) (before : Repository) (skip : List (List ℕ)) (report other : List ℕ)
+    (parts more : List Part)
     → IsPost config before skip (Told report) parts → IsPost config before skip (Told other) more → AreClear tells parts → AreClear tells more → report ≡ other
 same_post tells alone config before skip report other parts more one two clear also =
     let same = same_stage tells alone config (changed_paths before) skip stage.PostCommit (record { tree = before.staged; message = [] }) one.0 two.0 one.1 two.1

@@ -24,11 +24,11 @@ use Rattle.hook_run.specs.RunOuts.{IsBegun, IsRunOut, NeedsChild}
 use Rattle.hook_run.proofs.CompletionLemmas.{begins-at-once}
 use Rattle.commit_flow.specs.declared.commit_stages.StageEnd.{StageEnd}
 use Rattle.commit_flow.specs.declared.commit_stages.StagesEnd.TheVariants.{Passed, Failed}
-use Rattle.commit_flow.specs.declared.course.Course.{Course}
+use Rattle.commit_flow.specs.declared.commit_state.CommitState.{CommitState}
 use Rattle.commit_flow.specs.declared.host_refusal.HostRefusal.{HostRefusal}
 use Rattle.commit_flow.specs.declared.host_refusal.HostRefusal.TheVariants.{OutOfMemory}
 use Rattle.commit_flow.specs.CommitCalls.{AreRunOver, IsHalted, IsRunStopped, IsStageOver}
-use Rattle.commit_flow.specs.CommitStages.{FailedAt, HaveBegun, HaveComeTo, HaveFurther, HavePassed, IsStageTold, StageTold, ask_in, course_after, parts_of, reports_of, stages_before_commit, tree_in}
+use Rattle.commit_flow.specs.CommitStages.{FailedAt, HaveBegun, HaveComeTo, HaveFurther, HavePassed, IsStageTold, StageTold, ask_in, course_after, parts_of_stages, reports_of, stages_before_commit, tree_in}
 use Rattle.commit_flow.specs.Preparations.{HaveRun, HaveStopped}
 use Rattle.commit_flow.specs.Refusals.{of_run}
 use Rattle.commit_flow.proofs.RefusalLemmas.{run_spent}
@@ -48,13 +48,16 @@ module _ (tells next : List (List ℕ) → List File → Outcome → Type 0) (fr
   pub answered_up_to-last : (first : AreAnswered tells reuse.All from between parts) (second : AreAnsweredSoFar next reuse.All between to more) → (answered_up_to first second).last ≡ second.last
   unfolding answered_up_to
   answered_up_to-last first second =
-      so-far-last tells reuse.All from between to parts more first (so-far-back_to tells next same reuse.All between to more second) ∙ so-far-back_to-last tells next same reuse.All between to more second
+      so-far-last tells reuse.All from between to parts more first (so-far-back_to tells next same reuse.All between to more second)
+      ∙ so-far-back_to-last tells next same reuse.All between to more second
 
 -- parts that are all answered are so as far as a run came, and its last part is among them
-pub all_so_far : (tells : List (List ℕ) → List File → Outcome → Type 0) (reuse : Reuse) (from to : Moment) (parts : List Part) → AreAnswered tells reuse from to parts → AreAnsweredSoFar tells reuse from to parts
+pub all_so_far : (tells : List (List ℕ) → List File → Outcome → Type 0) (reuse : Reuse) (from to : Moment) (parts : List Part) → AreAnswered tells reuse from to parts
+    → AreAnsweredSoFar tells reuse from to parts
 all_so_far tells reuse from to parts answered = record { done = parts; last = []; between = to; split = sym (append-nil parts); answered = answered; stopped = inl (refl, refl) }
 
-pub all_so_far-last : (tells : List (List ℕ) → List File → Outcome → Type 0) (reuse : Reuse) (from to : Moment) (parts : List Part) (answered : AreAnswered tells reuse from to parts) → (all_so_far tells reuse from to parts answered).last ≡ []
+pub all_so_far-last : (tells : List (List ℕ) → List File → Outcome → Type 0) (reuse : Reuse) (from to : Moment) (parts : List Part) (answered : AreAnswered tells reuse from to parts)
+    → (all_so_far tells reuse from to parts answered).last ≡ []
 unfolding all_so_far
 all_so_far-last tells reuse from to parts answered = refl
 
@@ -76,7 +79,7 @@ module _ (config : Config) (ask : RunAsk) (tree : List File) where
   }
 
 module _ (config : Config) (changed skip : List (List ℕ)) where
-  begun_at : (remembered : Contents) (stages : List Stage) (course : Course) (told : List StageTold) (own : List Part)
+  begun_at : (remembered : Contents) (stages : List Stage) (course : CommitState) (told : List StageTold) (own : List Part)
       → HaveComeTo (NeedsChild remembered config) config changed skip stages course told own → HaveComeTo (IsBegun config) config changed skip stages course told own
   begun_at remembered [] course told own come = absurd come
   begun_at remembered (stage ∷ stages) course [] own come = begun_before config (ask_in changed skip stage) (tree_in stage course) remembered own come
@@ -84,13 +87,13 @@ module _ (config : Config) (changed skip : List (List ℕ)) where
       (come.0, come.1, begun_at remembered stages (course_after stage course told.out.tree) more own come.2)
 
   -- stages that have a further part behind these begin with these
-  pub have_begun_before : (remembered : Contents) (stages : List Stage) (course : Course) (parts : List Part)
+  pub have_begun_before : (remembered : Contents) (stages : List Stage) (course : CommitState) (parts : List Part)
       → HaveFurther remembered config changed skip stages course parts → HaveBegun config changed skip stages course parts
   have_begun_before remembered stages course parts further =
       record { told = further.told; own = further.own; come = begun_at remembered stages course further.told further.own further.come; traced = further.traced }
 
   -- the first of the stages was run, and begins with all of its parts
-  begun_first : (stage : Stage) (stages : List Stage) (course : Course) (told : StageTold) → IsStageTold config changed skip stage course told
+  begun_first : (stage : Stage) (stages : List Stage) (course : CommitState) (told : StageTold) → IsStageTold config changed skip stage course told
       → HaveBegun config changed skip (stage ∷ stages) course (all_parts told.trace ++ [])
   begun_first stage stages course told run = record {
     told = [];
@@ -100,46 +103,48 @@ module _ (config : Config) (changed skip : List (List ℕ)) where
   }
 
   -- it passed, and those behind it begin with these parts
-  begun_then : (stage : Stage) (stages : List Stage) (course : Course) (told : StageTold) (parts : List Part) → IsStageTold config changed skip stage course told → told.out.passed ≡ true
+  begun_then : (stage : Stage) (stages : List Stage) (course : CommitState) (told : StageTold) (parts : List Part) → IsStageTold config changed skip stage course told → told.out.passed ≡ true
       → HaveBegun config changed skip stages (course_after stage course told.out.tree) parts → HaveBegun config changed skip (stage ∷ stages) course (all_parts told.trace ++ parts)
   begun_then stage stages course told parts run passed rest = record {
     told = told ∷ rest.told;
     own = rest.own;
     come = (run, passed, rest.come);
-    traced = ap (λ (more : List Part). all_parts told.trace ++ more) rest.traced ∙ sym (append_assoc (all_parts told.trace) (parts_of rest.told) rest.own);
+    traced = ap (λ (more : List Part). all_parts told.trace ++ more) rest.traced ∙ sym (append_assoc (all_parts told.trace) (parts_of_stages rest.told) rest.own);
   }
 
   -- stages of which a hook failed in one begin with all of their parts
-  pub begun_failed : (stages : List Stage) (course : Course) (told : List StageTold) (failed : Stage) (last : Course)
-      → FailedAt config changed skip stages course told failed last → HaveBegun config changed skip stages course (parts_of told)
+  pub begun_failed : (stages : List Stage) (course : CommitState) (told : List StageTold) (failed : Stage) (last : CommitState)
+      → FailedAt config changed skip stages course told failed last → HaveBegun config changed skip stages course (parts_of_stages told)
   begun_failed [] course told failed last run = absurd run
   begun_failed (stage ∷ stages) course [] failed last run = absurd run
   begun_failed (stage ∷ stages) course (told ∷ more) failed last run =
       (elim told.out.passed as (λ (b : Bool). told.out.passed ≡ b
       → MatchBool b (FailedAt config changed skip stages (course_after stage course told.out.tree) more failed last) ((more ≡ []) × (failed ≡ stage) × (last ≡ course_after stage course told.out.tree))
-      → HaveBegun config changed skip (stage ∷ stages) course (all_parts told.trace ++ parts_of more)) [
-        | true ↦ λ passed behind. begun_then stage stages course told (parts_of more) run.0 passed (begun_failed stages (course_after stage course told.out.tree) more failed last behind)
-        | false ↦ λ _ ends. subst (λ (rest : List StageTold). HaveBegun config changed skip (stage ∷ stages) course (all_parts told.trace ++ parts_of rest)) (sym ends.0) (begun_first stage stages course told run.0)
+      → HaveBegun config changed skip (stage ∷ stages) course (all_parts told.trace ++ parts_of_stages more)) [
+        | true ↦ λ passed behind. begun_then stage stages course told (parts_of_stages more) run.0 passed (begun_failed stages (course_after stage course told.out.tree) more failed last behind)
+        | false ↦ λ _ ends. subst (λ (rest : List StageTold). HaveBegun config changed skip (stage ∷ stages) course (all_parts told.trace ++ parts_of_stages rest)) (sym ends.0)
+            (begun_first stage stages course told run.0)
       ]) refl run.1
 
-  begun_passed : (stage : Stage) (stages : List Stage) (course : Course) (told : List StageTold) (last : Course)
-      → HavePassed config changed skip (stage ∷ stages) course told last → HaveBegun config changed skip (stage ∷ stages) course (parts_of told)
+  begun_passed : (stage : Stage) (stages : List Stage) (course : CommitState) (told : List StageTold) (last : CommitState)
+      → HavePassed config changed skip (stage ∷ stages) course told last → HaveBegun config changed skip (stage ∷ stages) course (parts_of_stages told)
   begun_passed stage stages course [] last passed = absurd passed
   begun_passed stage [] course (told ∷ []) last passed = begun_first stage [] course told passed.0
   begun_passed stage [] course (told ∷ other ∷ more) last passed = absurd passed.2
   begun_passed stage (next ∷ stages) course (told ∷ more) last passed =
-      begun_then stage (next ∷ stages) course told (parts_of more) passed.0 passed.1 (begun_passed next stages (course_after stage course told.out.tree) more last passed.2)
+      begun_then stage (next ∷ stages) course told (parts_of_stages more) passed.0 passed.1 (begun_passed next stages (course_after stage course told.out.tree) more last passed.2)
 
   -- and so do those before a commit, of which there is one, where they passed
-  pub begun_verified : (no_verify : Bool) (course : Course) (told : List StageTold) (last : Course)
-      → HavePassed config changed skip (stages_before_commit no_verify) course told last → HaveBegun config changed skip (stages_before_commit no_verify) course (parts_of told)
+  pub begun_verified : (no_verify : Bool) (course : CommitState) (told : List StageTold) (last : CommitState)
+      → HavePassed config changed skip (stages_before_commit no_verify) course told last → HaveBegun config changed skip (stages_before_commit no_verify) course (parts_of_stages told)
   begun_verified true course told last passed = begun_passed PrepareCommitMsg [] course told last passed
   begun_verified false course told last passed = begun_passed PreCommit (PrepareCommitMsg ∷ CommitMsg ∷ []) course told last passed
 
 -- ---- what stops hooks
 
 -- memory is refused before any part
-pub stopped_for_memory : (refuses : BookFault → Type 0) (tells : List (List ℕ) → List File → Outcome → Type 0) (at : Moment) (config : Config) (ask : RunAsk) (tree : List File) → IsRunStopped refuses tells at at config ask tree run.OutOfMemory
+pub stopped_for_memory : (refuses : BookFault → Type 0) (tells : List (List ℕ) → List File → Outcome → Type 0) (at : Moment) (config : Config) (ask : RunAsk) (tree : List File)
+    → IsRunStopped refuses tells at at config ask tree run.OutOfMemory
 stopped_for_memory refuses tells at config ask tree = record {
   parts = [];
   answered = so-far tells reuse.All at at [] (answered-none tells reuse.All at);
@@ -187,7 +192,8 @@ module _ (refuses : BookFault → Type 0) (tells : List (List ℕ) → List File
   }
 
   -- memory is refused behind these parts
-  unfoldable pub halted_for_memory : (begins further : List Part → Type 0) (parts : List Part) → begins parts → AreAnswered tells reuse.All from to parts → IsHalted refuses tells from to begins further OutOfMemory
+  unfoldable pub halted_for_memory : (begins further : List Part → Type 0) (parts : List Part) → begins parts → AreAnswered tells reuse.All from to parts
+      → IsHalted refuses tells from to begins further OutOfMemory
   halted_for_memory begins further parts begun answered = record {
     parts = parts;
     answered = so-far tells reuse.All from to parts answered;
@@ -200,7 +206,8 @@ module _ (refuses : BookFault → Type 0) (tells : List (List ℕ) → List File
 
 -- ---- one stage
 
-pub stage_over : (tells : List (List ℕ) → List File → Outcome → Type 0) (from to : Moment) (config : Config) (changed skip : List (List ℕ)) (stage : Stage) (course begun left : Course) (out : RunOut)
+pub stage_over : (tells : List (List ℕ) → List File → Outcome → Type 0) (from to : Moment) (config : Config) (changed skip : List (List ℕ)) (stage : Stage) (course begun left : CommitState)
+    (out : RunOut)
     → begun.tree ≡ tree_in stage course → ((tree : List File) → course_after stage begun tree ≡ course_after stage course tree)
     → HaveRun tells from to config (ask_in changed skip stage) begun.tree out → left ≡ course_after stage begun out.tree
     → IsStageOver tells from to config changed skip stage course (record { passed = out.passed; report = out.report; course = left })
@@ -218,32 +225,35 @@ stage_over tells from to config changed skip stage course begun left out on same
 -- ---- one after another
 
 -- The stages so far have passed. What the others do on what they pass on, all stages do on what was passed to the first.
-pub record AreSoFar (tells : List (List ℕ) → List File → Outcome → Type 0) (from to : Moment) (config : Config) (changed skip : List (List ℕ)) (stages : List Stage) (first : Course)
-    (rest : List Stage) (course : Course) (reports : List (List ℕ)) : Type 0 where
+pub record AreSoFar (tells : List (List ℕ) → List File → Outcome → Type 0) (from to : Moment) (config : Config) (changed skip : List (List ℕ)) (stages : List Stage) (first : CommitState)
+    (rest : List Stage) (course : CommitState) (reports : List (List ℕ)) : Type 0 where
   pub told : List StageTold
-  pub answered : AreAnswered tells reuse.All from to (parts_of told)
+  pub answered : AreAnswered tells reuse.All from to (parts_of_stages told)
   pub reported : reports ≡ reports_of told
-  pub pass : (more : List StageTold) (last : Course) → HavePassed config changed skip rest course more last → HavePassed config changed skip stages first (told ++ more) last
-  pub begins : (more : List StageTold) (own : List Part) → HaveComeTo (IsBegun config) config changed skip rest course more own → HaveComeTo (IsBegun config) config changed skip stages first (told ++ more) own
+  pub pass : (more : List StageTold) (last : CommitState) → HavePassed config changed skip rest course more last → HavePassed config changed skip stages first (told ++ more) last
+  pub begins : (more : List StageTold) (own : List Part) → HaveComeTo (IsBegun config) config changed skip rest course more own
+      → HaveComeTo (IsBegun config) config changed skip stages first (told ++ more) own
   pub stop : (remembered : Contents) (more : List StageTold) (own : List Part)
       → HaveComeTo (NeedsChild remembered config) config changed skip rest course more own → HaveComeTo (NeedsChild remembered config) config changed skip stages first (told ++ more) own
-  pub fail : (more : List StageTold) (failed : Stage) (last : Course) → FailedAt config changed skip rest course more failed last → FailedAt config changed skip stages first (told ++ more) failed last
+  pub fail : (more : List StageTold) (failed : Stage) (last : CommitState) → FailedAt config changed skip rest course more failed last
+      → FailedAt config changed skip stages first (told ++ more) failed last
 
 pub rest_after : (stages : List Stage) (index : ℕ) (other : Stage) → index < length stages → drop index stages ≡ get_or stages index other ∷ drop (index + 1) stages
 rest_after stages index other within =
     let next : suc index ≡ index + 1 = omega arith in
     subst (λ (n : ℕ). drop index stages ≡ get_or stages index other ∷ drop n stages) next (drop-cons stages index other within)
 
-parts_of-more : (told : List StageTold) (one : StageTold) → parts_of (told ++ one ∷ []) ≡ parts_of told ++ all_parts one.trace
+parts_of-more : (told : List StageTold) (one : StageTold) → parts_of_stages (told ++ one ∷ []) ≡ parts_of_stages told ++ all_parts one.trace
 parts_of-more [] one = append-nil (all_parts one.trace)
 parts_of-more (first ∷ told) one =
-    ap (λ rest. all_parts first.trace ++ rest) (parts_of-more told one) ∙ sym (append_assoc (all_parts first.trace) (parts_of told) (all_parts one.trace))
+    ap (λ rest. all_parts first.trace ++ rest) (parts_of-more told one) ∙ sym (append_assoc (all_parts first.trace) (parts_of_stages told) (all_parts one.trace))
 
 reports_of-more : (told : List StageTold) (one : StageTold) → reports_of (told ++ one ∷ []) ≡ reports_of told ++ one.out.report ∷ []
 reports_of-more [] one = refl
 reports_of-more (first ∷ told) one = ap (λ rest. first.out.report ∷ rest) (reports_of-more told one)
 
-pub none_so_far : (tells : List (List ℕ) → List File → Outcome → Type 0) (at : Moment) (config : Config) (changed skip : List (List ℕ)) (stages : List Stage) (course : Course) (reports : List (List ℕ))
+pub none_so_far : (tells : List (List ℕ) → List File → Outcome → Type 0) (at : Moment) (config : Config) (changed skip : List (List ℕ)) (stages : List Stage) (course : CommitState)
+    (reports : List (List ℕ))
     → reports ≡ [] → AreSoFar tells at at config changed skip stages course stages course reports
 none_so_far tells at config changed skip stages course reports none = record {
   told = [];
@@ -255,11 +265,12 @@ none_so_far tells at config changed skip stages course reports none = record {
   fail = λ more failed last run. run;
 }
 
-module _ (tells next : List (List ℕ) → List File → Outcome → Type 0) (from between to : Moment) (config : Config) (changed skip : List (List ℕ)) (stages : List Stage) (first : Course)
-    (left rest : List Stage) (stage : Stage) (course : Course) (reports : List (List ℕ))
+module _ (tells next : List (List ℕ) → List File → Outcome → Type 0) (from between to : Moment) (config : Config) (changed skip : List (List ℕ)) (stages : List Stage) (first : CommitState)
+    (left rest : List Stage) (stage : Stage) (course : CommitState) (reports : List (List ℕ))
     (same : SameTells tells next) (so_far : AreSoFar tells from between config changed skip stages first left course reports) (is : left ≡ stage ∷ rest) where
   -- the next stage begins with these parts of its own
-  begun_so_far : (parts own : List Part) → IsBegun config (ask_in changed skip stage) (tree_in stage course) own → parts ≡ parts_of so_far.told ++ own → HaveBegun config changed skip stages first parts
+  begun_so_far : (parts own : List Part) → IsBegun config (ask_in changed skip stage) (tree_in stage course) own → parts ≡ parts_of_stages so_far.told ++ own
+      → HaveBegun config changed skip stages first parts
   begun_so_far parts own begun traced = record {
     told = so_far.told;
     own = own;
@@ -273,9 +284,9 @@ module _ (tells next : List (List ℕ) → List File → Outcome → Type 0) (fr
     abbrev all : List StageTold
     all = so_far.told ++ over.told ∷ []
 
-    answered_now : AreAnswered tells reuse.All from to (parts_of all)
+    answered_now : AreAnswered tells reuse.All from to (parts_of_stages all)
     answered_now = subst (AreAnswered tells reuse.All from to) (sym (parts_of-more so_far.told over.told))
-        (answered_then tells next from between to (parts_of so_far.told) (all_parts over.told.trace) same so_far.answered over.answered)
+        (answered_then tells next from between to (parts_of_stages so_far.told) (all_parts over.told.trace) same so_far.answered over.answered)
 
     reported_now : reports_after ≡ reports_of all
     reported_now =
@@ -289,16 +300,18 @@ module _ (tells next : List (List ℕ) → List File → Outcome → Type 0) (fr
       reported = reported_now;
       pass = λ more last passed_then. subst (λ (told : List StageTold). HavePassed config changed skip stages first told last) (sym (append_assoc so_far.told (over.told ∷ []) more))
           (so_far.pass (over.told ∷ more) last (subst (λ (on : List Stage). HavePassed config changed skip on course (over.told ∷ more) last) (sym is)
-          (over.run, sym over.passed ∙ passed, subst (λ (on : Course). HavePassed config changed skip rest on more last) over.left passed_then)));
+          (over.run, sym over.passed ∙ passed, subst (λ (on : CommitState). HavePassed config changed skip rest on more last) over.left passed_then)));
       begins = λ more own come. subst (λ (told : List StageTold). HaveComeTo (IsBegun config) config changed skip stages first told own) (sym (append_assoc so_far.told (over.told ∷ []) more))
           (so_far.begins (over.told ∷ more) own (subst (λ (on : List Stage). HaveComeTo (IsBegun config) config changed skip on course (over.told ∷ more) own) (sym is)
-          (over.run, sym over.passed ∙ passed, subst (λ (on : Course). HaveComeTo (IsBegun config) config changed skip rest on more own) over.left come)));
-      stop = λ remembered more own come. subst (λ (told : List StageTold). HaveComeTo (NeedsChild remembered config) config changed skip stages first told own) (sym (append_assoc so_far.told (over.told ∷ []) more))
+          (over.run, sym over.passed ∙ passed, subst (λ (on : CommitState). HaveComeTo (IsBegun config) config changed skip rest on more own) over.left come)));
+      stop =
+          λ remembered more own come. subst (λ (told : List StageTold). HaveComeTo (NeedsChild remembered config) config changed skip stages first told own)
+          (sym (append_assoc so_far.told (over.told ∷ []) more))
           (so_far.stop remembered (over.told ∷ more) own (subst (λ (on : List Stage). HaveComeTo (NeedsChild remembered config) config changed skip on course (over.told ∷ more) own) (sym is)
-          (over.run, sym over.passed ∙ passed, subst (λ (on : Course). HaveComeTo (NeedsChild remembered config) config changed skip rest on more own) over.left come)));
+          (over.run, sym over.passed ∙ passed, subst (λ (on : CommitState). HaveComeTo (NeedsChild remembered config) config changed skip rest on more own) over.left come)));
       fail = λ more failed last failed_then. subst (λ (told : List StageTold). FailedAt config changed skip stages first told failed last) (sym (append_assoc so_far.told (over.told ∷ []) more))
           (so_far.fail (over.told ∷ more) failed last (subst (λ (on : List Stage). FailedAt config changed skip on course (over.told ∷ more) failed last) (sym is)
-          (over.run, rw (sym over.passed ∙ passed) (subst (λ (on : Course). FailedAt config changed skip rest on more failed last) over.left failed_then))));
+          (over.run, rw (sym over.passed ∙ passed) (subst (λ (on : CommitState). FailedAt config changed skip rest on more failed last) over.left failed_then))));
     }
 
     pub one_failed : end.passed ≡ false → AreRunOver tells from to config changed skip stages first (Failed stage reports_after end.course)
@@ -310,35 +323,39 @@ module _ (tells next : List (List ℕ) → List File → Outcome → Type 0) (fr
       reported = reported_now;
     }
 
-    begun_now : HaveBegun config changed skip stages first (parts_of all)
+    begun_now : HaveBegun config changed skip stages first (parts_of_stages all)
     begun_now =
-        begun_so_far (parts_of all) (all_parts over.told.trace) (begun_all config (ask_in changed skip stage) (tree_in stage course) over.told.trace over.told.out over.run) (parts_of-more so_far.told over.told)
+        begun_so_far (parts_of_stages all) (all_parts over.told.trace) (begun_all config (ask_in changed skip stage) (tree_in stage course) over.told.trace over.told.out over.run)
+        (parts_of-more so_far.told over.told)
 
     pub one_lost : (refuses : BookFault → Type 0) → IsHalted refuses tells from to (HaveBegun config changed skip stages first) (HaveFurther to.remembered config changed skip stages first) OutOfMemory
-    one_lost refuses = halted_for_memory refuses tells from to (HaveBegun config changed skip stages first) (HaveFurther to.remembered config changed skip stages first) (parts_of all) begun_now answered_now
+    one_lost refuses =
+        halted_for_memory refuses tells from to (HaveBegun config changed skip stages first) (HaveFurther to.remembered config changed skip stages first) (parts_of_stages all) begun_now answered_now
 
   -- the next stage is stopped
   pub one_halted : (refuses : BookFault → Type 0) (refusal : HostRefusal)
-      → IsHalted refuses next between to (IsBegun config (ask_in changed skip stage) (tree_in stage course)) (NeedsChild to.remembered config (ask_in changed skip stage) (tree_in stage course)) refusal
+      → IsHalted refuses next between to (IsBegun config (ask_in changed skip stage) (tree_in stage course)) (NeedsChild to.remembered config (ask_in changed skip stage) (tree_in stage course))
+      refusal
       → IsHalted refuses tells from to (HaveBegun config changed skip stages first) (HaveFurther to.remembered config changed skip stages first) refusal
   one_halted refuses refusal halted = record {
-    parts = parts_of so_far.told ++ halted.parts;
-    answered = answered_up_to tells next from between to (parts_of so_far.told) halted.parts same so_far.answered halted.answered;
-    begun = begun_so_far (parts_of so_far.told ++ halted.parts) halted.parts halted.begun refl;
+    parts = parts_of_stages so_far.told ++ halted.parts;
+    answered = answered_up_to tells next from between to (parts_of_stages so_far.told) halted.parts same so_far.answered halted.answered;
+    begun = begun_so_far (parts_of_stages so_far.told ++ halted.parts) halted.parts halted.begun refl;
     why = halted.why;
     needs = λ spent. record {
       told = so_far.told;
       own = halted.parts;
       come = subst (λ (told : List StageTold). HaveComeTo (NeedsChild to.remembered config) config changed skip stages first told halted.parts) (append-nil so_far.told)
-          (so_far.stop to.remembered [] halted.parts (subst (λ (on : List Stage). HaveComeTo (NeedsChild to.remembered config) config changed skip on course [] halted.parts) (sym is) (halted.needs spent)));
+          (so_far.stop to.remembered [] halted.parts (subst (λ (on : List Stage). HaveComeTo (NeedsChild to.remembered config) config changed skip on course [] halted.parts) (sym is)
+          (halted.needs spent)));
       traced = refl;
     };
-    put = λ spent. answered_up_to-last tells next from between to (parts_of so_far.told) halted.parts same so_far.answered halted.answered ∙ halted.put spent;
+    put = λ spent. answered_up_to-last tells next from between to (parts_of_stages so_far.told) halted.parts same so_far.answered halted.answered ∙ halted.put spent;
     spent = halted.spent;
   }
 
-pub all_passed : (tells : List (List ℕ) → List File → Outcome → Type 0) (from to : Moment) (config : Config) (changed skip : List (List ℕ)) (stages : List Stage) (first : Course)
-    (left : List Stage) (course : Course) (reports : List (List ℕ)) → AreSoFar tells from to config changed skip stages first left course reports → left ≡ []
+pub all_passed : (tells : List (List ℕ) → List File → Outcome → Type 0) (from to : Moment) (config : Config) (changed skip : List (List ℕ)) (stages : List Stage) (first : CommitState)
+    (left : List Stage) (course : CommitState) (reports : List (List ℕ)) → AreSoFar tells from to config changed skip stages first left course reports → left ≡ []
     → AreRunOver tells from to config changed skip stages first (Passed reports course)
 all_passed tells from to config changed skip stages first left course reports so_far is = record {
   told = so_far.told;

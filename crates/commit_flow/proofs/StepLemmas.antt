@@ -28,7 +28,8 @@ module _ (before : Repository) (path bytes : List ℕ) (asked : Option Mode) whe
   abbrev AddWay : HostRefusal → Type 0
   AddWay r =
       ((fault : PathFault) × (path_fault path ≡ Some fault) × (r ≡ BadPath fault))
-      ⊎ ((IsLegal path × (¬ IsSmall bytes) × (r ≡ TooLarge)) ⊎ ((IsLegal path × IsSmall bytes × Clashes path before.staged × (r ≡ Clash)) ⊎ (IsAddable before path bytes × (¬ Fits (tree_with before path bytes asked)) × (r ≡ TooMany))))
+      ⊎ ((IsLegal path × (¬ IsSmall bytes) × (r ≡ TooLarge)) ⊎ ((IsLegal path × IsSmall bytes × Clashes path before.staged × (r ≡ Clash))
+      ⊎ (IsAddable before path bytes × (¬ Fits (tree_with before path bytes asked)) × (r ≡ TooMany))))
 
   add_way : (r : HostRefusal) → IsAddRefusal before path bytes asked r → IsDecided (Refused r) → AddWay r
   add_way (BadPath fault) why own = inl (fault, why, refl)
@@ -100,10 +101,13 @@ not_accepted before r some why own = some ((no_fixes before r why own).0)
 abbrev pub AreOne : Reply → Reply → List Part → List Part → Repository → Repository → Type 0
 AreOne reply second parts more after other = (reply ≡ second) × (parts ≡ more) × (after ≡ other)
 
-pub one_answer : (before after other : Repository) (command : Command) (reply second : Reply) (parts more : List Part) → Step before command reply parts after → Step before command second more other → IsRunless command → IsDecided reply → IsDecided second → AreOne reply second parts more after other
+pub one_answer : (before after other : Repository) (command : Command) (reply second : Reply) (parts more : List Part) → Step before command reply parts after → Step before command second more other
+    → IsRunless command → IsDecided reply → IsDecided second → AreOne reply second parts more after other
 one_answer before after other (Add path bytes asked) Added Added parts more p q runless own also = (refl, p.1 ∙ sym q.1, p.0.made ∙ sym q.0.made)
-one_answer before after other (Add path bytes asked) Added (Refused s) parts more p q runless own also = absurd (not_added before path bytes asked s p.0.addable p.0.fits (add_way before path bytes asked s q.0.0 also))
-one_answer before after other (Add path bytes asked) (Refused r) Added parts more p q runless own also = absurd (not_added before path bytes asked r q.0.addable q.0.fits (add_way before path bytes asked r p.0.0 own))
+one_answer before after other (Add path bytes asked) Added (Refused s) parts more p q runless own also =
+    absurd (not_added before path bytes asked s p.0.addable p.0.fits (add_way before path bytes asked s q.0.0 also))
+one_answer before after other (Add path bytes asked) (Refused r) Added parts more p q runless own also =
+    absurd (not_added before path bytes asked r q.0.addable q.0.fits (add_way before path bytes asked r p.0.0 own))
 one_answer before after other (Add path bytes asked) (Refused r) (Refused s) parts more p q runless own also =
     (ap Refused (same_add before path bytes asked r s (add_way before path bytes asked r p.0.0 own) (add_way before path bytes asked s q.0.0 also)), p.0.1 ∙ sym q.0.1, p.1 ∙ sym q.1)
 one_answer before after other (Remove path) Removed Removed parts more p q runless own also = (refl, p.1 ∙ sym q.1, p.0.made ∙ sym q.0.made)

@@ -61,7 +61,8 @@ module _ {S : Type 0} (g : Ghosts S) (tells : List (List ℕ) → List File → 
   abbrev AllTold : Shown S → Type 0
   AllTold shown = (book : Contents) → MayRemember g shown book → IsTold tells book
 
-  module _ (from to : Moment) (old new : Shown S) (command : Command) (reply : Reply) (one : IsPlayedSafely g tells from to old new command reply) (told : IsTold tells (remembered_by old.kept)) (all : AllTold old) where
+  module _ (from to : Moment) (old new : Shown S) (command : Command) (reply : Reply) (one : IsPlayedSafely g tells from to old new command reply) (told : IsTold tells (remembered_by old.kept))
+      (all : AllTold old) where
     stopped_told : (parts : List Part) (trees : Trees) (left : LeavesStopped g tells old command parts trees) → IsTold tells (remembered_by left.kept)
     stopped_told parts trees left = elim left.book [
       | inl earlier ↦ all (remembered_by left.kept) earlier
@@ -76,7 +77,9 @@ module _ {S : Type 0} (g : Ghosts S) (tells : List (List ℕ) → List File → 
     ]
 
     told_then : IsTold tells (remembered_by new.kept)
-    told_then = subst (IsTold tells) one.exit (told-adds tells from.remembered to.remembered (subst (IsTold tells) (sym one.entry) told) (one_adds tells from to old.kept.repo command reply new.kept.repo one.played))
+    told_then =
+        subst (IsTold tells) one.exit (told-adds tells from.remembered to.remembered (subst (IsTold tells) (sym one.entry) told)
+        (one_adds tells from to old.kept.repo command reply new.kept.repo one.played))
 
   all_told : (from to : Moment) (old new : Shown S) (commands : List Command) (replies : List Reply) (answered : List (List Part)) → ArePlayedSafely g tells from to old new commands replies answered
       → IsTold tells (remembered_by old.kept) → AllTold old → AllTold new
@@ -96,7 +99,8 @@ module _ {S : Type 0} (g : Ghosts S) (tells : List (List ℕ) → List File → 
     pub left : IsLeftOf before commands replies answered kept.repo
 
   -- none of the commands is made
-  none_made : (before : Repository) (commands : List Command) (replies : List Reply) (answered : List (List Part)) (left : Repository) → AreRefused replies → (left ≡ before) ⊎ IsReachedNext before commands answered left
+  none_made : (before : Repository) (commands : List Command) (replies : List Reply) (answered : List (List Part)) (left : Repository) → AreRefused replies
+      → (left ≡ before) ⊎ IsReachedNext before commands answered left
       → IsLeftOf before commands replies answered left
   none_made before commands replies answered left refused more = record {
     made = [];
@@ -115,7 +119,8 @@ module _ {S : Type 0} (g : Ghosts S) (tells : List (List ℕ) → List File → 
   }
 
   -- the first is made, and then some of the others
-  first_made : (before between : Repository) (command : Command) (commands : List Command) (reply : Reply) (replies : List Reply) (own : List Part) (answered : List (List Part)) (left : Repository) → IsStepOver before command reply own between
+  first_made : (before between : Repository) (command : Command) (commands : List Command) (reply : Reply) (replies : List Reply) (own : List Part) (answered : List (List Part)) (left : Repository)
+      → IsStepOver before command reply own between
       → IsLeftOf between commands replies answered left → IsLeftOf before (command ∷ commands) (reply ∷ replies) (own ∷ answered) left
   first_made before between command commands reply replies own answered left step rest = record {
     made = command ∷ rest.made;
@@ -133,7 +138,8 @@ module _ {S : Type 0} (g : Ghosts S) (tells : List (List ℕ) → List File → 
     more = rest.more;
   }
 
-  step_over : (from to : Moment) (old new : Shown S) (command : Command) (reply : Reply) (own : List Part) (one : IsPlayedSafely g tells from to old new command reply) → own ≡ one.played.parts ++ one.played.left_out
+  step_over : (from to : Moment) (old new : Shown S) (command : Command) (reply : Reply) (own : List Part) (one : IsPlayedSafely g tells from to old new command reply)
+      → own ≡ one.played.parts ++ one.played.left_out
       → IsStepOver old.kept.repo command reply own new.kept.repo
   step_over from to old new command reply own one all = record { first = one.played.parts; others = one.played.left_out; stretch = all; step = one.played.step }
 
@@ -142,8 +148,10 @@ module _ {S : Type 0} (g : Ghosts S) (tells : List (List ℕ) → List File → 
   AreLeftSo old commands replies answered trees = ((state g old.conn).may_leave trees × AreRefused replies) ⊎ IsLeftSo old.kept.repo commands replies answered trees
 
   -- one command, and then others that were refused
-  module _ (from to : Moment) (old new : Shown S) (command : Command) (reply : Reply) (own : List Part) (one : IsPlayedSafely g tells from to old new command reply) (all : own ≡ one.played.parts ++ one.played.left_out)
-      (commands : List Command) (replies : List Reply) (answered : List (List Part)) (clean : HasCleanDisk (state g new.conn)) (trees : Trees) (may : (state g new.conn).may_leave trees) (refused : AreRefused replies) where
+  module _ (from to : Moment) (old new : Shown S) (command : Command) (reply : Reply) (own : List Part) (one : IsPlayedSafely g tells from to old new command reply)
+      (all : own ≡ one.played.parts ++ one.played.left_out)
+      (commands : List Command) (replies : List Reply) (answered : List (List Part)) (clean : HasCleanDisk (state g new.conn)) (trees : Trees) (may : (state g new.conn).may_leave trees)
+      (refused : AreRefused replies) where
     first_done : IsDone reply → IsLeftSo old.kept.repo (command ∷ commands) (reply ∷ replies) (own ∷ answered) trees
     first_done done =
         let left = one.safe.durable done clean trees may in
@@ -180,7 +188,9 @@ module _ {S : Type 0} (g : Ghosts S) (tells : List (List ℕ) → List File → 
         | inr later ↦ inr (record {
           kept = later.kept;
           leaves = later.leaves;
-          left = first_made old.kept.repo played.shown.kept.repo command commands reply replies own answered later.kept.repo (step_over from played.between old played.shown command reply own played.first played.all) later.left;
+          left =
+              first_made old.kept.repo played.shown.kept.repo command commands reply replies own answered later.kept.repo
+              (step_over from played.between old played.shown command reply own played.first played.all) later.left;
         })
       ]
   left_so from to old new commands replies answered played clean trees may = absurd played
@@ -221,7 +231,8 @@ module _ {S : Type 0} (g : Ghosts S) (tells : List (List ℕ) → List File → 
     session_leaves : (left_kept : Kept) × Leaves left_kept left × IsLeftOf kept.repo session.commands session.replies session.answered left_kept.repo × IsTold tells (remembered_by left_kept)
     session_leaves = (left_session.kept, left_session.leaves, session_left, session_told)
 
-  pub sessions_left : (found left : Trees) (sessions : List Session) (kept : Kept) → Leaves kept found → IsTold tells (remembered_by kept) → AreSessions g tells found sessions left → LeavesSessions tells kept.repo sessions left
+  pub sessions_left : (found left : Trees) (sessions : List Session) (kept : Kept) → Leaves kept found → IsTold tells (remembered_by kept) → AreSessions g tells found sessions left
+      → LeavesSessions tells kept.repo sessions left
   sessions_left found left [] kept leaves told all = record { kept = kept; leaves = subst (Leaves kept) (sym all) leaves; left = refl; book = told }
   sessions_left found left (session ∷ sessions) kept leaves told all =
       let first = session_leaves found all.0 session all.1 kept leaves told in

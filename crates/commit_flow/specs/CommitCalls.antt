@@ -26,7 +26,7 @@ use Rattle.repo_store.specs.Repository.{Repository}
 use Rattle.repo_store.specs.Shown.{Leaves, LeavesOnly, Shown, Stands}
 use Rattle.commit_flow.specs.declared.commit.Through.{Through}
 use Rattle.commit_flow.specs.declared.commit_begun.CommitBegun.{CommitBegun}
-use Rattle.commit_flow.specs.declared.course.Course.{Course}
+use Rattle.commit_flow.specs.declared.commit_state.CommitState.{CommitState}
 use Rattle.commit_flow.specs.declared.commit_stages.StageEnd.{StageEnd}
 use Rattle.commit_flow.specs.declared.commit_stages.StagesEnd.{StagesEnd}
 use Rattle.commit_flow.specs.declared.commit_stages.StagesEnd.TheVariants.{Passed, Failed}
@@ -34,7 +34,7 @@ use Rattle.commit_flow.specs.declared.host_refusal.HostRefusal.{HostRefusal}
 use Rattle.commit_flow.specs.declared.host_refusal.HostRefusal.TheVariants.{OutOfMemory, Store, Spent, TooLarge, TooMany, NothingStaged, NoConfig, BadConfig, EmptyMessage, Collision}
 use Rattle.commit_flow.specs.declared.reply.PostCommit.{PostCommit}
 use Rattle.commit_flow.specs.declared.reply.PostCommit.TheVariants.{Told, Stopped}
-use Rattle.commit_flow.specs.CommitStages.{FailedAt, HaveBegun, HaveFurther, HavePassed, IsStageTold, StageTold, ask_in, course_after, course_of, parts_of, reports_of, stages_before_commit}
+use Rattle.commit_flow.specs.CommitStages.{FailedAt, HaveBegun, HaveFurther, HavePassed, IsStageTold, StageTold, ask_in, course_after, course_of, parts_of_stages, reports_of, stages_before_commit}
 use Rattle.commit_flow.specs.Commits.{HasNothingNew, IsCommittable}
 use Rattle.commit_flow.specs.Configured.{IsConfigured, IsMisconfigured, LacksConfig}
 use Rattle.commit_flow.specs.Refusals.{of_run}
@@ -46,7 +46,8 @@ use Rattle.commit_flow.specs.CommitSteps.{IsUnkept}
 -- ---- one run
 
 -- the hooks of a stage were stopped; the book may refuse with these faults
-pub record IsRunStopped (refuses : BookFault → Type 0) (tells : List (List ℕ) → List File → Outcome → Type 0) (from to : Moment) (config : Config) (ask : RunAsk) (tree : List File) (refusal : RunRefusal) : Type 0 where
+pub record IsRunStopped (refuses : BookFault → Type 0) (tells : List (List ℕ) → List File → Outcome → Type 0)
+    (from to : Moment) (config : Config) (ask : RunAsk) (tree : List File) (refusal : RunRefusal) : Type 0 where
   pub parts : List Part
   pub answered : AreAnsweredSoFar tells reuse.All from to parts
   pub begun : IsBegun config ask tree parts
@@ -67,7 +68,8 @@ pub record IsHalt (refuses : BookFault → Type 0) (refusal : HostRefusal) : Typ
 
 -- The hooks were stopped, and begin with the parts that were answered by then. If the children are spent,
 -- there is a further part.
-pub record IsHalted (refuses : BookFault → Type 0) (tells : List (List ℕ) → List File → Outcome → Type 0) (from to : Moment) (begins further : List Part → Type 0) (refusal : HostRefusal) : Type 0 where
+pub record IsHalted (refuses : BookFault → Type 0) (tells : List (List ℕ) → List File → Outcome → Type 0)
+    (from to : Moment) (begins further : List Part → Type 0) (refusal : HostRefusal) : Type 0 where
   pub parts : List Part
   pub answered : AreAnsweredSoFar tells reuse.All from to parts
   pub begun : begins parts
@@ -78,7 +80,8 @@ pub record IsHalted (refuses : BookFault → Type 0) (tells : List (List ℕ) �
 
 -- the hooks of a stage were run, and this is passed on
 pub record IsStageOver (tells : List (List ℕ) → List File → Outcome → Type 0) (from to : Moment)
-    (config : Config) (changed skip : List (List ℕ)) (stage : Stage) (course : Course) (end : StageEnd) : Type 0 where
+    (config : Config) (changed skip : List (List ℕ)) (stage : Stage) (course : CommitState)
+    (end : StageEnd) : Type 0 where
   pub told : StageTold
   pub run : IsStageTold config changed skip stage course told
   pub answered : AreAnswered tells reuse.All from to (all_parts told.trace)
@@ -91,11 +94,12 @@ pub record AreStagesOver (tells : List (List ℕ) → List File → Outcome → 
     (reports : List (List ℕ)) (ran : List StageTold → Type 0) : Type 0 where
   pub told : List StageTold
   pub ran_so : ran told
-  pub answered : AreAnswered tells reuse.All from to (parts_of told)
+  pub answered : AreAnswered tells reuse.All from to (parts_of_stages told)
   pub reported : reports ≡ reports_of told
 
 -- the stages were run in order, up to the first that failed
-abbrev pub AreRunOver : (List (List ℕ) → List File → Outcome → Type 0) → Moment → Moment → Config → List (List ℕ) → List (List ℕ) → List Stage → Course → StagesEnd → Type 0
+abbrev pub AreRunOver : (List (List ℕ) → List File → Outcome → Type 0) → Moment → Moment → Config → List (List ℕ)
+    → List (List ℕ) → List Stage → CommitState → StagesEnd → Type 0
 AreRunOver tells from to config changed skip stages course (Passed reports left) =
     AreStagesOver tells from to reports (λ told. HavePassed config changed skip stages course told left)
 AreRunOver tells from to config changed skip stages course (Failed stage reports left) =
@@ -124,15 +128,19 @@ pub record IsThrough (tells : List (List ℕ) → List File → Outcome → Type
     (repo : Repository) (message : List ℕ) (no_verify : Bool) (skip : List (List ℕ)) (through : Through) : Type 0 where
   pub committable : IsCommittable repo message
   pub configured : IsConfigured repo through.config
-  pub run : AreRunOver tells from to through.config (changed_paths repo) skip (stages_before_commit no_verify) (course_of repo message) through.end
+  pub run : AreRunOver tells from to through.config (changed_paths repo) skip (stages_before_commit no_verify)
+      (course_of repo message) through.end
 
 -- the hooks of a commit had begun, and were stopped
-pub record IsStoppedIn (tells : List (List ℕ) → List File → Outcome → Type 0) (from to : Moment) (repo : Repository) (message : List ℕ) (no_verify : Bool) (skip : List (List ℕ)) (refusal : HostRefusal) : Type 0 where
+pub record IsStoppedIn (tells : List (List ℕ) → List File → Outcome → Type 0) (from to : Moment) (repo : Repository)
+    (message : List ℕ) (no_verify : Bool) (skip : List (List ℕ)) (refusal : HostRefusal) : Type 0 where
   pub committable : IsCommittable repo message
   pub config : Config
   pub configured : IsConfigured repo config
-  pub halted : IsHalted RefusesAnswers tells from to (HaveBegun config (changed_paths repo) skip (stages_before_commit no_verify) (course_of repo message))
-      (HaveFurther to.remembered config (changed_paths repo) skip (stages_before_commit no_verify) (course_of repo message)) refusal
+  pub halted : IsHalted RefusesAnswers tells from to
+      (HaveBegun config (changed_paths repo) skip (stages_before_commit no_verify) (course_of repo message))
+      (HaveFurther to.remembered config (changed_paths repo) skip (stages_before_commit no_verify)
+      (course_of repo message)) refusal
 
 -- nothing was looked up, no child was started, and the commit isn't begun
 pub record IsNotBegun (from to : Moment) (repo : Repository) (message : List ℕ) (refusal : HostRefusal) : Type 0 where
@@ -140,7 +148,8 @@ pub record IsNotBegun (from to : Moment) (repo : Repository) (message : List ℕ
   pub unbegun : IsUnbegun repo message refusal
 
 -- why a commit doesn't get through the stages before it
-abbrev pub IsUnthrough : (List (List ℕ) → List File → Outcome → Type 0) → Moment → Moment → Repository → List ℕ → Bool → List (List ℕ) → HostRefusal → Type 0
+abbrev pub IsUnthrough : (List (List ℕ) → List File → Outcome → Type 0) → Moment → Moment → Repository → List ℕ → Bool
+    → List (List ℕ) → HostRefusal → Type 0
 IsUnthrough tells from to repo message no_verify skip refusal =
     IsNotBegun from to repo message refusal ⊎ IsStoppedIn tells from to repo message no_verify skip refusal
 
@@ -162,7 +171,8 @@ IsUnfixed contents fixes OutOfMemory = Unit {0}
 IsUnfixed contents fixes refusal = ⊥
 
 -- a call asks the store for at most this one change
-pub record IsOneChange {S A : Type 0} (g : Ghosts S) (old new : Shown S) (result : Result A HostRefusal) (after : Kept) : Type 0 where
+pub record IsOneChange {S A : Type 0} (g : Ghosts S) (old new : Shown S) (result : Result A HostRefusal)
+    (after : Kept) : Type 0 where
   pub stands : Stands g old.conn old.kept → Stands g new.conn new.kept
   pub crash : Survives (state g old.conn) (state g new.conn) (Leaves after)
   pub durable : OnOk result (LeavesOnly g new.conn new.kept)
@@ -170,14 +180,16 @@ pub record IsOneChange {S A : Type 0} (g : Ghosts S) (old new : Shown S) (result
 -- ---- after the commit (githooks(5), "post-commit")
 
 -- the hooks after a commit were run on the staged files, and this is reported
-pub record IsPostTold (tells : List (List ℕ) → List File → Outcome → Type 0) (from to : Moment) (config : Config) (staged : List File) (skip : List (List ℕ)) (report : List ℕ) : Type 0 where
+pub record IsPostTold (tells : List (List ℕ) → List File → Outcome → Type 0) (from to : Moment) (config : Config)
+    (staged : List File) (skip : List (List ℕ)) (report : List ℕ) : Type 0 where
   pub told : StageTold
   pub run : IsStageTold config [] skip stage.PostCommit (record { tree = staged; message = [] }) told
   pub answered : AreAnswered tells reuse.All from to (all_parts told.trace)
   pub reported : report ≡ told.out.report
 
 -- what became of the hooks after a commit
-abbrev pub IsPostOver : (List (List ℕ) → List File → Outcome → Type 0) → Moment → Moment → Config → List File → List (List ℕ) → PostCommit → Type 0
+abbrev pub IsPostOver : (List (List ℕ) → List File → Outcome → Type 0) → Moment → Moment → Config → List File
+    → List (List ℕ) → PostCommit → Type 0
 IsPostOver tells from to config staged skip (Told report) = IsPostTold tells from to config staged skip report
 IsPostOver tells from to config staged skip (Stopped refusal) =
     IsRunStopped RefusesAnswers tells from to config (ask_in [] skip stage.PostCommit) staged refusal

@@ -7,7 +7,7 @@ use Rattle.hook_config.specs.declared.config_fault.ConfigFault.{ConfigFault}
 use Rattle.hook_config.specs.declared.config_fault.ConfigKind.TheVariants as kind
 use Rattle.hook_config.specs.Configuration.{configuration_of}
 use Rattle.hook_config.specs.Gives.{UnlessLeftOpen}
-use Rattle.hook_config.specs.Refusals.{TellsTooLarge}
+use Rattle.hook_config.specs.Refusals.{TellsLargeConfiguration}
 use Rattle.repo_store.specs.Repository.{Repository}
 use Rattle.run_options.specs.declared.options.RunOptions.{RunOptions}
 use Rattle.run_options.specs.Options.{with_options}
@@ -43,7 +43,7 @@ pub record IsMisconfigured (repo : Repository) (fault : ConfigFault) : Type 0 wh
   pub bytes : List ℕ
   pub staged : HasConfigBytes repo bytes
   pub none : UnlessLeftOpen fault.kind (configuration_of bytes ≡ None)
-  pub large : TellsTooLarge bytes fault
+  pub large : TellsLargeConfiguration bytes fault
   pub not_memory : fault.kind ≢ kind.OutOfMemory
 
 -- a configuration is staged that can be read

@@ -36,12 +36,14 @@ edit_reply (staging.Remove path) = Removed
 -- each change is one step, from the repository to which those before it led
 abbrev pub AreSteps : List StagingEdit → Repository → Repository → Type 0
 AreSteps [] before after = after ≡ before
-AreSteps (edit ∷ edits) before after = (between : Repository) × Step before (edit_command edit) (edit_reply edit) [] between × AreSteps edits between after
+AreSteps (edit ∷ edits) before after =
+    (between : Repository) × Step before (edit_command edit) (edit_reply edit) [] between × AreSteps edits between after
 
 -- ---- they are refused
 
 -- the change at an index is refused, in the repository to which those before it led
-pub record IsStepRefused (edits : List StagingEdit) (before : Repository) (refusal : HostRefusal) (at : ℕ) : Type 0 where
+pub record IsStepRefused (edits : List StagingEdit) (before : Repository) (refusal : HostRefusal)
+    (at : ℕ) : Type 0 where
   pub reached : Repository
   pub steps : AreSteps (take at edits) before reached
   pub edit : StagingEdit
@@ -93,7 +95,8 @@ pub record LeavesEdited (edits : List StagingEdit) (before : Kept) (trees : Tree
 -- what it showed before, they hold what it shows afterwards, even after a refusal. A crash leaves what it
 -- could leave before, or all that the changes make. Once they are made on a clean disk, it leaves only what
 -- the store shows.
-pub record AreOneCommand {S A : Type 0} (g : Ghosts S) (old new : Shown S) (edits : List StagingEdit) (result : Result A StagingStop) : Type 0 where
+pub record AreOneCommand {S A : Type 0} (g : Ghosts S) (old new : Shown S) (edits : List StagingEdit)
+    (result : Result A StagingStop) : Type 0 where
   pub stands : Stands g old.conn old.kept → Stands g new.conn new.kept
   pub crash : Survives (state g old.conn) (state g new.conn) (LeavesEdited edits old.kept)
   pub durable : OnOk result (LeavesOnly g new.conn new.kept)

@@ -24,5 +24,7 @@ KeepsForRun before after (Ok ran) = HasFixesSet before after ran.changes
 -- changes were set as the fixes.
 abbrev pub KeepsForCommit : Kept → Kept → Result CommitEnding HostRefusal → Type 0
 KeepsForCommit before after (Err refusal) = after.repo ≡ before.repo
-KeepsForCommit before after (Ok (Committed number reports post)) = (message : List ℕ) × (after.repo ≡ with_new_commit message before.repo)
-KeepsForCommit before after (Ok (HooksFailed stage reports)) = (changes : List Change) × HasFixesSet before after changes
+KeepsForCommit before after (Ok (Committed number reports post)) =
+    (message : List ℕ) × (after.repo ≡ with_new_commit message before.repo)
+KeepsForCommit before after (Ok (HooksFailed stage reports)) =
+    (changes : List Change) × HasFixesSet before after changes

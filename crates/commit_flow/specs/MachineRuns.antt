@@ -9,7 +9,8 @@ use Rattle.commit_flow.specs.Steps.{Step}
 
 -- A command is a step to a repository, from which more steps are made. The parts are those of this step, then
 -- those of the others.
-pub record IsStepThen (before : Repository) (command : Command) (reply : Reply) (parts : List Part) (more : Repository → List Part → Type 0) : Type 0 where
+pub record IsStepThen (before : Repository) (command : Command) (reply : Reply) (parts : List Part)
+    (more : Repository → List Part → Type 0) : Type 0 where
   pub own : List Part
   pub between : Repository
   pub further : List Part

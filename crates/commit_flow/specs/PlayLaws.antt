@@ -8,7 +8,7 @@ use Rattle.hook_run.specs.Starts.{Starts}
 use Rattle.repo_store.specs.Repository.{Repository, with_new_commit}
 use Rattle.commit_flow.specs.declared.command.Command.{Command}
 use Rattle.commit_flow.specs.declared.command.Command.TheVariants.{Commit, Forget}
-use Rattle.commit_flow.specs.declared.course.Course.{Course}
+use Rattle.commit_flow.specs.declared.commit_state.CommitState.{CommitState}
 use Rattle.commit_flow.specs.declared.reply.Reply.{Reply}
 use Rattle.commit_flow.specs.declared.reply.Reply.TheVariants.{Committed}
 use Rattle.commit_flow.specs.CommitStages.{HavePassed, StageTold, course_of, stages_before_commit}
@@ -25,12 +25,14 @@ SaysCommitted reply = ⊥
 
 -- Each stage before the commit passed, under the staged configuration. There is one commit more: of the
 -- staged files, with the message that the last stage passes on, cleaned.
-pub record HasOneMore (before : Repository) (message : List ℕ) (no_verify : Bool) (skip : List (List ℕ)) (after : Repository) : Type 0 where
+pub record HasOneMore (before : Repository) (message : List ℕ) (no_verify : Bool) (skip : List (List ℕ))
+    (after : Repository) : Type 0 where
   pub config : Config
   pub told : List StageTold
-  pub left : Course
+  pub left : CommitState
   pub configured : IsConfigured before config
-  pub passed : HavePassed config (changed_paths before) skip (stages_before_commit no_verify) (course_of before message) told left
+  pub passed : HavePassed config (changed_paths before) skip (stages_before_commit no_verify) (course_of before message)
+      told left
   pub made : after ≡ with_new_commit (cleaned_message left.message) before
 
 -- the command is a commit, and made one
@@ -48,7 +50,8 @@ CommandStarts command reply before after parts started = Starts (reuse_in comman
 
 -- A command is a step with parts of its own. It leaves a repository and what is cached then, and more is
 -- played from there.
-pub record PlayStartsFrom (before : Repository) (remembered : Contents) (command : Command) (reply : Reply) (parts started : List Part) (more : Repository → Contents → List Part → List Part → Type 0) : Type 0 where
+pub record PlayStartsFrom (before : Repository) (remembered : Contents) (command : Command) (reply : Reply)
+    (parts started : List Part) (more : Repository → Contents → List Part → List Part → Type 0) : Type 0 where
   pub repo_between : Repository
   pub between : Contents
   pub own : List Part
@@ -63,9 +66,12 @@ pub record PlayStartsFrom (before : Repository) (remembered : Contents) (command
 
 -- The commands in order, each on the repository and the cached results that the one before it left; nothing
 -- else changes these. The parts are those of all steps. A child was started for those in `started`.
-abbrev pub PlayStarts : Repository → Contents → List Command → List Reply → List Part → List Part → Contents → Repository → Type 0
-PlayStarts before remembered [] [] parts started remembered_then after = (after ≡ before) × (remembered_then ≡ remembered) × (parts ≡ []) × (started ≡ [])
+abbrev pub PlayStarts : Repository → Contents → List Command → List Reply → List Part → List Part → Contents
+    → Repository → Type 0
+PlayStarts before remembered [] [] parts started remembered_then after =
+    (after ≡ before) × (remembered_then ≡ remembered) × (parts ≡ []) × (started ≡ [])
 PlayStarts before remembered (command ∷ commands) (reply ∷ replies) parts started remembered_then after =
     PlayStartsFrom before remembered command reply parts started
-    (λ repo_between between further further_started. PlayStarts repo_between between commands replies further further_started remembered_then after)
+    (λ repo_between between further further_started. PlayStarts repo_between between commands replies further
+    further_started remembered_then after)
 PlayStarts before remembered commands replies parts started remembered_then after = ⊥

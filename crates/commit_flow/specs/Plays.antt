@@ -18,7 +18,7 @@ use Rattle.commit_flow.specs.declared.reply.PostCommit.TheVariants.{Stopped}
 use Rattle.commit_flow.specs.declared.reply.Reply.{Reply}
 use Rattle.commit_flow.specs.declared.reply.Reply.TheVariants.{Committed, Forgot, Refused}
 use Rattle.commit_flow.specs.CommitSteps.{HasBegunBefore, HasBegunBehind, HasFurtherBefore, HasFurtherBehind, SaysSpent, StandsOnAll}
-use Rattle.commit_flow.specs.RunSteps.{HasBegun, HasFurther, IsUnrun}
+use Rattle.commit_flow.specs.RunSteps.{HasRunBegun, HasFurther, IsUnrun}
 use Rattle.commit_flow.specs.Runs.{reuse_of}
 use Rattle.commit_flow.specs.Steps.{Step}
 
@@ -37,16 +37,20 @@ reuse_in command = reuse.All
 -- refused commit, or those after a commit that was made if they were stopped. The parts may be all that they
 -- have, if memory or the store refuses after them.
 abbrev pub HooksBegin : Repository → Command → Reply → List Part → Type 0
-HooksBegin before (Run ask) (Refused refusal) parts = HasBegun before ask parts
-HooksBegin before (Commit message no_verify skip) (Refused refusal) parts = HasBegunBefore before message no_verify skip parts
-HooksBegin before (Commit message no_verify skip) (Committed number reports (Stopped refusal)) parts = HasBegunBehind before skip parts
+HooksBegin before (Run ask) (Refused refusal) parts = HasRunBegun before ask parts
+HooksBegin before (Commit message no_verify skip) (Refused refusal) parts =
+    HasBegunBefore before message no_verify skip parts
+HooksBegin before (Commit message no_verify skip) (Committed number reports (Stopped refusal)) parts =
+    HasBegunBehind before skip parts
 HooksBegin before command reply parts = ⊥
 
 -- these hooks, which the reply picks in the same way, need a child for a further part after these
 abbrev pub HooksNeedChild : Repository → Command → Reply → Contents → List Part → Type 0
 HooksNeedChild before (Run ask) (Refused refusal) remembered parts = HasFurther before ask remembered parts
-HooksNeedChild before (Commit message no_verify skip) (Refused refusal) remembered parts = HasFurtherBefore before message no_verify skip remembered parts
-HooksNeedChild before (Commit message no_verify skip) (Committed number reports (Stopped refusal)) remembered parts = HasFurtherBehind before skip remembered parts
+HooksNeedChild before (Commit message no_verify skip) (Refused refusal) remembered parts =
+    HasFurtherBefore before message no_verify skip remembered parts
+HooksNeedChild before (Commit message no_verify skip) (Committed number reports (Stopped refusal)) remembered parts =
+    HasFurtherBehind before skip remembered parts
 HooksNeedChild before command reply remembered parts = ⊥
 
 -- ---- what a command makes of the children's counts and of what is cached
@@ -64,7 +68,8 @@ pub record IsForgotten (from to : Moment) (reply : Reply) : Type 0 where
   pub faulted : to.faults ≡ from.faults
 
 -- these parts were answered, or the cached results are forgotten
-abbrev pub Makes : (List (List ℕ) → List File → Outcome → Type 0) → Moment → Moment → Command → Reply → List Part → Type 0
+abbrev pub Makes : (List (List ℕ) → List File → Outcome → Type 0) → Moment → Moment → Command → Reply → List Part
+    → Type 0
 Makes tells from to Forget reply parts = (parts ≡ []) × IsForgotten from to reply
 Makes tells from to command reply parts = AreAnswered tells (reuse_in command) from to parts
 
@@ -73,7 +78,8 @@ Makes tells from to command reply parts = AreAnswered tells (reuse_in command) f
 -- that were stopped begin with them; there are none if the reply rests on all. The reply says that the
 -- children are spent only if these hooks need one more and 2^64 - 1 outcomes, as many as can be counted, are
 -- reported. Then what they reported is put, as `Starts` says.
-pub record IsPlayed (tells : List (List ℕ) → List File → Outcome → Type 0) (from to : Moment) (before : Repository) (command : Command) (reply : Reply) (after : Repository) : Type 0 where
+pub record IsPlayed (tells : List (List ℕ) → List File → Outcome → Type 0) (from to : Moment) (before : Repository)
+    (command : Command) (reply : Reply) (after : Repository) : Type 0 where
   pub parts : List Part
   pub left_out : List Part
   pub between : Moment
@@ -95,7 +101,8 @@ pub record IsUnplayed (from to : Moment) (before : Repository) (parts : List Par
 -- A command is played and leaves a moment and a repository, and more is played from there. The parts are
 -- those of this step, then those of the others.
 pub record ArePlayedFrom (tells : List (List ℕ) → List File → Outcome → Type 0) (from : Moment)
-    (before : Repository) (command : Command) (reply : Reply) (parts : List Part) (more : Moment → Repository → List Part → Type 0) : Type 0 where
+    (before : Repository) (command : Command) (reply : Reply) (parts : List Part)
+    (more : Moment → Repository → List Part → Type 0) : Type 0 where
   pub between : Moment
   pub repo_between : Repository
   pub further : List Part
@@ -105,7 +112,8 @@ pub record ArePlayedFrom (tells : List (List ℕ) → List File → Outcome → 
 
 -- The commands are played in order, each on what the one before it left, and each has its reply. The parts
 -- are those of all steps, in order.
-abbrev pub ArePlayed : (List (List ℕ) → List File → Outcome → Type 0) → Moment → Moment → Repository → List Command → List Reply → List Part → Repository → Type 0
+abbrev pub ArePlayed : (List (List ℕ) → List File → Outcome → Type 0) → Moment → Moment → Repository → List Command
+    → List Reply → List Part → Repository → Type 0
 ArePlayed tells from to before [] [] parts after = IsUnplayed from to before parts after
 ArePlayed tells from to before (command ∷ commands) (reply ∷ replies) parts after =
     ArePlayedFrom tells from before command reply parts
@@ -115,7 +123,8 @@ ArePlayed tells from to before commands replies parts after = ⊥
 -- A run of the machine between two moments, by all of these commands. If the children may report each result
 -- that was cached before, they may report each outcome and each result that is cached afterwards. Each result
 -- that is cached afterwards was cached before, or was reported.
-pub record IsPlay (tells : List (List ℕ) → List File → Outcome → Type 0) (from to : Moment) (before : Repository) (commands : List Command) (replies : List Reply) (after : Repository) : Type 0 where
+pub record IsPlay (tells : List (List ℕ) → List File → Outcome → Type 0) (from to : Moment) (before : Repository)
+    (commands : List Command) (replies : List Reply) (after : Repository) : Type 0 where
   pub parts : List Part
   pub played : ArePlayed tells from to before commands replies parts after
   pub told : IsTold tells from.remembered → AllTold tells parts

@@ -27,7 +27,7 @@ use Rattle.commit_flow.specs.declared.prepared.Prepared.{Prepared}
 use Rattle.commit_flow.specs.declared.staged_run.StagedRun.{StagedRun}
 use Rattle.commit_flow.specs.Configured.{HasReadableConfig, IsConfiguredFor, IsMisconfigured, LacksConfig}
 use Rattle.commit_flow.specs.Refusals.{of_run}
-use Rattle.commit_flow.specs.Runs.{AreStagedPaths, IsNameRefusal, IsNamesRefusal, names_in, reuse_of, run_ask_of, stage_of}
+use Rattle.commit_flow.specs.Runs.{AreStagedPaths, IsNameRefusal, IsNamesRefusal, names_in, reuse_of, run_ask_of, stage_of_ask}
 
 -- ---- what is prepared
 
@@ -49,7 +49,7 @@ IsNamesFault repo names refusal = (refusal ≡ OutOfMemory) ⊎ IsNamesRefusal r
 -- what is asked of the hooks if they may get these files
 abbrev pub run_ask_with : HostAsk → List (List ℕ) → RunAsk
 run_ask_with ask candidates = record {
-  stage = stage_of ask.stage;
+  stage = stage_of_ask ask.stage;
   candidates = candidates;
   only = ask.only;
   skip = ask.skip;
@@ -66,27 +66,32 @@ pub record IsPrepared (repo : Repository) (ask : HostAsk) (ready : Prepared) : T
 -- why a run isn't prepared: its configuration isn't, or it can be read and the names that are asked for
 -- aren't taken
 abbrev pub IsUnprepared : Repository → HostAsk → HostRefusal → Type 0
-IsUnprepared repo ask refusal = IsConfigRefusal repo refusal ⊎ (HasReadableConfig repo × IsNamesFault repo (names_in ask.which) refusal)
+IsUnprepared repo ask refusal =
+    IsConfigRefusal repo refusal ⊎ (HasReadableConfig repo × IsNamesFault repo (names_in ask.which) refusal)
 
 -- ---- a run of hooks, between two moments
 
 -- what a stop leaves cached afterwards it could leave before, or each result of it was cached before or was
 -- reported
-abbrev pub LeavesTold : (List (List ℕ) → List File → Outcome → Type 0) → Contents → (Contents → Type 0) → (Contents → Type 0) → Type 0
+abbrev pub LeavesTold : (List (List ℕ) → List File → Outcome → Type 0) → Contents → (Contents → Type 0)
+    → (Contents → Type 0) → Type 0
 LeavesTold tells before could can = (left : Contents) → can left → could left ⊎ AddsTold tells before left
 
 -- hooks of the stage have the name that is asked for, and were run
-pub record HaveRun (tells : List (List ℕ) → List File → Outcome → Type 0) (from to : Moment) (config : Config) (ask : RunAsk) (tree : List File) (out : RunOut) : Type 0 where
+pub record HaveRun (tells : List (List ℕ) → List File → Outcome → Type 0) (from to : Moment) (config : Config)
+    (ask : RunAsk) (tree : List File) (out : RunOut) : Type 0 where
   pub known : names_no_hook config ask ≡ false
   pub over : IsRunOver tells from to config ask tree out
 
 -- the same, with how many of their parts used a cached result
-pub record HaveRunCounted (tells : List (List ℕ) → List File → Outcome → Type 0) (from to : Moment) (config : Config) (ask : RunAsk) (tree : List File) (ran : HooksRun) : Type 0 where
+pub record HaveRunCounted (tells : List (List ℕ) → List File → Outcome → Type 0) (from to : Moment) (config : Config)
+    (ask : RunAsk) (tree : List File) (ran : HooksRun) : Type 0 where
   pub run : HaveRun tells from to config ask tree ran.out
   pub counted : AreReused (all_parts run.over.trace) run.over.answered.started ran.reused
 
 -- their run was refused; the book may refuse with these faults
-pub record HaveStopped (refuses : BookFault → Type 0) (tells : List (List ℕ) → List File → Outcome → Type 0) (from to : Moment) (config : Config) (ask : RunAsk) (tree : List File) (refusal : RunRefusal) : Type 0 where
+pub record HaveStopped (refuses : BookFault → Type 0) (tells : List (List ℕ) → List File → Outcome → Type 0)
+    (from to : Moment) (config : Config) (ask : RunAsk) (tree : List File) (refusal : RunRefusal) : Type 0 where
   pub unknown : refusal ≡ run.NoSuchHook → names_no_hook config ask ≡ true
   pub known : refusal ≢ run.NoSuchHook → names_no_hook config ask ≡ false
   pub of_book : IsOfBook refuses refusal
@@ -103,20 +108,23 @@ staged_run_of staged ran = record {
 }
 
 -- the prepared hooks were run, and this is the result
-pub record HasRunReady (tells : List (List ℕ) → List File → Outcome → Type 0) (from to : Moment) (ready : Prepared) (ran : StagedRun) : Type 0 where
+pub record HasRunReady (tells : List (List ℕ) → List File → Outcome → Type 0) (from to : Moment) (ready : Prepared)
+    (ran : StagedRun) : Type 0 where
   pub hooks : HooksRun
   pub run : HaveRun tells from to ready.config ready.ask ready.tree hooks.out
   pub counted : AreReused (all_parts run.over.trace) run.over.answered.started hooks.reused
   pub gives : ran ≡ staged_run_of ready.tree hooks
 
 -- a run on the staged files was prepared, its hooks were run, and this is the result
-pub record HasRunOnStaged (tells : List (List ℕ) → List File → Outcome → Type 0) (from to : Moment) (repo : Repository) (ask : HostAsk) (ran : StagedRun) : Type 0 where
+pub record HasRunOnStaged (tells : List (List ℕ) → List File → Outcome → Type 0) (from to : Moment) (repo : Repository)
+    (ask : HostAsk) (ran : StagedRun) : Type 0 where
   pub prepared : Prepared
   pub ready : IsPrepared repo ask prepared
   pub run : HasRunReady tells from to prepared ran
 
 -- the run of the prepared hooks was refused with this refusal
-pub record HasStoppedReady (refuses : BookFault → Type 0) (tells : List (List ℕ) → List File → Outcome → Type 0) (from to : Moment) (ready : Prepared) (refusal : HostRefusal) : Type 0 where
+pub record HasStoppedReady (refuses : BookFault → Type 0) (tells : List (List ℕ) → List File → Outcome → Type 0)
+    (from to : Moment) (ready : Prepared) (refusal : HostRefusal) : Type 0 where
   pub inner : RunRefusal
   pub stopped : HaveStopped refuses tells from to ready.config ready.ask ready.tree inner
   pub is : refusal ≡ of_run inner

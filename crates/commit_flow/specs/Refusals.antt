@@ -3,13 +3,13 @@
 use Rattle.std.specs.Prelude.{ℕ, List, codes, Option, None, Some}
 use Rattle.hook_base.specs.declared.path_fault.PathFault.{PathFault}
 use Rattle.hook_base.specs.declared.path_fault.PathFault.TheVariants as path
-use Rattle.hook_base.specs.PathFaults.{number_of as path_number_of}
+use Rattle.hook_base.specs.PathFaults.{path_fault_number as path_number_of}
 use Rattle.store_faults.specs.declared.fault.StoreFault.{StoreFault}
 use Rattle.store_faults.specs.declared.fault.StoreFault.TheVariants as store
 use Rattle.repo_store.specs.declared.staging_refusal.StagingFault.{StagingFault}
 use Rattle.repo_store.specs.declared.staging_refusal.StagingFault.TheVariants as staging
 use Rattle.repo_store.specs.declared.staging_refusal.StagingRefusal.{StagingRefusal}
-use Rattle.store_faults.specs.Faults.{number_of as store_number_of}
+use Rattle.store_faults.specs.Faults.{store_fault_number as store_number_of}
 use Rattle.result_book.specs.declared.book_fault.BookFault.{BookFault}
 use Rattle.result_book.specs.declared.book_fault.BookFault.TheVariants as book
 use Rattle.hook_run.specs.declared.run_refusal.RunRefusal.{RunRefusal}
@@ -17,44 +17,44 @@ use Rattle.hook_run.specs.declared.run_refusal.RunRefusal.TheVariants as run
 use Rattle.hook_config.specs.declared.config_fault.ConfigFault.{ConfigFault}
 use Rattle.hook_config.specs.declared.config_fault.ConfigKind.{ConfigKind}
 use Rattle.hook_config.specs.declared.config_fault.ConfigKind.TheVariants as kind
-use Rattle.hook_config.specs.Refusals.{number_of as config_number_of}
+use Rattle.hook_config.specs.Refusals.{configuration_fault_number as config_number_of}
 use Rattle.commit_flow.specs.declared.host_refusal.HostRefusal.{HostRefusal}
 use Rattle.commit_flow.specs.declared.host_refusal.HostRefusal.TheVariants.{OutOfMemory, Store, BadPath, NotStaged, TooLarge, TooMany, NoConfig, BadConfig, NoSuchHook, NothingStaged, NoFixes, EmptyMessage, Collision, Spent, Clash}
 use Rattle.commit_flow.specs.declared.staging_stop.StagingStop.{StagingStop}
 
-abbrev pub number_of : HostRefusal → ℕ
-number_of OutOfMemory = 1
-number_of (Store fault) = 2
-number_of (BadPath fault) = 3
-number_of NotStaged = 4
-number_of TooLarge = 5
-number_of TooMany = 6
-number_of NoConfig = 7
-number_of (BadConfig fault) = 8
-number_of NoSuchHook = 9
-number_of NothingStaged = 10
-number_of NoFixes = 11
-number_of EmptyMessage = 12
-number_of Collision = 13
-number_of Spent = 14
-number_of Clash = 15
+abbrev pub host_refusal_number : HostRefusal → ℕ
+host_refusal_number OutOfMemory = 1
+host_refusal_number (Store fault) = 2
+host_refusal_number (BadPath fault) = 3
+host_refusal_number NotStaged = 4
+host_refusal_number TooLarge = 5
+host_refusal_number TooMany = 6
+host_refusal_number NoConfig = 7
+host_refusal_number (BadConfig fault) = 8
+host_refusal_number NoSuchHook = 9
+host_refusal_number NothingStaged = 10
+host_refusal_number NoFixes = 11
+host_refusal_number EmptyMessage = 12
+host_refusal_number Collision = 13
+host_refusal_number Spent = 14
+host_refusal_number Clash = 15
 
-abbrev pub name_of : HostRefusal → List ℕ
-name_of OutOfMemory = codes "OutOfMemory"
-name_of (Store fault) = codes "Store"
-name_of (BadPath fault) = codes "BadPath"
-name_of NotStaged = codes "NotStaged"
-name_of TooLarge = codes "TooLarge"
-name_of TooMany = codes "TooMany"
-name_of NoConfig = codes "NoConfig"
-name_of (BadConfig fault) = codes "BadConfig"
-name_of NoSuchHook = codes "NoSuchHook"
-name_of NothingStaged = codes "NothingStaged"
-name_of NoFixes = codes "NoFixes"
-name_of EmptyMessage = codes "EmptyMessage"
-name_of Collision = codes "Collision"
-name_of Spent = codes "Spent"
-name_of Clash = codes "Clash"
+abbrev pub host_refusal_name : HostRefusal → List ℕ
+host_refusal_name OutOfMemory = codes "OutOfMemory"
+host_refusal_name (Store fault) = codes "Store"
+host_refusal_name (BadPath fault) = codes "BadPath"
+host_refusal_name NotStaged = codes "NotStaged"
+host_refusal_name TooLarge = codes "TooLarge"
+host_refusal_name TooMany = codes "TooMany"
+host_refusal_name NoConfig = codes "NoConfig"
+host_refusal_name (BadConfig fault) = codes "BadConfig"
+host_refusal_name NoSuchHook = codes "NoSuchHook"
+host_refusal_name NothingStaged = codes "NothingStaged"
+host_refusal_name NoFixes = codes "NoFixes"
+host_refusal_name EmptyMessage = codes "EmptyMessage"
+host_refusal_name Collision = codes "Collision"
+host_refusal_name Spent = codes "Spent"
+host_refusal_name Clash = codes "Clash"
 
 -- the number of the cause among the faults of a store, of a path or of a configuration
 abbrev pub inner_number_of : HostRefusal → Option ℕ

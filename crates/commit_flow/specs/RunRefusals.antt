@@ -30,7 +30,8 @@ IsStop refusal = ⊥
 abbrev pub IsRunRefusal : Repository → HostAsk → HostRefusal → Type 0
 IsRunRefusal before ask NoConfig = LacksConfig before
 IsRunRefusal before ask (BadConfig fault) = IsMisconfigured before fault
-IsRunRefusal before ask (BadPath fault) = HasReadableConfig before × IsNamesRefusal before (names_in ask.which) (BadPath fault)
+IsRunRefusal before ask (BadPath fault) =
+    HasReadableConfig before × IsNamesRefusal before (names_in ask.which) (BadPath fault)
 IsRunRefusal before ask NotStaged = HasReadableConfig before × IsNamesRefusal before (names_in ask.which) NotStaged
 IsRunRefusal before ask NoSuchHook = HasNoSuchHook before ask
 IsRunRefusal before ask OutOfMemory = Unit {0}

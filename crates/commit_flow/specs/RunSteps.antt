@@ -33,7 +33,8 @@ reply_of_run ran = Ran ran.passed ran.report ran.changes ran.unsteady
 -- The run is a step of the machine, with parts that were answered between two moments. If the children may
 -- report each result that was cached before, they may report each outcome. Each result that is cached
 -- afterwards was cached before, or was reported. As many parts as the run says used a cached result.
-pub record IsRunStep (tells : List (List ℕ) → List File → Outcome → Type 0) (from to : Moment) (before : Repository) (ask : HostAsk) (ran : StagedRun) (after : Repository) : Type 0 where
+pub record IsRunStep (tells : List (List ℕ) → List File → Outcome → Type 0) (from to : Moment) (before : Repository)
+    (ask : HostAsk) (ran : StagedRun) (after : Repository) : Type 0 where
   pub parts : List Part
   pub step : Step before (Run ask) (reply_of_run ran) parts after
   pub answered : AreAnswered tells (reuse_of ask) from to parts
@@ -44,7 +45,7 @@ pub record IsRunStep (tells : List (List ℕ) → List File → Outcome → Type
 -- ---- a run that is refused
 
 -- a run that is possible begins with these parts
-pub record HasBegun (before : Repository) (ask : HostAsk) (parts : List Part) : Type 0 where
+pub record HasRunBegun (before : Repository) (ask : HostAsk) (parts : List Part) : Type 0 where
   pub config : Config
   pub runnable : IsRunnable before ask config
   pub begun : IsBegun config (run_ask_of ask before) before.staged parts
@@ -56,7 +57,8 @@ pub record HasFurther (before : Repository) (ask : HostAsk) (remembered : Conten
   pub needs : NeedsChild remembered config (run_ask_of ask before) before.staged parts
 
 -- the run has these parts, and what they did to the staged files can't be the fixes for this reason
-pub record HasRunBut (before : Repository) (ask : HostAsk) (parts : List Part) (reason : List Change → Type 0) : Type 0 where
+pub record HasRunBut (before : Repository) (ask : HostAsk) (parts : List Part)
+    (reason : List Change → Type 0) : Type 0 where
   pub config : Config
   pub trace : List (List Part)
   pub out : RunOut
@@ -77,24 +79,30 @@ IsUnrun from to parts = (parts ≡ []) × (to ≡ from)
 -- The store stopped hooks with these parts between two moments. Either all of them were answered, and what
 -- they did to the staged files can't be the fixes for this reason. Or it stopped them in the middle, by what
 -- is cached of their answers.
-abbrev pub StoreStopsRun : (List (List ℕ) → List File → Outcome → Type 0) → Moment → Moment → Repository → HostAsk → List Part → (List Change → Type 0) → Type 0
+abbrev pub StoreStopsRun : (List (List ℕ) → List File → Outcome → Type 0) → Moment → Moment → Repository → HostAsk
+    → List Part → (List Change → Type 0) → Type 0
 StoreStopsRun tells from to before ask parts reason =
-    (HasRunBut before ask parts reason × AreAnswered tells (reuse_of ask) from to parts) ⊎ HasBegun before ask parts
+    (HasRunBut before ask parts reason × AreAnswered tells (reuse_of ask) from to parts) ⊎ HasRunBegun before ask parts
 
 -- How far a run came that is refused in this way, with these parts, between two moments. It is spent if a
 -- further part needs a child and no more calls can be counted. The store and lack of memory may stop it
 -- anywhere. The other refusals come before any part. Contents that collide do so with those that are kept by
 -- then.
-abbrev pub IsStoppedAt : (List (List ℕ) → List File → Outcome → Type 0) → Moment → Moment → Repository → HostAsk → List Part → List (List ℕ) → HostRefusal → Type 0
-IsStoppedAt tells from to before ask parts contents Spent = HasFurther before ask to.remembered parts × (to.calls ≡ 2 ^ 64 - 1)
-IsStoppedAt tells from to before ask parts contents Collision = StoreStopsRun tells from to before ask parts (λ fixes. FixCollides fixes contents)
-IsStoppedAt tells from to before ask parts contents (Store fault) = StoreStopsRun tells from to before ask parts (IsUnset fault)
-IsStoppedAt tells from to before ask parts contents OutOfMemory = IsUnrun from to parts ⊎ HasBegun before ask parts
+abbrev pub IsStoppedAt : (List (List ℕ) → List File → Outcome → Type 0) → Moment → Moment → Repository → HostAsk
+    → List Part → List (List ℕ) → HostRefusal → Type 0
+IsStoppedAt tells from to before ask parts contents Spent =
+    HasFurther before ask to.remembered parts × (to.calls ≡ 2 ^ 64 - 1)
+IsStoppedAt tells from to before ask parts contents Collision =
+    StoreStopsRun tells from to before ask parts (λ fixes. FixCollides fixes contents)
+IsStoppedAt tells from to before ask parts contents (Store fault) =
+    StoreStopsRun tells from to before ask parts (IsUnset fault)
+IsStoppedAt tells from to before ask parts contents OutOfMemory = IsUnrun from to parts ⊎ HasRunBegun before ask parts
 IsStoppedAt tells from to before ask parts contents refusal = IsUnrun from to parts
 
 -- The refused run is a step of the machine that leaves the repository as it was. Its parts so far were
 -- answered. If the children are spent, what they reported is put, as `Starts` says.
-pub record IsStoppedStep (tells : List (List ℕ) → List File → Outcome → Type 0) (from to : Moment) (before : Repository) (ask : HostAsk) (after : Kept) (refusal : HostRefusal) : Type 0 where
+pub record IsStoppedStep (tells : List (List ℕ) → List File → Outcome → Type 0) (from to : Moment) (before : Repository)
+    (ask : HostAsk) (after : Kept) (refusal : HostRefusal) : Type 0 where
   pub parts : List Part
   pub step : Step before (Run ask) (Refused refusal) [] after.repo
   pub answered : AreAnsweredSoFar tells (reuse_of ask) from to parts

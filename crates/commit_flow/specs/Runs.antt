@@ -47,16 +47,17 @@ holds_entry entry (Some other) = same_mode entry.mode other.mode && bytes_eq ent
 -- they are new (`pre_commit.git.get_staged_files`)
 abbrev pub changed_paths : Repository → List (List ℕ)
 changed_paths repo =
-    map (λ (row : File). row.path) (filter (λ (row : File). not (holds_entry row.entry (entry_of row.path (last_tree repo.history)))) repo.staged)
+    map (λ (row : File). row.path) (filter
+    (λ (row : File). not (holds_entry row.entry (entry_of row.path (last_tree repo.history)))) repo.staged)
 
 abbrev pub candidates_of : Which → Repository → List (List ℕ)
 candidates_of Changed repo = changed_paths repo
 candidates_of All repo = map (λ (row : File). row.path) repo.staged
 candidates_of (Named names) repo = names
 
-abbrev pub stage_of : AskStage → Stage
-stage_of PreCommit = stage.PreCommit
-stage_of Manual = stage.Manual
+abbrev pub stage_of_ask : AskStage → Stage
+stage_of_ask PreCommit = stage.PreCommit
+stage_of_ask Manual = stage.Manual
 
 -- which cached results the run may use: a fresh run none, and a cautious one those that passed
 abbrev pub reuse_of : HostAsk → Reuse
@@ -64,7 +65,7 @@ reuse_of ask = if ask.fresh then reuse.Nothing else (if ask.options.cautious the
 
 abbrev pub run_ask_of : HostAsk → Repository → RunAsk
 run_ask_of ask repo = record {
-  stage = stage_of ask.stage;
+  stage = stage_of_ask ask.stage;
   candidates = candidates_of ask.which repo;
   only = ask.only;
   skip = ask.skip;
@@ -111,7 +112,8 @@ abbrev pub fixing : List Change → Repository → Repository
 fixing changes repo = record repo { fixes = changes }
 
 -- The hooks were run with these parts, and this is the answer. The fixes are what became of the staged files.
-pub record IsRan (before : Repository) (ask : HostAsk) (passed : Bool) (report : List ℕ) (changes : List Change) (unsteady : List (List ℕ)) (parts : List Part) (after : Repository) : Type 0 where
+pub record IsRan (before : Repository) (ask : HostAsk) (passed : Bool) (report : List ℕ) (changes : List Change)
+    (unsteady : List (List ℕ)) (parts : List Part) (after : Repository) : Type 0 where
   pub config : Config
   pub trace : List (List Part)
   pub out : RunOut

@@ -12,7 +12,7 @@ use Rattle.store_faults.specs.declared.fault.StoreFault.{StoreFault}
 use Rattle.store_faults.specs.declared.fault.StoreFault.TheVariants.{Sql}
 use Rattle.repo_store.specs.Clashes.{Clashes}
 use Rattle.store_faults.specs.Limits.{Fits, IsSmall}
-use Rattle.repo_store.specs.Repository.{Repository, accepted, with_staged, without_staged}
+use Rattle.repo_store.specs.Repository.{Repository, accepted, with_staged_file, without_staged_file}
 use Rattle.commit_flow.specs.declared.command.Command.{Command}
 use Rattle.commit_flow.specs.declared.command.Command.TheVariants.{Add, Remove, Accept, Run, Commit, Forget}
 use Rattle.commit_flow.specs.declared.host_refusal.HostRefusal.{HostRefusal}
@@ -53,7 +53,7 @@ pub record IsAddable (before : Repository) (path bytes : List ℕ) : Type 0 wher
 pub record IsAdded (before : Repository) (path bytes : List ℕ) (asked : Option Mode) (after : Repository) : Type 0 where
   pub addable : IsAddable before path bytes
   pub fits : Fits (tree_with before path bytes asked)
-  pub made : after ≡ with_staged path (entry_to_add before path bytes asked) before
+  pub made : after ≡ with_staged_file path (entry_to_add before path bytes asked) before
 
 -- Why a file isn't addable, in this order: its path is no path, it has too many bytes, or its path and a
 -- staged one clash. Lack of memory comes after a fault of the path.
@@ -68,7 +68,8 @@ IsUnaddable before path bytes refusal = ⊥
 -- that are kept, or the database refuses. The kept contents aren't part of a repository, so a clause of the
 -- call says when they collide.
 abbrev pub IsAddRefusal : Repository → List ℕ → List ℕ → Option Mode → HostRefusal → Type 0
-IsAddRefusal before path bytes asked TooMany = IsAddable before path bytes × (¬ Fits (tree_with before path bytes asked))
+IsAddRefusal before path bytes asked TooMany =
+    IsAddable before path bytes × (¬ Fits (tree_with before path bytes asked))
 IsAddRefusal before path bytes asked Collision = IsAddable before path bytes × Fits (tree_with before path bytes asked)
 IsAddRefusal before path bytes asked (Store fault) = IsAddable before path bytes × IsOfDatabase fault
 IsAddRefusal before path bytes asked refusal = IsUnaddable before path bytes refusal
@@ -79,7 +80,7 @@ IsAddRefusal before path bytes asked refusal = IsUnaddable before path bytes ref
 pub record IsRemoved (before : Repository) (path : List ℕ) (after : Repository) : Type 0 where
   pub legal : IsLegal path
   pub staged : IsStaged path before
-  pub made : after ≡ without_staged path before
+  pub made : after ≡ without_staged_file path before
 
 -- Why a path isn't removed, in this order: it is no path, it isn't staged, or the database refuses. Lack of
 -- memory comes after a fault of the path.
@@ -125,7 +126,8 @@ IsRefused before (Add path bytes asked) parts refusal = IsAddRefusal before path
 IsRefused before (Remove path) parts refusal = IsRemoveRefusal before path refusal × (parts ≡ [])
 IsRefused before Accept parts refusal = IsAcceptRefusal before refusal × (parts ≡ [])
 IsRefused before (Run ask) parts refusal = IsRunRefusal before ask refusal × (parts ≡ [])
-IsRefused before (Commit message no_verify skip) parts refusal = IsCommitRefusal before message no_verify skip parts refusal
+IsRefused before (Commit message no_verify skip) parts refusal =
+    IsCommitRefusal before message no_verify skip parts refusal
 IsRefused before Forget parts refusal = IsForgetRefusal refusal × (parts ≡ [])
 
 -- The command may answer so, and then leaves this repository; after a refusal it is the one before. The parts
@@ -137,9 +139,12 @@ abbrev pub Step : Repository → Command → Reply → List Part → Repository 
 Step before (Add path bytes asked) Added parts after = IsAdded before path bytes asked after × (parts ≡ [])
 Step before (Remove path) Removed parts after = IsRemoved before path after × (parts ≡ [])
 Step before Accept (Accepted number) parts after = IsAccepted before number after × (parts ≡ [])
-Step before (Run ask) (Ran passed report changes unsteady) parts after = IsRan before ask passed report changes unsteady parts after
-Step before (Commit message no_verify skip) (Committed number reports post) parts after = IsCommitted before message no_verify skip number reports post parts after
-Step before (Commit message no_verify skip) (HooksFailed stage reports) parts after = HaveHooksFailed before message no_verify skip stage reports parts after
+Step before (Run ask) (Ran passed report changes unsteady) parts after =
+    IsRan before ask passed report changes unsteady parts after
+Step before (Commit message no_verify skip) (Committed number reports post) parts after =
+    IsCommitted before message no_verify skip number reports post parts after
+Step before (Commit message no_verify skip) (HooksFailed stage reports) parts after =
+    HaveHooksFailed before message no_verify skip stage reports parts after
 Step before Forget (Forgot number) parts after = (after ≡ before) × (parts ≡ [])
 Step before command (Refused refusal) parts after = IsRefused before command parts refusal × (after ≡ before)
 Step before command reply parts after = ⊥

@@ -45,7 +45,8 @@ pub record LeavesDone (before : Kept) (command : Command) (trees : Trees) : Type
 -- what it showed before, they hold what it shows after the command, even after a refusal. A crash leaves what
 -- it could leave before, or all that the command makes. Once the command is done on a clean disk, it leaves
 -- only what the store shows.
-pub record IsOneCommand {S : Type 0} (g : Ghosts S) (old new : Shown S) (command : Command) (reply : Reply) : Type 0 where
+pub record IsOneCommand {S : Type 0} (g : Ghosts S) (old new : Shown S) (command : Command)
+    (reply : Reply) : Type 0 where
   pub stands : Stands g old.conn old.kept → Stands g new.conn new.kept
   pub crash : Survives (state g old.conn) (state g new.conn) (LeavesDone old.kept command)
   pub durable : IsDone reply → LeavesOnly g new.conn new.kept
@@ -65,7 +66,8 @@ pub record Reaches (before : Repository) (command : Command) (parts : List Part)
 -- Opened again, the trees are a store. Its repository is the one at the command's entry, or the one that the
 -- command, done with the first of these parts, makes of it. Its cached results are what a stop could leave at
 -- the command's entry, or each of them was cached then or was reported.
-pub record LeavesStopped {S : Type 0} (g : Ghosts S) (tells : List (List ℕ) → List File → Outcome → Type 0) (entry : Shown S) (command : Command) (parts : List Part) (trees : Trees) : Type 0 where
+pub record LeavesStopped {S : Type 0} (g : Ghosts S) (tells : List (List ℕ) → List File → Outcome → Type 0)
+    (entry : Shown S) (command : Command) (parts : List Part) (trees : Trees) : Type 0 where
   pub kept : Kept
   pub leaves : Leaves kept trees
   pub repo : (kept.repo ≡ entry.kept.repo) ⊎ Reaches entry.kept.repo command parts kept.repo
@@ -76,15 +78,18 @@ pub record LeavesStopped {S : Type 0} (g : Ghosts S) (tells : List (List ℕ) �
 -- could leave at the entry. Or it leaves the repository before the command or the one that the command makes,
 -- and each cached result of it was cached at the entry or was reported. Once the command is done, on a clean
 -- disk, a stop leaves the repository that the store shows, with the commit if one was made.
-pub record IsCrashSafe {S : Type 0} (g : Ghosts S) (tells : List (List ℕ) → List File → Outcome → Type 0) (old new : Shown S) (command : Command) (reply : Reply) (parts : List Part) : Type 0 where
+pub record IsCrashSafe {S : Type 0} (g : Ghosts S) (tells : List (List ℕ) → List File → Outcome → Type 0)
+    (old new : Shown S) (command : Command) (reply : Reply) (parts : List Part) : Type 0 where
   pub stands : Stands g old.conn old.kept → Stands g new.conn new.kept
   pub crash : Survives (state g old.conn) (state g new.conn) (LeavesStopped g tells old command parts)
-  pub durable : IsDone reply → HasCleanDisk (state g new.conn) → (trees : Trees) → (state g new.conn).may_leave trees → LeavesRepository new.kept.repo trees
+  pub durable : IsDone reply → HasCleanDisk (state g new.conn) → (trees : Trees) → (state g new.conn).may_leave trees
+      → LeavesRepository new.kept.repo trees
 
 -- The command is a step of the machine between two moments, which have what the store caches then. It is
 -- crash-safe with all parts that were answered for it: those of the step, and those that the reply leaves
 -- out.
-pub record IsPlayedSafely {S : Type 0} (g : Ghosts S) (tells : List (List ℕ) → List File → Outcome → Type 0) (from to : Moment) (old new : Shown S) (command : Command) (reply : Reply) : Type 0 where
+pub record IsPlayedSafely {S : Type 0} (g : Ghosts S) (tells : List (List ℕ) → List File → Outcome → Type 0)
+    (from to : Moment) (old new : Shown S) (command : Command) (reply : Reply) : Type 0 where
   pub entry : from.remembered ≡ remembered_by old.kept
   pub exit : to.remembered ≡ remembered_by new.kept
   pub played : IsPlayed tells from to old.kept.repo command reply new.kept.repo

@@ -30,7 +30,8 @@ IsUnhindered (Committed number reports (Stopped refusal)) = ⊥
 IsUnhindered reply = Unit {0}
 
 -- a run of the machine; each part is one that the children may report, and none is a fault
-pub record IsUnhinderedRun (tells : List (List ℕ) → List File → Outcome → Type 0) (before : Repository) (commands : List Command) (replies : List Reply) (parts : List Part) (after : Repository) : Type 0 where
+pub record IsUnhinderedRun (tells : List (List ℕ) → List File → Outcome → Type 0) (before : Repository)
+    (commands : List Command) (replies : List Reply) (parts : List Part) (after : Repository) : Type 0 where
   pub run : IsMachineRun before commands replies parts after
   pub told : AllTold tells parts
   pub no_fault : faults_of parts ≡ 0
@@ -38,7 +39,8 @@ pub record IsUnhinderedRun (tells : List (List ℕ) → List File → Outcome �
 
 -- The commands were played by a host. The children may report what it had cached at first, and they counted
 -- no fault between the two moments.
-pub record IsUnhinderedPlay (tells : List (List ℕ) → List File → Outcome → Type 0) (from to : Moment) (before : Repository) (commands : List Command) (replies : List Reply) (after : Repository) : Type 0 where
+pub record IsUnhinderedPlay (tells : List (List ℕ) → List File → Outcome → Type 0) (from to : Moment)
+    (before : Repository) (commands : List Command) (replies : List Reply) (after : Repository) : Type 0 where
   pub play : IsPlay tells from to before commands replies after
   pub told : IsTold tells from.remembered
   pub no_fault : to.faults ≡ from.faults

@@ -69,9 +69,16 @@ impl<S: Alter> Host<S> {
         no_verify: bool,
         skip: &[Text],
     ) -> Result<CommitEnding, HostRefusal>
-        ensures step { IsCommitStep (C.tells children.old) (moment (C.call_count children.old) (C.fault_count children.old) (remembered_by self.old.store.kept)) (moment (C.call_count children.new) (C.fault_count children.new) (remembered_by self.new.store.kept)) self.old.store.kept.repo message.now no_verify skip.now (reply_of reply_of_ending result) self.new.store.kept }
+        ensures step { IsCommitStep (C.tells children.old)
+            (moment (C.call_count children.old) (C.fault_count children.old) (remembered_by self.old.store.kept))
+            (moment (C.call_count children.new) (C.fault_count children.new) (remembered_by self.new.store.kept))
+            self.old.store.kept.repo message.now no_verify skip.now (reply_of reply_of_ending result)
+            self.new.store.kept }
         ensures kept { KeepsForCommit self.old.store.kept self.new.store.kept result }
-        ensures command { IsPlayedSafely S.Store (C.tells children.old) (moment (C.call_count children.old) (C.fault_count children.old) (remembered_by self.old.store.kept)) (moment (C.call_count children.new) (C.fault_count children.new) (remembered_by self.new.store.kept)) self.old.store self.new.store (Commit message.now no_verify skip.now) (reply_of reply_of_ending result) }
+        ensures command { IsPlayedSafely S.Store (C.tells children.old)
+            (moment (C.call_count children.old) (C.fault_count children.old) (remembered_by self.old.store.kept))
+            (moment (C.call_count children.new) (C.fault_count children.new) (remembered_by self.new.store.kept))
+            self.old.store self.new.store (Commit message.now no_verify skip.now) (reply_of reply_of_ending result) }
         ensures same { SameTells (C.tells children.old) (C.tells children.new) }
     {
         commit_in(alloc, children, &mut self.store, message, no_verify, skip)
@@ -87,9 +94,15 @@ fn commit_in<C: Children, S: Alter>(
     no_verify: bool,
     skip: &[Text],
 ) -> Result<CommitEnding, HostRefusal>
-    ensures step { IsCommitStep (C.tells children.old) (moment (C.call_count children.old) (C.fault_count children.old) (remembered_by store.old.kept)) (moment (C.call_count children.new) (C.fault_count children.new) (remembered_by store.new.kept)) store.old.kept.repo message.now no_verify skip.now (reply_of reply_of_ending result) store.new.kept }
+    ensures step { IsCommitStep (C.tells children.old)
+        (moment (C.call_count children.old) (C.fault_count children.old) (remembered_by store.old.kept))
+        (moment (C.call_count children.new) (C.fault_count children.new) (remembered_by store.new.kept))
+        store.old.kept.repo message.now no_verify skip.now (reply_of reply_of_ending result) store.new.kept }
     ensures kept { KeepsForCommit store.old.kept store.new.kept result }
-    ensures command { IsPlayedSafely S.Store (C.tells children.old) (moment (C.call_count children.old) (C.fault_count children.old) (remembered_by store.old.kept)) (moment (C.call_count children.new) (C.fault_count children.new) (remembered_by store.new.kept)) store.old store.new (Commit message.now no_verify skip.now) (reply_of reply_of_ending result) }
+    ensures command { IsPlayedSafely S.Store (C.tells children.old)
+        (moment (C.call_count children.old) (C.fault_count children.old) (remembered_by store.old.kept))
+        (moment (C.call_count children.new) (C.fault_count children.new) (remembered_by store.new.kept)) store.old
+        store.new (Commit message.now no_verify skip.now) (reply_of reply_of_ending result) }
     ensures same { SameTells (C.tells children.old) (C.tells children.new) }
 {
     let through = go_through(alloc, children, store, message, no_verify, skip)?;
@@ -124,9 +137,16 @@ fn go_through<C: Children, S: Alter>(
     no_verify: bool,
     skip: &[Text],
 ) -> Result<Through, HostRefusal>
-    ensures through { IfOk result (IsThrough (C.tells children.old) (moment (C.call_count children.old) (C.fault_count children.old) (remembered_by store.old.kept)) (moment (C.call_count children.new) (C.fault_count children.new) (remembered_by store.new.kept)) store.old.kept.repo message.now no_verify skip.now) }
-    ensures refused { IfErr result (IsUnthrough (C.tells children.old) (moment (C.call_count children.old) (C.fault_count children.old) (remembered_by store.old.kept)) (moment (C.call_count children.new) (C.fault_count children.new) (remembered_by store.new.kept)) store.old.kept.repo message.now no_verify skip.now) }
-    ensures left { LeavesTold (C.tells children.old) (remembered_by store.old.kept) (MayRemember S.Store store.old) (MayRemember S.Store store.new) }
+    ensures through { IfOk result (IsThrough (C.tells children.old)
+        (moment (C.call_count children.old) (C.fault_count children.old) (remembered_by store.old.kept))
+        (moment (C.call_count children.new) (C.fault_count children.new) (remembered_by store.new.kept))
+        store.old.kept.repo message.now no_verify skip.now) }
+    ensures refused { IfErr result (IsUnthrough (C.tells children.old)
+        (moment (C.call_count children.old) (C.fault_count children.old) (remembered_by store.old.kept))
+        (moment (C.call_count children.new) (C.fault_count children.new) (remembered_by store.new.kept))
+        store.old.kept.repo message.now no_verify skip.now) }
+    ensures left { LeavesTold (C.tells children.old) (remembered_by store.old.kept) (MayRemember S.Store store.old)
+        (MayRemember S.Store store.new) }
     ensures rest { IsAtRest S.Store store.old store.new }
     ensures same { SameTells (C.tells children.old) (C.tells children.new) }
 {

@@ -6,8 +6,8 @@ ghost use Rattle.commit_flow.specs.Commits.{IsCommittable};
 
 use crate::HostRefusal;
 use crate::candidates::changed_paths;
+use crate::commit_state::CommitState;
 use crate::configured::staged_config;
-use crate::course::Course;
 use crate::message::begun_message;
 use hook_base::{Bytes, Content, Items, RepoPath};
 use hook_config::Config;
@@ -23,7 +23,7 @@ pub(crate) struct CommitBegun {
     /// The paths of the staged files that differ from the last commit.
     pub(crate) changed: Items<RepoPath>,
     /// What the first stage gets.
-    pub(crate) course: Course,
+    pub(crate) course: CommitState,
 }
 
 /// Begins a commit. First a message of more than 16 MiB is refused (`TooLarge`), then staged files that are
@@ -45,7 +45,7 @@ pub(crate) fn begin_commit<S: Alter>(
     Ok(CommitBegun {
         config,
         changed,
-        course: Course {
+        course: CommitState {
             tree: staged,
             message: Content::hashed(alloc, message)?,
         },

@@ -46,9 +46,12 @@ pub enum CommitEnding {
 /// have the digest of others. `Store` comes if the database refuses or a fix has more than 16 MiB, and
 /// `OutOfMemory` if memory is refused. A refusal leaves the store as it was.
 pub(crate) fn set_fixes_to<S: Alter>(store: &mut Store<S>, tree: &Tree) -> Result<(), HostRefusal>
-    ensures refused { IfErr result (IsUnfixed store.old.kept.contents (changes_between store.old.kept.repo.staged tree.now)) }
-    ensures change { IsAllOrNothing store.old.kept store.new.kept result (setting (changes_between store.old.kept.repo.staged tree.now) store.old.kept) }
-    ensures one { IsOneChange S.Store store.old store.new result (setting (changes_between store.old.kept.repo.staged tree.now) store.old.kept) }
+    ensures refused { IfErr result (IsUnfixed store.old.kept.contents
+        (changes_between store.old.kept.repo.staged tree.now)) }
+    ensures change { IsAllOrNothing store.old.kept store.new.kept result
+        (setting (changes_between store.old.kept.repo.staged tree.now) store.old.kept) }
+    ensures one { IsOneChange S.Store store.old store.new result
+        (setting (changes_between store.old.kept.repo.staged tree.now) store.old.kept) }
 {
     let staged = store.staged()?;
     let changes = staged.changes_to(tree)?;
@@ -65,8 +68,12 @@ pub(crate) fn run_post_commit<C: Children, S: Alter>(
     config: &Config,
     skip: &[Text],
 ) -> PostCommit
-    ensures post { IsPostOver (C.tells children.old) (moment (C.call_count children.old) (C.fault_count children.old) (remembered_by store.old.kept)) (moment (C.call_count children.new) (C.fault_count children.new) (remembered_by store.new.kept)) config.now store.old.kept.repo.staged skip.now result }
-    ensures left { LeavesTold (C.tells children.old) (remembered_by store.old.kept) (MayRemember S.Store store.old) (MayRemember S.Store store.new) }
+    ensures post { IsPostOver (C.tells children.old)
+        (moment (C.call_count children.old) (C.fault_count children.old) (remembered_by store.old.kept))
+        (moment (C.call_count children.new) (C.fault_count children.new) (remembered_by store.new.kept)) config.now
+        store.old.kept.repo.staged skip.now result }
+    ensures left { LeavesTold (C.tells children.old) (remembered_by store.old.kept) (MayRemember S.Store store.old)
+        (MayRemember S.Store store.new) }
     ensures rest { IsAtRest S.Store store.old store.new }
     ensures same { SameTells (C.tells children.old) (C.tells children.new) }
 {
@@ -91,9 +98,16 @@ fn run_on_staged<C: Children, S: Alter>(
     config: &Config,
     skip: &[Text],
 ) -> Result<RunOut, RunRefusal>
-    ensures run { IfOk result (HaveRun (C.tells children.old) (moment (C.call_count children.old) (C.fault_count children.old) (remembered_by store.old.kept)) (moment (C.call_count children.new) (C.fault_count children.new) (remembered_by store.new.kept)) config.now (ask_in [] skip.now Stage.PostCommit) store.old.kept.repo.staged) }
-    ensures stopped { IfErr result (IsRunStopped RefusesAnswers (C.tells children.old) (moment (C.call_count children.old) (C.fault_count children.old) (remembered_by store.old.kept)) (moment (C.call_count children.new) (C.fault_count children.new) (remembered_by store.new.kept)) config.now (ask_in [] skip.now Stage.PostCommit) store.old.kept.repo.staged) }
-    ensures left { LeavesTold (C.tells children.old) (remembered_by store.old.kept) (MayRemember S.Store store.old) (MayRemember S.Store store.new) }
+    ensures run { IfOk result (HaveRun (C.tells children.old)
+        (moment (C.call_count children.old) (C.fault_count children.old) (remembered_by store.old.kept))
+        (moment (C.call_count children.new) (C.fault_count children.new) (remembered_by store.new.kept)) config.now
+        (ask_in [] skip.now Stage.PostCommit) store.old.kept.repo.staged) }
+    ensures stopped { IfErr result (IsRunStopped RefusesAnswers (C.tells children.old)
+        (moment (C.call_count children.old) (C.fault_count children.old) (remembered_by store.old.kept))
+        (moment (C.call_count children.new) (C.fault_count children.new) (remembered_by store.new.kept)) config.now
+        (ask_in [] skip.now Stage.PostCommit) store.old.kept.repo.staged) }
+    ensures left { LeavesTold (C.tells children.old) (remembered_by store.old.kept) (MayRemember S.Store store.old)
+        (MayRemember S.Store store.new) }
     ensures rest { IsAtRest S.Store store.old store.new }
     ensures same { SameTells (C.tells children.old) (C.tells children.new) }
 {

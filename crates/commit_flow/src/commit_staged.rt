@@ -27,8 +27,10 @@ pub(crate) fn commit_staged<S: Alter>(
     ensures able { OnOk result (MayCommit store.old.kept.repo (cleaned_message message.now)) }
     ensures refused { IfErr result (IsUncommitted store.old.kept.repo (cleaned_message message.now)) }
     ensures unasked { cleaned_message message.now ≡ [] → store.new ≡ store.old }
-    ensures change { IsAllOrNothing store.old.kept store.new.kept result (committing (cleaned_message message.now) store.old.kept) }
-    ensures one { IsOneChange S.Store store.old store.new result (committing (cleaned_message message.now) store.old.kept) }
+    ensures change { IsAllOrNothing store.old.kept store.new.kept result
+        (committing (cleaned_message message.now) store.old.kept) }
+    ensures one { IsOneChange S.Store store.old store.new result
+        (committing (cleaned_message message.now) store.old.kept) }
 {
     let cleaned = cleaned_message(alloc, message)?;
     check_cleaned(store, cleaned.as_slice())?;

@@ -10,7 +10,7 @@ ghost use Rattle.commit_flow.specs.CommitStages.{HaveBegun, HaveFurther, ask_in,
 ghost use Rattle.commit_flow.specs.Preparations.{HaveRun, LeavesTold};
 
 use crate::HostRefusal;
-use crate::course::Course;
+use crate::commit_state::CommitState;
 use crate::hooks::run_with_book;
 use child_port::Children;
 use hook_base::{Bytes, Items, OutOfMemory, RepoPath, Text, Tree, copy_texts};
@@ -27,7 +27,7 @@ pub(crate) struct StageEnd {
     /// The report on the hooks.
     pub(crate) report: Bytes,
     /// What is passed on.
-    pub(crate) course: Course,
+    pub(crate) course: CommitState,
 }
 
 /// How the stages before a commit ended, with the reports of those that were run.
@@ -38,7 +38,7 @@ pub(crate) enum StagesEnd {
         /// The reports, in order.
         reports: Items<Bytes>,
         /// What is passed on.
-        course: Course,
+        course: CommitState,
     },
     /// A hook of this stage failed.
     Failed {
@@ -47,7 +47,7 @@ pub(crate) enum StagesEnd {
         /// The reports, in order.
         reports: Items<Bytes>,
         /// What the stage passes on.
-        course: Course,
+        course: CommitState,
     },
 }
 
@@ -73,10 +73,17 @@ pub(crate) fn run_stages<C: Children, B: Book>(
     changed: &[RepoPath],
     skip: &[Text],
     stages: &[Stage],
-    course: Course,
+    course: CommitState,
 ) -> Result<StagesEnd, HostRefusal>
-    ensures run { IfOk result (AreRunOver (C.tells children.old) (moment (C.call_count children.old) (C.fault_count children.old) (B.contents book.old)) (moment (C.call_count children.new) (C.fault_count children.new) (B.contents book.new)) config.now changed.now skip.now stages.now course) }
-    ensures halted { IfErr result (IsHalted B.refuses (C.tells children.old) (moment (C.call_count children.old) (C.fault_count children.old) (B.contents book.old)) (moment (C.call_count children.new) (C.fault_count children.new) (B.contents book.new)) (HaveBegun config.now changed.now skip.now stages.now course) (HaveFurther (B.contents book.new) config.now changed.now skip.now stages.now course)) }
+    ensures run { IfOk result (AreRunOver (C.tells children.old)
+        (moment (C.call_count children.old) (C.fault_count children.old) (B.contents book.old))
+        (moment (C.call_count children.new) (C.fault_count children.new) (B.contents book.new)) config.now changed.now
+        skip.now stages.now course) }
+    ensures halted { IfErr result (IsHalted B.refuses (C.tells children.old)
+        (moment (C.call_count children.old) (C.fault_count children.old) (B.contents book.old))
+        (moment (C.call_count children.new) (C.fault_count children.new) (B.contents book.new))
+        (HaveBegun config.now changed.now skip.now stages.now course)
+        (HaveFurther (B.contents book.new) config.now changed.now skip.now stages.now course)) }
     ensures left { LeavesTold (C.tells children.old) (B.contents book.old) (B.leaves book.old) (B.leaves book.new) }
     ensures rest { B.rests book.old book.new }
     ensures same { SameTells (C.tells children.old) (C.tells children.new) }
@@ -122,10 +129,17 @@ fn run_stage<C: Children, B: Book>(
     changed: &[RepoPath],
     skip: &[Text],
     stage: Stage,
-    course: Course,
+    course: CommitState,
 ) -> Result<StageEnd, HostRefusal>
-    ensures run { IfOk result (IsStageOver (C.tells children.old) (moment (C.call_count children.old) (C.fault_count children.old) (B.contents book.old)) (moment (C.call_count children.new) (C.fault_count children.new) (B.contents book.new)) config.now changed.now skip.now stage course) }
-    ensures halted { IfErr result (IsHalted B.refuses (C.tells children.old) (moment (C.call_count children.old) (C.fault_count children.old) (B.contents book.old)) (moment (C.call_count children.new) (C.fault_count children.new) (B.contents book.new)) (IsBegun config.now (ask_in changed.now skip.now stage) (tree_in stage course)) (NeedsChild (B.contents book.new) config.now (ask_in changed.now skip.now stage) (tree_in stage course))) }
+    ensures run { IfOk result (IsStageOver (C.tells children.old)
+        (moment (C.call_count children.old) (C.fault_count children.old) (B.contents book.old))
+        (moment (C.call_count children.new) (C.fault_count children.new) (B.contents book.new)) config.now changed.now
+        skip.now stage course) }
+    ensures halted { IfErr result (IsHalted B.refuses (C.tells children.old)
+        (moment (C.call_count children.old) (C.fault_count children.old) (B.contents book.old))
+        (moment (C.call_count children.new) (C.fault_count children.new) (B.contents book.new))
+        (IsBegun config.now (ask_in changed.now skip.now stage) (tree_in stage course))
+        (NeedsChild (B.contents book.new) config.now (ask_in changed.now skip.now stage) (tree_in stage course))) }
     ensures left { LeavesTold (C.tells children.old) (B.contents book.old) (B.leaves book.old) (B.leaves book.new) }
     ensures rest { B.rests book.old book.new }
     ensures same { SameTells (C.tells children.old) (C.tells children.new) }
@@ -167,8 +181,14 @@ pub(crate) fn run_hooks_of<C: Children, B: Book>(
     stage: Stage,
     tree: &Tree,
 ) -> Result<RunOut, RunRefusal>
-    ensures run { IfOk result (HaveRun (C.tells children.old) (moment (C.call_count children.old) (C.fault_count children.old) (B.contents book.old)) (moment (C.call_count children.new) (C.fault_count children.new) (B.contents book.new)) config.now (ask_in changed.now skip.now stage) tree.now) }
-    ensures stopped { IfErr result (IsRunStopped B.refuses (C.tells children.old) (moment (C.call_count children.old) (C.fault_count children.old) (B.contents book.old)) (moment (C.call_count children.new) (C.fault_count children.new) (B.contents book.new)) config.now (ask_in changed.now skip.now stage) tree.now) }
+    ensures run { IfOk result (HaveRun (C.tells children.old)
+        (moment (C.call_count children.old) (C.fault_count children.old) (B.contents book.old))
+        (moment (C.call_count children.new) (C.fault_count children.new) (B.contents book.new)) config.now
+        (ask_in changed.now skip.now stage) tree.now) }
+    ensures stopped { IfErr result (IsRunStopped B.refuses (C.tells children.old)
+        (moment (C.call_count children.old) (C.fault_count children.old) (B.contents book.old))
+        (moment (C.call_count children.new) (C.fault_count children.new) (B.contents book.new)) config.now
+        (ask_in changed.now skip.now stage) tree.now) }
     ensures left { LeavesTold (C.tells children.old) (B.contents book.old) (B.leaves book.old) (B.leaves book.new) }
     ensures rest { B.rests book.old book.new }
     ensures same { SameTells (C.tells children.old) (C.tells children.new) }

@@ -23,8 +23,14 @@ pub(crate) fn run_counted<C: Children, B: Book>(
     ask: &RunAsk,
     tree: &Tree,
 ) -> Result<HooksRun, RunRefusal>
-    ensures run { IfOk result (HaveRunCounted (C.tells children.old) (moment (C.call_count children.old) (C.fault_count children.old) (B.contents book.old)) (moment (C.call_count children.new) (C.fault_count children.new) (B.contents book.new)) config.now ask.now tree.now) }
-    ensures stopped { IfErr result (HaveStopped B.refuses (C.tells children.old) (moment (C.call_count children.old) (C.fault_count children.old) (B.contents book.old)) (moment (C.call_count children.new) (C.fault_count children.new) (B.contents book.new)) config.now ask.now tree.now) }
+    ensures run { IfOk result (HaveRunCounted (C.tells children.old)
+        (moment (C.call_count children.old) (C.fault_count children.old) (B.contents book.old))
+        (moment (C.call_count children.new) (C.fault_count children.new) (B.contents book.new)) config.now ask.now
+        tree.now) }
+    ensures stopped { IfErr result (HaveStopped B.refuses (C.tells children.old)
+        (moment (C.call_count children.old) (C.fault_count children.old) (B.contents book.old))
+        (moment (C.call_count children.new) (C.fault_count children.new) (B.contents book.new)) config.now ask.now
+        tree.now) }
     ensures left { LeavesTold (C.tells children.old) (B.contents book.old) (B.leaves book.old) (B.leaves book.new) }
     ensures rest { B.rests book.old book.new }
     ensures same { SameTells (C.tells children.old) (C.tells children.new) }
@@ -41,8 +47,14 @@ pub(crate) fn run_with_book<C: Children, B: Book>(
     ask: &RunAsk,
     tree: &Tree,
 ) -> Result<RunOut, RunRefusal>
-    ensures run { IfOk result (HaveRun (C.tells children.old) (moment (C.call_count children.old) (C.fault_count children.old) (B.contents book.old)) (moment (C.call_count children.new) (C.fault_count children.new) (B.contents book.new)) config.now ask.now tree.now) }
-    ensures stopped { IfErr result (HaveStopped B.refuses (C.tells children.old) (moment (C.call_count children.old) (C.fault_count children.old) (B.contents book.old)) (moment (C.call_count children.new) (C.fault_count children.new) (B.contents book.new)) config.now ask.now tree.now) }
+    ensures run { IfOk result (HaveRun (C.tells children.old)
+        (moment (C.call_count children.old) (C.fault_count children.old) (B.contents book.old))
+        (moment (C.call_count children.new) (C.fault_count children.new) (B.contents book.new)) config.now ask.now
+        tree.now) }
+    ensures stopped { IfErr result (HaveStopped B.refuses (C.tells children.old)
+        (moment (C.call_count children.old) (C.fault_count children.old) (B.contents book.old))
+        (moment (C.call_count children.new) (C.fault_count children.new) (B.contents book.new)) config.now ask.now
+        tree.now) }
     ensures left { LeavesTold (C.tells children.old) (B.contents book.old) (B.leaves book.old) (B.leaves book.new) }
     ensures rest { B.rests book.old book.new }
     ensures same { SameTells (C.tells children.old) (C.tells children.new) }

@@ -84,11 +84,15 @@ impl<S: Alter> Host<S> {
         bytes: &[u8],
         mode: Option<Mode>,
     ) -> Result<(), HostRefusal>
-        ensures step { Step self.old.store.kept.repo (Add path.now bytes.now mode) (reply_of (λ _. Added) result) [] self.new.store.kept.repo }
-        ensures change { IsAllOrNothing self.old.store.kept self.new.store.kept result (staging path.now (entry_to_add self.old.store.kept.repo path.now bytes.now mode) self.old.store.kept) }
-        ensures command { IsOneCommand S.Store self.old.store self.new.store (Add path.now bytes.now mode) (reply_of (λ _. Added) result) }
+        ensures step { Step self.old.store.kept.repo (Add path.now bytes.now mode) (reply_of (λ _. Added) result) []
+            self.new.store.kept.repo }
+        ensures change { IsAllOrNothing self.old.store.kept self.new.store.kept result
+            (staging path.now (entry_to_add self.old.store.kept.repo path.now bytes.now mode) self.old.store.kept) }
+        ensures command { IsOneCommand S.Store self.old.store self.new.store (Add path.now bytes.now mode)
+            (reply_of (λ _. Added) result) }
         ensures apart { OnOk result (¬ Collides bytes.now self.old.store.kept.contents) }
-        ensures collides { IfErr result (λ refusal. refusal ≡ HostRefusal.Collision → Collides bytes.now self.old.store.kept.contents) }
+        ensures collides { IfErr result (λ refusal. refusal ≡ HostRefusal.Collision
+            → Collides bytes.now self.old.store.kept.contents) }
     {
         let path = self.addable(alloc, path, bytes)?;
         let mode = self.mode_to_add(&path, mode);
@@ -100,9 +104,12 @@ impl<S: Alter> Host<S> {
     /// that is no path (`BadPath`) and a path that isn't staged (`NotStaged`). `OutOfMemory` and `Store` come
     /// if memory or the database refuses. A refusal leaves the repository as it was.
     pub fn remove(&mut self, alloc: Global, path: &str) -> Result<(), HostRefusal>
-        ensures step { Step self.old.store.kept.repo (Remove path.now) (reply_of (λ _. Removed) result) [] self.new.store.kept.repo }
-        ensures change { IsAllOrNothing self.old.store.kept self.new.store.kept result (unstaging path.now self.old.store.kept) }
-        ensures command { IsOneCommand S.Store self.old.store self.new.store (Remove path.now) (reply_of (λ _. Removed) result) }
+        ensures step { Step self.old.store.kept.repo (Remove path.now) (reply_of (λ _. Removed) result) []
+            self.new.store.kept.repo }
+        ensures change { IsAllOrNothing self.old.store.kept self.new.store.kept result
+            (unstaging path.now self.old.store.kept) }
+        ensures command { IsOneCommand S.Store self.old.store self.new.store (Remove path.now)
+            (reply_of (λ _. Removed) result) }
     {
         let path = self.removable(alloc, path)?;
         self.store.unstage(&path)?;
@@ -118,12 +125,14 @@ impl<S: Alter> Host<S> {
     /// was.
     pub fn stage_all(&mut self, edits: &[StagingEdit]) -> Result<(), StagingStop>
         requires { edits.now ≢ [] }
-        ensures change { IsAllOrNothing self.old.store.kept self.new.store.kept result (all_edited edits.now self.old.store.kept) }
+        ensures change { IsAllOrNothing self.old.store.kept self.new.store.kept result
+            (all_edited edits.now self.old.store.kept) }
         ensures steps { OnOk result (AreSteps edits.now self.old.store.kept.repo self.new.store.kept.repo) }
         ensures refused { IfErr result (IsStagingStop edits.now self.old.store.kept.repo) }
         ensures command { AreOneCommand S.Store self.old.store self.new.store edits.now result }
         ensures apart { OnOk result (NoEditCollides edits.now self.old.store.kept) }
-        ensures collides { IfErr result (λ stop. stop.refusal ≡ HostRefusal.Collision → MatchOption stop.at ⊥ (CollidesAt edits.now self.old.store.kept)) }
+        ensures collides { IfErr result (λ stop. stop.refusal ≡ HostRefusal.Collision
+            → MatchOption stop.at ⊥ (CollidesAt edits.now self.old.store.kept)) }
     {
         self.store.stage_all(edits)?;
         Ok(())
@@ -149,10 +158,12 @@ impl<S: Alter> Host<S> {
     /// is cached as it was. The repository stays in any case.
     pub fn forget(&mut self) -> Result<u64, HostRefusal>
         ensures step { Step self.old.store.kept.repo Forget (reply_of Forgot result) [] self.new.store.kept.repo }
-        ensures change { IsAllOrNothing self.old.store.kept self.new.store.kept result (forgetting self.old.store.kept) }
+        ensures change { IsAllOrNothing self.old.store.kept self.new.store.kept result
+            (forgetting self.old.store.kept) }
         ensures command { IsOneCommand S.Store self.old.store self.new.store Forget (reply_of Forgot result) }
         ensures number { IfOk result (λ number. number ≡ count_of (remembered_by self.old.store.kept)) }
-        ensures forgotten { OnOk result (AfterForget (remembered_by self.old.store.kept) (remembered_by self.new.store.kept)) }
+        ensures forgotten { OnOk result (AfterForget (remembered_by self.old.store.kept)
+            (remembered_by self.new.store.kept)) }
         ensures refused { OnErr result (remembered_by self.new.store.kept ≡ remembered_by self.old.store.kept) }
     {
         Ok(self.store.answers_forget()?)
@@ -182,10 +193,13 @@ impl<S: Alter> Host<S> {
     /// is cached and the limit as they were. The repository stays in any case.
     pub fn set_limit(&mut self, limit: u32) -> Result<u64, HostRefusal>
         requires { IsLimit limit }
-        ensures change { IsAllOrNothing self.old.store.kept self.new.store.kept result (limiting limit self.old.store.kept) }
-        ensures transaction { IsOneTransaction S.Store self.old.store self.new.store result (limiting limit self.old.store.kept) }
+        ensures change { IsAllOrNothing self.old.store.kept self.new.store.kept result
+            (limiting limit self.old.store.kept) }
+        ensures transaction { IsOneTransaction S.Store self.old.store self.new.store result
+            (limiting limit self.old.store.kept) }
         ensures number { IfOk result (λ number. number ≡ count_of (remembered_by self.new.store.kept)) }
-        ensures limited { OnOk result (IsLimitedTo limit (remembered_by self.old.store.kept) (remembered_by self.new.store.kept)) }
+        ensures limited { OnOk result (IsLimitedTo limit (remembered_by self.old.store.kept)
+            (remembered_by self.new.store.kept)) }
         ensures refused { OnErr result (remembered_by self.new.store.kept ≡ remembered_by self.old.store.kept) }
         ensures why { IfErr result IsLimitRefusal }
     {
@@ -227,7 +241,8 @@ impl<S: Alter> Host<S> {
 
     /// The files of a commit, or `None` if no commit has the number. It fails only for lack of memory.
     pub fn tree_of(&self, number: u32) -> Result<Option<Tree>, OutOfMemory>
-        ensures tree { IfOk result (λ tree. tree ≡ option_map (λ (commit : Commit). commit.tree) (commit_at number self.now.store.kept.repo.history)) }
+        ensures tree { IfOk result (λ tree. tree
+            ≡ option_map (λ (commit : Commit). commit.tree) (commit_at number self.now.store.kept.repo.history)) }
         ensures rising { IfOk result (λ tree. IfSome tree IsRising) }
     {
         self.store.tree_of(number)

@@ -1,7 +1,7 @@
 //! Why a command of a host is refused.
 
 ghost use Rattle.std.specs.Prelude.{◌≡◌};
-ghost use Rattle.commit_flow.specs.Refusals.{inner_number_of, name_of, number_of};
+ghost use Rattle.commit_flow.specs.Refusals.{inner_number_of, host_refusal_name, host_refusal_number};
 ghost use Rattle.commit_flow.specs.declared.host_refusal.HostRefusal.TheVariants.{OutOfMemory};
 
 use hook_base::{OutOfMemory, PathFault};
@@ -70,7 +70,7 @@ pub enum HostRefusal {
 impl HostRefusal {
     /// The refusal's number, from 1 to 15 (docs/REFERENCE.md, "The host of a repository").
     pub fn number(&self) -> u8
-        ensures { result ≡ number_of self.now }
+        ensures { result ≡ host_refusal_number self.now }
     {
         match self {
             HostRefusal::OutOfMemory => 1,
@@ -93,7 +93,7 @@ impl HostRefusal {
 
     /// The refusal's name, as it is printed after its number.
     pub fn name(&self) -> &'static str
-        ensures { result.now ≡ name_of self.now }
+        ensures { result.now ≡ host_refusal_name self.now }
     {
         match self {
             HostRefusal::OutOfMemory => "OutOfMemory",

@@ -34,56 +34,80 @@ use sqlite::Alter;
 /// unless memory or the database refuses, or contents collide. So the refusals of a command come in one
 /// order, and none comes if the command could be done.
 pub fn a_command_has_one_answer()
-    ensures { (before after other : Repository) (command : Command) (reply second : Reply) (parts more : List Part) → Step before command reply parts after → Step before command second more other → IsRunless command → IsDecided reply → IsDecided second → (reply ≡ second) × (parts ≡ more) × (after ≡ other) }
+    ensures { (before after other : Repository) (command : Command) (reply second : Reply) (parts more : List Part)
+        → Step before command reply parts after → Step before command second more other → IsRunless command
+        → IsDecided reply → IsDecided second → (reply ≡ second) × (parts ≡ more) × (after ≡ other) }
 {}
 
 /// A command that is refused leaves the whole repository as it was. The history changes only if the reply
 /// says that a commit was made. Then there is one commit more: each stage before it passed, and its message
 /// is what they pass on, cleaned.
 pub fn the_history_grows_by_commits_alone()
-    ensures refused { (before after : Repository) (command : Command) (refusal : HostRefusal) (parts : List Part) → Step before command (Refused refusal) parts after → after ≡ before }
-    ensures kept { (before after : Repository) (command : Command) (reply : Reply) (parts : List Part) → Step before command reply parts after → (¬ SaysCommitted reply) → after.history ≡ before.history }
-    ensures committed { (before after : Repository) (command : Command) (number : ℕ) (reports : List (List ℕ)) (post : PostCommit) (parts : List Part) → Step before command (Committed number reports post) parts after → HasCommitted before command after }
+    ensures refused { (before after : Repository) (command : Command) (refusal : HostRefusal) (parts : List Part)
+        → Step before command (Refused refusal) parts after → after ≡ before }
+    ensures kept { (before after : Repository) (command : Command) (reply : Reply) (parts : List Part)
+        → Step before command reply parts after → (¬ SaysCommitted reply) → after.history ≡ before.history }
+    ensures committed { (before after : Repository) (command : Command) (number : ℕ) (reports : List (List ℕ))
+        (post : PostCommit) (parts : List Part) → Step before command (Committed number reports post) parts after
+        → HasCommitted before command after }
 {}
 
 /// A list of commands adds to the history only if a reply says that a commit was made.
 pub fn a_play_without_commits_leaves_history<C: Children>(children: &C)
-    ensures { (from to : Moment) (before after : Repository) (commands : List Command) (replies : List Reply) (parts : List Part) → ArePlayed (C.tells children.now) from to before commands replies parts after → All (λ reply. ¬ SaysCommitted reply) replies → after.history ≡ before.history }
+    ensures { (from to : Moment) (before after : Repository) (commands : List Command) (replies : List Reply)
+        (parts : List Part) → ArePlayed (C.tells children.now) from to before commands replies parts after
+        → All (λ reply. ¬ SaysCommitted reply) replies → after.history ≡ before.history }
 {}
 
 /// The children count at least the faults of the parts that the replies rest on. They count no others if each
 /// reply rests on all that they reported for it.
 pub fn a_play_counts_its_faults<C: Children>(children: &C)
-    ensures at_least { (from to : Moment) (before after : Repository) (commands : List Command) (replies : List Reply) (parts : List Part) → ArePlayed (C.tells children.now) from to before commands replies parts after → from.faults + faults_of parts ≤ to.faults }
-    ensures exactly { (from to : Moment) (before after : Repository) (commands : List Command) (replies : List Reply) (parts : List Part) → ArePlayed (C.tells children.now) from to before commands replies parts after → All StandsOnAll replies → to.faults ≡ from.faults + faults_of parts }
+    ensures at_least { (from to : Moment) (before after : Repository) (commands : List Command) (replies : List Reply)
+        (parts : List Part) → ArePlayed (C.tells children.now) from to before commands replies parts after
+        → from.faults + faults_of parts ≤ to.faults }
+    ensures exactly { (from to : Moment) (before after : Repository) (commands : List Command) (replies : List Reply)
+        (parts : List Part) → ArePlayed (C.tells children.now) from to before commands replies parts after
+        → All StandsOnAll replies → to.faults ≡ from.faults + faults_of parts }
 {}
 
 /// Commands that run no hooks start no child.
 pub fn a_play_without_hooks_starts_no_child<C: Children>(children: &C)
-    ensures { (from to : Moment) (before after : Repository) (commands : List Command) (replies : List Reply) (parts : List Part) → ArePlayed (C.tells children.now) from to before commands replies parts after → All (λ command. ¬ RunsHooks command) commands → (to.calls ≡ from.calls) × (to.faults ≡ from.faults) }
+    ensures { (from to : Moment) (before after : Repository) (commands : List Command) (replies : List Reply)
+        (parts : List Part) → ArePlayed (C.tells children.now) from to before commands replies parts after
+        → All (λ command. ¬ RunsHooks command) commands → (to.calls ≡ from.calls) × (to.faults ≡ from.faults) }
 {}
 
 /// Commands that neither run hooks nor forget leave what is cached as it was.
 pub fn a_play_without_hooks_leaves_what_is_remembered<C: Children>(children: &C)
-    ensures { (from to : Moment) (before after : Repository) (commands : List Command) (replies : List Reply) (parts : List Part) → ArePlayed (C.tells children.now) from to before commands replies parts after → All IsRunless commands → to ≡ from }
+    ensures { (from to : Moment) (before after : Repository) (commands : List Command) (replies : List Reply)
+        (parts : List Part) → ArePlayed (C.tells children.now) from to before commands replies parts after
+        → All IsRunless commands → to ≡ from }
 {}
 
 /// Let each reply rest on all that was answered for it. Then only two things change what is cached: the parts
 /// of a command, for some of which children were started, and a command that forgets, which empties it. The
 /// children count just these started parts.
 pub fn a_play_counts_what_it_starts<C: Children>(children: &C)
-    ensures { (from to : Moment) (before after : Repository) (commands : List Command) (replies : List Reply) (parts : List Part) → ArePlayed (C.tells children.now) from to before commands replies parts after → All StandsOnAll replies → (started : List Part) × PlayStarts before from.remembered commands replies parts started to.remembered after × IsCounted from to started }
+    ensures { (from to : Moment) (before after : Repository) (commands : List Command) (replies : List Reply)
+        (parts : List Part) → ArePlayed (C.tells children.now) from to before commands replies parts after
+        → All StandsOnAll replies → (started : List Part)
+        × PlayStarts before from.remembered commands replies parts started to.remembered after
+        × IsCounted from to started }
 {}
 
 /// A reply says that the children are spent only if they have reported as many outcomes as can be counted.
 /// The count stays there once all the commands are done.
 pub fn spent_only_at_the_last_count<C: Children>(children: &C)
-    ensures { (from to : Moment) (before after : Repository) (commands : List Command) (replies : List Reply) (parts : List Part) → ArePlayed (C.tells children.now) from to before commands replies parts after → to.calls ≤ 2 ^ 64 - 1 → Any SaysSpent replies → to.calls ≡ 2 ^ 64 - 1 }
+    ensures { (from to : Moment) (before after : Repository) (commands : List Command) (replies : List Reply)
+        (parts : List Part) → ArePlayed (C.tells children.now) from to before commands replies parts after
+        → to.calls ≤ 2 ^ 64 - 1 → Any SaysSpent replies → to.calls ≡ 2 ^ 64 - 1 }
 {}
 
 /// Each command that is played has one reply.
 pub fn a_played_command_has_one_reply<C: Children>(children: &C)
-    ensures { (from to : Moment) (before after : Repository) (commands : List Command) (replies : List Reply) (parts : List Part) → ArePlayed (C.tells children.now) from to before commands replies parts after → length replies ≡ length commands }
+    ensures { (from to : Moment) (before after : Repository) (commands : List Command) (replies : List Reply)
+        (parts : List Part) → ArePlayed (C.tells children.now) from to before commands replies parts after
+        → length replies ≡ length commands }
 {}
 
 /// Let no words and seen files have two completed answers. Then a list of commands has one list of replies,
@@ -94,15 +118,26 @@ pub fn a_played_command_has_one_reply<C: Children>(children: &C)
 /// store, a configuration that can't be read, a collision, the count of children, or stopped hooks after a
 /// commit.
 pub fn commands_have_one_answer<C: Children, D: Children>(children: &C, others: &D)
-    ensures { SameTells (C.tells children.now) (D.tells others.now) → OneAnswer (C.tells children.now) → (before after other : Repository) (commands : List Command) (replies seconds : List Reply) (parts more : List Part) → IsUnhinderedRun (C.tells children.now) before commands replies parts after → IsUnhinderedRun (D.tells others.now) before commands seconds more other → (map without_memory replies ≡ map without_memory seconds) × (after ≡ other) }
+    ensures { SameTells (C.tells children.now) (D.tells others.now) → OneAnswer (C.tells children.now)
+        → (before after other : Repository) (commands : List Command) (replies seconds : List Reply)
+        (parts more : List Part) → IsUnhinderedRun (C.tells children.now) before commands replies parts after
+        → IsUnhinderedRun (D.tells others.now) before commands seconds more other
+        → (map without_memory replies ≡ map without_memory seconds) × (after ≡ other) }
 {}
 
 /// Two hosts play the same commands on equal repositories, over children that may report the same outcomes.
 /// They give one answer, whatever results of such children each has cached: equal replies, except for how
 /// many answers were forgotten, and equal repositories. And none of their hooks is unsteady.
 pub fn two_hosts_give_one_answer<C: Children, D: Children>(children: &C, others: &D)
-    ensures same { SameTells (C.tells children.now) (D.tells others.now) → OneAnswer (C.tells children.now) → (from to start end : Moment) (before after other : Repository) (commands : List Command) (replies seconds : List Reply) → IsUnhinderedPlay (C.tells children.now) from to before commands replies after → IsUnhinderedPlay (D.tells others.now) start end before commands seconds other → (map without_number replies ≡ map without_number seconds) × (after ≡ other) }
-    ensures steady { OneAnswer (C.tells children.now) → (from to : Moment) (before after : Repository) (commands : List Command) (replies : List Reply) → IsPlay (C.tells children.now) from to before commands replies after → IsTold (C.tells children.now) from.remembered → All IsSteady replies }
+    ensures same { SameTells (C.tells children.now) (D.tells others.now) → OneAnswer (C.tells children.now)
+        → (from to start end : Moment) (before after other : Repository) (commands : List Command)
+        (replies seconds : List Reply) → IsUnhinderedPlay (C.tells children.now) from to before commands replies after
+        → IsUnhinderedPlay (D.tells others.now) start end before commands seconds other
+        → (map without_number replies ≡ map without_number seconds) × (after ≡ other) }
+    ensures steady { OneAnswer (C.tells children.now)
+        → (from to : Moment) (before after : Repository) (commands : List Command) (replies : List Reply)
+        → IsPlay (C.tells children.now) from to before commands replies after
+        → IsTold (C.tells children.now) from.remembered → All IsSteady replies }
 {}
 
 /// However often a list of commands is stopped, and goes on once the store is opened again, nothing is half
@@ -115,5 +150,8 @@ pub fn two_hosts_give_one_answer<C: Children, D: Children>(children: &C, others:
 /// does, and is stopped within a command, between two, or not at all. The law holds on a disk that returns
 /// what was written to it, and if what is cached at first was reported.
 pub fn stopped_sessions_lose_nothing<C: Children, S: Alter>(children: &C, store: &Store<S>)
-    ensures { (found left : Trees) (sessions : List Session) (kept : Kept) → Leaves kept found → IsTold (C.tells children.now) (remembered_by kept) → AreSessions S.Store (C.tells children.now) found sessions left → LeavesSessions (C.tells children.now) kept.repo sessions left }
+    ensures { (found left : Trees) (sessions : List Session) (kept : Kept) → Leaves kept found
+        → IsTold (C.tells children.now) (remembered_by kept)
+        → AreSessions S.Store (C.tells children.now) found sessions left
+        → LeavesSessions (C.tells children.now) kept.repo sessions left }
 {}

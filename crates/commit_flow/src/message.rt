@@ -1,7 +1,7 @@
 //! The message of a commit: what its hooks begin with, and how it is cleaned after them.
 
 ghost use Rattle.std.specs.Prelude.{◌≡◌, ◌≢◌, ◌++◌, ◌&&◌, ◌||◌, not, if◌then◌else◌, [], IfOk, OnOk};
-ghost use Rattle.commit_flow.specs.Messages.{begun_message, cleaned_message, is_blank, ended_line, is_filled, lacks_line_end, without_blanks_after};
+ghost use Rattle.commit_flow.specs.Messages.{begun_message, cleaned_message, is_message_blank, ended_line, is_filled, lacks_line_end, without_trailing_blanks};
 
 use hook_base::OutOfMemory;
 use std::alloc::Global;
@@ -49,7 +49,8 @@ pub fn cleaned_message(alloc: Global, message: &[u8]) -> Result<Vec<u8>, OutOfMe
 // An empty line adds nothing, but waits for one that isn't empty, which it then precedes.
 fn push_line(output: &mut Vec<u8>, waits: bool, line: &[u8]) -> Result<(), OutOfMemory>
     ensures empty { OnOk result (line.now ≡ [] → output.new.items ≡ output.old.items) }
-    ensures filled { OnOk result (line.now ≢ [] → output.new.items ≡ output.old.items ++ ((if waits then ended_line [] else []) ++ ended_line line.now)) }
+    ensures filled { OnOk result (line.now ≢ []
+        → output.new.items ≡ output.old.items ++ ((if waits then ended_line [] else []) ++ ended_line line.now)) }
 {
     if line.is_empty() {
         return Ok(());
@@ -72,7 +73,7 @@ fn waits_behind(waits: bool, before: &[u8], line: &[u8]) -> bool
 // The bytes without the blanks at their end.
 #[tactic(auto, using(crate::proofs::MessageLemmas::last_is_blank, crate::proofs::MessageLemmas::last_is_other))]
 fn without_blanks_after(line: &[u8]) -> &[u8]
-    ensures { result.now ≡ without_blanks_after line.now }
+    ensures { result.now ≡ without_trailing_blanks line.now }
 {
     let mut rest = line;
     'blanks: while let [others @ .., last] = rest {
@@ -85,7 +86,7 @@ fn without_blanks_after(line: &[u8]) -> &[u8]
 }
 
 fn is_blank(byte: u8) -> bool
-    ensures { result ≡ is_blank byte }
+    ensures { result ≡ is_message_blank byte }
 {
     byte == b'\r' || byte == b'\t' || byte == b' '
 }

@@ -29,9 +29,16 @@ impl<S: Alter> Host<S> {
         children: &mut C,
         commands: &[Command],
     ) -> Result<Vec<Reply>, OutOfMemory>
-        ensures run { IfOk result (λ replies. IsPlay (C.tells children.old) (moment (C.call_count children.old) (C.fault_count children.old) (remembered_by self.old.store.kept)) (moment (C.call_count children.new) (C.fault_count children.new) (remembered_by self.new.store.kept)) self.old.store.kept.repo commands.now replies.items self.new.store.kept.repo) }
-        ensures safe { IfOk result (λ replies. IsSafePlay S.Store (C.tells children.old) (moment (C.call_count children.old) (C.fault_count children.old) (remembered_by self.old.store.kept)) (moment (C.call_count children.new) (C.fault_count children.new) (remembered_by self.new.store.kept)) self.old.store self.new.store commands.now replies.items) }
-        ensures stands { Stands S.Store self.old.store.conn self.old.store.kept → Stands S.Store self.new.store.conn self.new.store.kept }
+        ensures run { IfOk result (λ replies. IsPlay (C.tells children.old)
+            (moment (C.call_count children.old) (C.fault_count children.old) (remembered_by self.old.store.kept))
+            (moment (C.call_count children.new) (C.fault_count children.new) (remembered_by self.new.store.kept))
+            self.old.store.kept.repo commands.now replies.items self.new.store.kept.repo) }
+        ensures safe { IfOk result (λ replies. IsSafePlay S.Store (C.tells children.old)
+            (moment (C.call_count children.old) (C.fault_count children.old) (remembered_by self.old.store.kept))
+            (moment (C.call_count children.new) (C.fault_count children.new) (remembered_by self.new.store.kept))
+            self.old.store self.new.store commands.now replies.items) }
+        ensures stands { Stands S.Store self.old.store.conn self.old.store.kept
+            → Stands S.Store self.new.store.conn self.new.store.kept }
         ensures refused { OnErr result (self.new ≡ self.old) }
         ensures uncalled { OnErr result (children.new ≡ children.old) }
         ensures same { SameTells (C.tells children.old) (C.tells children.new) }
@@ -46,7 +53,10 @@ impl<S: Alter> Host<S> {
 
     // Runs a command.
     fn played<C: Children>(&mut self, alloc: Global, children: &mut C, command: &Command) -> Reply
-        ensures played { IsPlayedSafely S.Store (C.tells children.old) (moment (C.call_count children.old) (C.fault_count children.old) (remembered_by self.old.store.kept)) (moment (C.call_count children.new) (C.fault_count children.new) (remembered_by self.new.store.kept)) self.old.store self.new.store command.now result }
+        ensures played { IsPlayedSafely S.Store (C.tells children.old)
+            (moment (C.call_count children.old) (C.fault_count children.old) (remembered_by self.old.store.kept))
+            (moment (C.call_count children.new) (C.fault_count children.new) (remembered_by self.new.store.kept))
+            self.old.store self.new.store command.now result }
         ensures same { SameTells (C.tells children.old) (C.tells children.new) }
     {
         match command {
@@ -100,7 +110,10 @@ impl<S: Alter> Host<S> {
     }
 
     fn play_run<C: Children>(&mut self, alloc: Global, children: &mut C, ask: &HostAsk) -> Reply
-        ensures played { IsPlayedSafely S.Store (C.tells children.old) (moment (C.call_count children.old) (C.fault_count children.old) (remembered_by self.old.store.kept)) (moment (C.call_count children.new) (C.fault_count children.new) (remembered_by self.new.store.kept)) self.old.store self.new.store (Run ask.now) result }
+        ensures played { IsPlayedSafely S.Store (C.tells children.old)
+            (moment (C.call_count children.old) (C.fault_count children.old) (remembered_by self.old.store.kept))
+            (moment (C.call_count children.new) (C.fault_count children.new) (remembered_by self.new.store.kept))
+            self.old.store self.new.store (Run ask.now) result }
         ensures same { SameTells (C.tells children.old) (C.tells children.new) }
     {
         match self.run(alloc, children, ask) {
@@ -130,7 +143,10 @@ impl<S: Alter> Host<S> {
         no_verify: bool,
         skip: &Items<Text>,
     ) -> Reply
-        ensures played { IsPlayedSafely S.Store (C.tells children.old) (moment (C.call_count children.old) (C.fault_count children.old) (remembered_by self.old.store.kept)) (moment (C.call_count children.new) (C.fault_count children.new) (remembered_by self.new.store.kept)) self.old.store self.new.store (Commit message.now no_verify skip.now) result }
+        ensures played { IsPlayedSafely S.Store (C.tells children.old)
+            (moment (C.call_count children.old) (C.fault_count children.old) (remembered_by self.old.store.kept))
+            (moment (C.call_count children.new) (C.fault_count children.new) (remembered_by self.new.store.kept))
+            self.old.store self.new.store (Commit message.now no_verify skip.now) result }
         ensures same { SameTells (C.tells children.old) (C.tells children.new) }
     {
         match self.commit(
@@ -148,7 +164,8 @@ impl<S: Alter> Host<S> {
     fn play_forget(&mut self) -> Reply
         ensures step { Step self.old.store.kept.repo Forget result [] self.new.store.kept.repo }
         ensures one { IsOneCommand S.Store self.old.store self.new.store Forget result }
-        ensures forgotten { HasForgotten (remembered_by self.old.store.kept) (remembered_by self.new.store.kept) result }
+        ensures forgotten { HasForgotten (remembered_by self.old.store.kept) (remembered_by self.new.store.kept)
+            result }
     {
         match self.forget() {
             Ok(number) => Reply::Forgot(number),

@@ -2,7 +2,7 @@
 
 ghost use Rattle.std.specs.Prelude.{◌≡◌, IfOk, IfErr};
 ghost use Rattle.commit_flow.specs.Preparations.{IsPrepared, IsUnprepared, run_ask_with};
-ghost use Rattle.commit_flow.specs.Runs.{reuse_of, stage_of};
+ghost use Rattle.commit_flow.specs.Runs.{reuse_of, stage_of_ask};
 
 use crate::candidates::candidates;
 use crate::configured::staged_config;
@@ -87,7 +87,7 @@ fn copy_name(name: &Option<Text>) -> Result<Option<Text>, OutOfMemory>
 }
 
 fn stage_of(stage: AskStage) -> Stage
-    ensures { result ≡ stage_of stage }
+    ensures { result ≡ stage_of_ask stage }
 {
     match stage {
         AskStage::PreCommit => Stage::PreCommit,

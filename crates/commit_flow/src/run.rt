@@ -48,11 +48,20 @@ impl<S: Alter> Host<S> {
         children: &mut C,
         ask: &HostAsk,
     ) -> Result<StagedRun, HostRefusal>
-        ensures step { IfOk result (λ ran. IsRunStep (C.tells children.old) (moment (C.call_count children.old) (C.fault_count children.old) (remembered_by self.old.store.kept)) (moment (C.call_count children.new) (C.fault_count children.new) (remembered_by self.new.store.kept)) self.old.store.kept.repo ask.now ran self.new.store.kept.repo) }
-        ensures stopped { IfErr result (IsStoppedStep (C.tells children.old) (moment (C.call_count children.old) (C.fault_count children.old) (remembered_by self.old.store.kept)) (moment (C.call_count children.new) (C.fault_count children.new) (remembered_by self.new.store.kept)) self.old.store.kept.repo ask.now self.new.store.kept) }
+        ensures step { IfOk result (λ ran. IsRunStep (C.tells children.old)
+            (moment (C.call_count children.old) (C.fault_count children.old) (remembered_by self.old.store.kept))
+            (moment (C.call_count children.new) (C.fault_count children.new) (remembered_by self.new.store.kept))
+            self.old.store.kept.repo ask.now ran self.new.store.kept.repo) }
+        ensures stopped { IfErr result (IsStoppedStep (C.tells children.old)
+            (moment (C.call_count children.old) (C.fault_count children.old) (remembered_by self.old.store.kept))
+            (moment (C.call_count children.new) (C.fault_count children.new) (remembered_by self.new.store.kept))
+            self.old.store.kept.repo ask.now self.new.store.kept) }
         ensures fixed { IfOk result (λ ran. self.new.store.kept.repo.fixes ≡ ran.changes) }
         ensures kept { KeepsForRun self.old.store.kept self.new.store.kept result }
-        ensures command { IsPlayedSafely S.Store (C.tells children.old) (moment (C.call_count children.old) (C.fault_count children.old) (remembered_by self.old.store.kept)) (moment (C.call_count children.new) (C.fault_count children.new) (remembered_by self.new.store.kept)) self.old.store self.new.store (Run ask.now) (reply_of reply_of_run result) }
+        ensures command { IsPlayedSafely S.Store (C.tells children.old)
+            (moment (C.call_count children.old) (C.fault_count children.old) (remembered_by self.old.store.kept))
+            (moment (C.call_count children.new) (C.fault_count children.new) (remembered_by self.new.store.kept))
+            self.old.store self.new.store (Run ask.now) (reply_of reply_of_run result) }
         ensures same { SameTells (C.tells children.old) (C.tells children.new) }
     {
         run_in(alloc, children, &mut self.store, ask)
@@ -66,11 +75,20 @@ fn run_in<C: Children, S: Alter>(
     store: &mut Store<S>,
     ask: &HostAsk,
 ) -> Result<StagedRun, HostRefusal>
-    ensures step { IfOk result (λ ran. IsRunStep (C.tells children.old) (moment (C.call_count children.old) (C.fault_count children.old) (remembered_by store.old.kept)) (moment (C.call_count children.new) (C.fault_count children.new) (remembered_by store.new.kept)) store.old.kept.repo ask.now ran store.new.kept.repo) }
-    ensures stopped { IfErr result (IsStoppedStep (C.tells children.old) (moment (C.call_count children.old) (C.fault_count children.old) (remembered_by store.old.kept)) (moment (C.call_count children.new) (C.fault_count children.new) (remembered_by store.new.kept)) store.old.kept.repo ask.now store.new.kept) }
+    ensures step { IfOk result (λ ran. IsRunStep (C.tells children.old)
+        (moment (C.call_count children.old) (C.fault_count children.old) (remembered_by store.old.kept))
+        (moment (C.call_count children.new) (C.fault_count children.new) (remembered_by store.new.kept))
+        store.old.kept.repo ask.now ran store.new.kept.repo) }
+    ensures stopped { IfErr result (IsStoppedStep (C.tells children.old)
+        (moment (C.call_count children.old) (C.fault_count children.old) (remembered_by store.old.kept))
+        (moment (C.call_count children.new) (C.fault_count children.new) (remembered_by store.new.kept))
+        store.old.kept.repo ask.now store.new.kept) }
     ensures fixed { IfOk result (λ ran. store.new.kept.repo.fixes ≡ ran.changes) }
     ensures kept { KeepsForRun store.old.kept store.new.kept result }
-    ensures command { IsPlayedSafely S.Store (C.tells children.old) (moment (C.call_count children.old) (C.fault_count children.old) (remembered_by store.old.kept)) (moment (C.call_count children.new) (C.fault_count children.new) (remembered_by store.new.kept)) store.old store.new (Run ask.now) (reply_of reply_of_run result) }
+    ensures command { IsPlayedSafely S.Store (C.tells children.old)
+        (moment (C.call_count children.old) (C.fault_count children.old) (remembered_by store.old.kept))
+        (moment (C.call_count children.new) (C.fault_count children.new) (remembered_by store.new.kept)) store.old
+        store.new (Run ask.now) (reply_of reply_of_run result) }
     ensures same { SameTells (C.tells children.old) (C.tells children.new) }
 {
     let ran = run_on_staged(alloc, children, store, ask)?;
@@ -85,9 +103,16 @@ fn run_on_staged<C: Children, S: Alter>(
     store: &mut Store<S>,
     ask: &HostAsk,
 ) -> Result<StagedRun, HostRefusal>
-    ensures run { IfOk result (HasRunOnStaged (C.tells children.old) (moment (C.call_count children.old) (C.fault_count children.old) (remembered_by store.old.kept)) (moment (C.call_count children.new) (C.fault_count children.new) (remembered_by store.new.kept)) store.old.kept.repo ask.now) }
-    ensures stopped { IfErr result (IsStoppedStep (C.tells children.old) (moment (C.call_count children.old) (C.fault_count children.old) (remembered_by store.old.kept)) (moment (C.call_count children.new) (C.fault_count children.new) (remembered_by store.new.kept)) store.old.kept.repo ask.now store.new.kept) }
-    ensures left { LeavesTold (C.tells children.old) (remembered_by store.old.kept) (MayRemember S.Store store.old) (MayRemember S.Store store.new) }
+    ensures run { IfOk result (HasRunOnStaged (C.tells children.old)
+        (moment (C.call_count children.old) (C.fault_count children.old) (remembered_by store.old.kept))
+        (moment (C.call_count children.new) (C.fault_count children.new) (remembered_by store.new.kept))
+        store.old.kept.repo ask.now) }
+    ensures stopped { IfErr result (IsStoppedStep (C.tells children.old)
+        (moment (C.call_count children.old) (C.fault_count children.old) (remembered_by store.old.kept))
+        (moment (C.call_count children.new) (C.fault_count children.new) (remembered_by store.new.kept))
+        store.old.kept.repo ask.now store.new.kept) }
+    ensures left { LeavesTold (C.tells children.old) (remembered_by store.old.kept) (MayRemember S.Store store.old)
+        (MayRemember S.Store store.new) }
     ensures rest { IsAtRest S.Store store.old store.new }
     ensures same { SameTells (C.tells children.old) (C.tells children.new) }
 {
@@ -102,8 +127,12 @@ fn run_prepared<C: Children, B: Book>(
     book: &mut B,
     prepared: &Prepared,
 ) -> Result<StagedRun, HostRefusal>
-    ensures run { IfOk result (HasRunReady (C.tells children.old) (moment (C.call_count children.old) (C.fault_count children.old) (B.contents book.old)) (moment (C.call_count children.new) (C.fault_count children.new) (B.contents book.new)) prepared.now) }
-    ensures stopped { IfErr result (HasStoppedReady B.refuses (C.tells children.old) (moment (C.call_count children.old) (C.fault_count children.old) (B.contents book.old)) (moment (C.call_count children.new) (C.fault_count children.new) (B.contents book.new)) prepared.now) }
+    ensures run { IfOk result (HasRunReady (C.tells children.old)
+        (moment (C.call_count children.old) (C.fault_count children.old) (B.contents book.old))
+        (moment (C.call_count children.new) (C.fault_count children.new) (B.contents book.new)) prepared.now) }
+    ensures stopped { IfErr result (HasStoppedReady B.refuses (C.tells children.old)
+        (moment (C.call_count children.old) (C.fault_count children.old) (B.contents book.old))
+        (moment (C.call_count children.new) (C.fault_count children.new) (B.contents book.new)) prepared.now) }
     ensures left { LeavesTold (C.tells children.old) (B.contents book.old) (B.leaves book.old) (B.leaves book.new) }
     ensures rest { B.rests book.old book.new }
     ensures same { SameTells (C.tells children.old) (C.tells children.new) }

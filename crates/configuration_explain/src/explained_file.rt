@@ -6,8 +6,8 @@ ghost use Rattle.std.specs.Prelude.{◌≡◌, ◌≢◌, IfOk, IfSome, None, So
 ghost use Rattle.configuration_explain.specs.Explains.{Explains};
 ghost use Rattle.hook_config.specs.declared.config_fault.ConfigKind.TheVariants.{OutOfMemory as NoMemory};
 
+use crate::accepted_texts::push_taken;
 use crate::refused::{NamedBytes, push_refused};
-use crate::taken::push_taken;
 use hook_base::{Bytes, OutOfMemory, Text};
 use hook_config::{ConfigFault, ConfigKind, ConfigWithNode, read_config_with_node};
 use std::alloc::Global;

@@ -23,7 +23,7 @@ pub(crate) fn findings_in<'n>(
     alloc: Global,
     top: &'n Node,
 ) -> Result<Vec<Finding<'n>>, AllocError> {
-    let mut search = Search {
+    let mut search = FindingSearch {
         alloc,
         found: Vec::new(alloc),
         hooks: 0,
@@ -34,13 +34,13 @@ pub(crate) fn findings_in<'n>(
 
 // What was found so far, and in how many hooks.
 #[derive(Drop)]
-struct Search<'n> {
+struct FindingSearch<'n> {
     alloc: Global,
     found: Vec<Finding<'n>>,
     hooks: usize,
 }
 
-impl<'n> Search<'n> {
+impl<'n> FindingSearch<'n> {
     fn is_full(&self) -> bool {
         self.found.len() >= MOST_FINDINGS
     }

@@ -1,8 +1,8 @@
 //! The commands that call Git, and the `x_reads` that names Git's state.
 
+use crate::escaped_texts::{is_shown_whole, push_all};
 use crate::patterns::finds;
 use crate::selected::NO_PATH;
-use crate::shown::{is_shown_whole, push_all};
 use hook_config::{Hook, Language};
 use std::alloc::{AllocError, Global};
 

@@ -1,6 +1,6 @@
 //! What a hook is called, and a repository.
 
-use crate::shown::{push_number, push_quoted};
+use crate::escaped_texts::{push_number, push_quoted};
 use std::alloc::{AllocError, Global};
 
 /// Puts the hook's number and its id, if it has one.

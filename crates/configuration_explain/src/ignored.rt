@@ -1,11 +1,11 @@
 //! The keys that no table knows, with their lines.
 
 use crate::edits::nearest_key;
+use crate::escaped_texts::{push_number, push_quoted};
 use crate::hook_names::{push_hook, push_repository};
 use crate::known_words::keys_of;
 use crate::marks::{Mark, Owner, Word};
 use crate::sentence::push_meant;
-use crate::shown::{push_number, push_quoted};
 use crate::tables::{items_in, rows_in, text_at};
 use hook_config::is_key;
 use std::alloc::{AllocError, Global};

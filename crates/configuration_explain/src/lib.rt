@@ -14,8 +14,10 @@
 //! `specs/KnownWords.antt`. What is printed is only tested.
 #![tactic(auto)]
 
+mod accepted_texts;
 mod doubled;
 mod edits;
+mod escaped_texts;
 mod explained_file;
 mod finding;
 mod findings;
@@ -34,10 +36,8 @@ mod plain_text;
 mod refused;
 mod selected;
 mod sentence;
-mod shown;
 mod stages;
 mod tables;
-mod taken;
 mod tool_settings;
 mod warnings;
 mod yaml_sentence;

@@ -1,8 +1,8 @@
 //! The hooks that never run in this folder.
 
+use crate::escaped_texts::push_all;
 use crate::hook_names::push_hook;
 use crate::patterns::{passes_any, passing};
-use crate::shown::push_all;
 use hook_base::{OutOfMemory, Text};
 use hook_config::{Config, Hook, Stages};
 use std::alloc::{AllocError, Global};
@@ -13,7 +13,7 @@ const MESSAGE_PATH: &str = ".git/COMMIT_EDITMSG";
 // The paths that the patterns of the whole configuration let through: of the folder's files, and of the
 // message.
 #[derive(Drop)]
-struct Candidates<'p, 'm> {
+struct StageCandidates<'p, 'm> {
     paths: Vec<&'p str>,
     message: Vec<&'m str>,
 }
@@ -30,7 +30,7 @@ pub(crate) fn push_never(
     message.push(Text::copy_of(alloc, MESSAGE_PATH)?)?;
     let files = config.files.as_pattern();
     let exclude = config.exclude.as_pattern();
-    let candidates = Candidates {
+    let candidates = StageCandidates {
         paths: passing(alloc, files, exclude, paths)?,
         message: passing(alloc, files, exclude, message.as_slice())?,
     };
@@ -41,7 +41,7 @@ fn push_all_never(
     alloc: Global,
     text: &mut String,
     hooks: &[Hook],
-    candidates: &Candidates<'_, '_>,
+    candidates: &StageCandidates<'_, '_>,
 ) -> Result<(), OutOfMemory> {
     let mut is_first = true;
     for (i, hook) in hooks.iter().enumerate() {
@@ -72,7 +72,7 @@ fn push_never_line(
 fn why_never(
     alloc: Global,
     hook: &Hook,
-    candidates: &Candidates<'_, '_>,
+    candidates: &StageCandidates<'_, '_>,
 ) -> Result<Option<&'static str>, OutOfMemory> {
     if !has_served_stage(hook.stages) {
         return Ok(Some("none of its stages comes here"));
@@ -95,7 +95,7 @@ fn has_served_stage(stages: Stages) -> bool {
 fn gets_a_file(
     alloc: Global,
     hook: &Hook,
-    candidates: &Candidates<'_, '_>,
+    candidates: &StageCandidates<'_, '_>,
 ) -> Result<bool, OutOfMemory> {
     if (hook.stages.pre_commit || hook.stages.manual)
         && lets_through(alloc, hook, candidates.paths.as_slice())?

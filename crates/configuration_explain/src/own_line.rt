@@ -1,7 +1,7 @@
 //! The line of the file itself, and the mark under it.
 
+use crate::escaped_texts::{columns_before, push_shown};
 use crate::places::Place;
-use crate::shown::{columns_before, push_shown};
 use bstr::ByteSlice;
 use std::alloc::{AllocError, Global};
 

@@ -1,14 +1,14 @@
 //! What is said about a configuration that is refused.
 
 use crate::doubled::{Doubled, doubled_in};
+use crate::escaped_texts::{push_number, push_quoted, push_shown};
 use crate::finding::{Finding, finding_of};
 use crate::findings::{MOST_FINDINGS, findings_in};
 use crate::marks::marks_in;
 use crate::own_line::{line_at, push_own_line};
-use crate::places::{Place, Placed, places_of};
+use crate::places::{Place, PlacedFinding, places_of};
 use crate::plain_text::{GOES_ON, goes_on};
 use crate::sentence::push_sentence;
-use crate::shown::{push_number, push_quoted, push_shown};
 use crate::yaml_sentence::{yaml_column, yaml_sentence};
 use hook_config::{ConfigFault, ConfigKind};
 use std::alloc::{AllocError, Global};
@@ -136,7 +136,7 @@ fn push_finding(
     alloc: Global,
     text: &mut String,
     file: NamedBytes<'_>,
-    one: &Placed<'_>,
+    one: &PlacedFinding<'_>,
 ) -> Result<(), AllocError> {
     push_place(alloc, text, file.name, one.place.line)?;
     push_sentence(alloc, text, &one.finding)?;

@@ -1,7 +1,7 @@
 //! Which files each hook gets, and which key its stages come from.
 
+use crate::escaped_texts::{push_all, push_quoted};
 use crate::hook_names::push_hook;
-use crate::shown::{push_all, push_quoted};
 use crate::tables::{hook_at, rows_in, value_at};
 use hook_base::Text;
 use hook_config::{ConfigWithNode, Hook};

@@ -1,11 +1,11 @@
 //! The sentence for a finding.
 
 use crate::edits::nearest;
+use crate::escaped_texts::{push_all, push_number, push_quoted};
 use crate::finding::{Finding, Wanted};
 use crate::hook_names::{push_hook, push_repository};
 use crate::known_words::{argument_words, language_words, local_words, stage_words, truth_words};
 use crate::marks::Owner;
-use crate::shown::{push_all, push_number, push_quoted};
 use crate::tables::text_at;
 use std::alloc::{AllocError, Global};
 use yaml_profile::Node;

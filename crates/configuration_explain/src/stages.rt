@@ -1,7 +1,7 @@
 //! The hooks of each stage.
 
+use crate::escaped_texts::{push_all, push_quoted};
 use crate::hook_names::push_hook;
-use crate::shown::{push_all, push_quoted};
 use hook_config::{Hook, Language, Stage, Stages};
 use std::alloc::{AllocError, Global};
 

@@ -1,11 +1,11 @@
 //! What is taken, and may be a mistake.
 
 use crate::edits::nearest;
+use crate::escaped_texts::{push_number, push_quoted};
 use crate::git_calls::{calls_git, names_git_state, push_git_reads};
 use crate::hook_names::push_hook;
 use crate::known_words::{is_among, tag_words};
 use crate::sentence::push_meant;
-use crate::shown::{push_number, push_quoted};
 use crate::tool_settings::left_out;
 use hook_base::Text;
 use hook_config::{ConfigWithNode, Hook, TagNames};

@@ -10,7 +10,7 @@ use Rattle.std.proofs.lemmas.List.{map-append, append-nil}
 use Rattle.std.proofs.lemmas.List.Elements.{filter-append}
 use Rattle.std.proofs.lemmas.Str.{IsCharBoundary-after_ascii, IsCharBoundary-before_ascii, IsUtf8-drop, IsUtf8-take}
 use denote.Ref.{Bor}
-use Rattle.configuration_run.specs.SkipList.{before_rest, is_name, without_spaces, without_spaces_after, without_spaces_before}
+use Rattle.configuration_run.specs.SkipList.{before_rest_of_name, is_name, without_spaces, without_spaces_after, without_spaces_before}
 
 -- ---- spaces
 
@@ -24,7 +24,7 @@ none-before (byte ∷ bytes) none =
 
 pub one-after : (front : List ℕ) → without_spaces_after (front ++ 32 ∷ []) ≡ without_spaces_after front
 one-after [] = refl
-one-after (byte ∷ front) = ap (before_rest byte) (one-after front)
+one-after (byte ∷ front) = ap (before_rest_of_name byte) (one-after front)
 
 pub none-after : (text : List ℕ) → ((front : List ℕ) → text ≢ front ++ 32 ∷ []) → without_spaces_after text ≡ text
 none-after [] none = refl
@@ -34,7 +34,7 @@ none-after (byte ∷ []) none =
       | false ↦ λ h. refl
     ] refl
 none-after (byte ∷ next ∷ bytes) none =
-    ap (before_rest byte) (none-after (next ∷ bytes) (λ front h. none (byte ∷ front) (ap (λ rest. byte ∷ rest) h)))
+    ap (before_rest_of_name byte) (none-after (next ∷ bytes) (λ front h. none (byte ∷ front) (ap (λ rest. byte ∷ rest) h)))
 
 -- ---- the names
 

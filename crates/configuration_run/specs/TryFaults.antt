@@ -6,19 +6,19 @@ use Rattle.hook_config.specs.declared.config_fault.ConfigKind.TheVariants as kin
 use Rattle.configuration_run.specs.declared.try_fault.TryFault.{TryFault}
 use Rattle.configuration_run.specs.declared.try_fault.TryFault.TheVariants.{Read, Config as BadConfig, Write, OutOfMemory, Spent}
 
-abbrev pub number_of : TryFault → ℕ
-number_of Read = 1
-number_of (BadConfig fault) = 2
-number_of Write = 3
-number_of OutOfMemory = 4
-number_of Spent = 5
+abbrev pub try_fault_number : TryFault → ℕ
+try_fault_number Read = 1
+try_fault_number (BadConfig fault) = 2
+try_fault_number Write = 3
+try_fault_number OutOfMemory = 4
+try_fault_number Spent = 5
 
-abbrev pub name_of : TryFault → List ℕ
-name_of Read = codes "Read"
-name_of (BadConfig fault) = codes "Config"
-name_of Write = codes "Write"
-name_of OutOfMemory = codes "OutOfMemory"
-name_of Spent = codes "Spent"
+abbrev pub try_fault_name : TryFault → List ℕ
+try_fault_name Read = codes "Read"
+try_fault_name (BadConfig fault) = codes "Config"
+try_fault_name Write = codes "Write"
+try_fault_name OutOfMemory = codes "OutOfMemory"
+try_fault_name Spent = codes "Spent"
 
 -- want of memory while the configuration is read is the run's own refusal; any other one is the
 -- configuration's

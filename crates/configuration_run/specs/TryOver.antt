@@ -9,7 +9,7 @@ use Rattle.hook_config.specs.declared.config_fault.ConfigKind.TheVariants as kin
 use Rattle.hook_config.specs.declared.stage.Stage.TheVariants.{PreCommit}
 use Rattle.hook_config.specs.Configuration.{configuration_of}
 use Rattle.hook_config.specs.Gives.{UnlessLeftOpen}
-use Rattle.hook_config.specs.Refusals.{TellsTooLarge}
+use Rattle.hook_config.specs.Refusals.{TellsLargeConfiguration}
 use Rattle.store_faults.specs.Limits.{first_limit}
 use Rattle.result_book.specs.Contents.{Contents, nothing}
 use Rattle.hook_run.specs.Moments.{moment}
@@ -47,7 +47,7 @@ pub record ReadsNoConfiguration (given left : Option (List ℕ)) (fault : Config
   pub read : Consumes given left bytes
   pub ended : IsAtEnd left ⊎ (length bytes ≡ most_bytes + 1)
   pub none : UnlessLeftOpen fault.kind (configuration_of bytes ≡ None)
-  pub large : TellsTooLarge bytes fault
+  pub large : TellsLargeConfiguration bytes fault
 
 -- ---- what is run
 
@@ -60,14 +60,19 @@ ask_for_all tree =
 -- A run of the hooks of this configuration on the tree gives this, between these counts. No answer is cached
 -- before it, so that each outcome is one that the children may give. Of its own answers as many are cached as
 -- a new store keeps.
-pub record IsRunOnAll (tells : List (List ℕ) → List File → Outcome → Type 0) (calls calls_after faults faults_after : ℕ) (config : Config) (tree : List File) (out : RunOut) : Type 0 where
+pub record IsRunOnAll (tells : List (List ℕ) → List File → Outcome → Type 0) (calls calls_after faults faults_after : ℕ)
+    (config : Config) (tree : List File) (out : RunOut) : Type 0 where
   pub remembered : Contents
-  pub run : IsRunOver tells (moment calls faults (nothing first_limit)) (moment calls_after faults_after remembered) config (ask_for_all tree) tree out
+  pub run : IsRunOver tells (moment calls faults (nothing first_limit)) (moment calls_after faults_after remembered)
+      config (ask_for_all tree) tree out
 
 -- such a run is refused with this refusal
-pub record IsStoppedOnAll (tells : List (List ℕ) → List File → Outcome → Type 0) (calls calls_after faults faults_after : ℕ) (config : Config) (tree : List File) (refusal : RunRefusal) : Type 0 where
+pub record IsStoppedOnAll (tells : List (List ℕ) → List File → Outcome → Type 0)
+    (calls calls_after faults faults_after : ℕ) (config : Config) (tree : List File)
+    (refusal : RunRefusal) : Type 0 where
   pub remembered : Contents
-  pub stopped : IsStoppedRun tells (moment calls faults (nothing first_limit)) (moment calls_after faults_after remembered) config (ask_for_all tree) tree refusal
+  pub stopped : IsStoppedRun tells (moment calls faults (nothing first_limit))
+      (moment calls_after faults_after remembered) config (ask_for_all tree) tree refusal
 
 -- What was read is a configuration, and a run of its hooks on the tree gives this.
 pub record IsReadAndRun (given left : Option (List ℕ)) (tells : List (List ℕ) → List File → Outcome → Type 0)
@@ -78,7 +83,8 @@ pub record IsReadAndRun (given left : Option (List ℕ)) (tells : List (List ℕ
 
 -- What was read is a configuration, there is a run of its hooks on the tree, and what was written is its
 -- report. `passed` says whether no hook failed. Nothing is claimed of a writer that doesn't say its bytes.
-pub record IsTriedOver (given left : Option (List ℕ)) (output : Output) (tells : List (List ℕ) → List File → Outcome → Type 0)
+pub record IsTriedOver (given left : Option (List ℕ)) (output : Output)
+    (tells : List (List ℕ) → List File → Outcome → Type 0)
     (calls calls_after faults faults_after : ℕ) (tree : List File) (passed : Bool) : Type 0 where
   pub out : RunOut
   pub over : IsReadAndRun given left tells calls calls_after faults faults_after tree out
@@ -102,7 +108,8 @@ pub record IsReadAndStopped (given left : Option (List ℕ)) (tells : List (List
 
 -- what was read is a configuration, there is a run of its hooks on the tree, and the writer took its report
 -- up to an error
-pub record IsCutOff (given left : Option (List ℕ)) (output : Output) (tells : List (List ℕ) → List File → Outcome → Type 0)
+pub record IsReportCutOff (given left : Option (List ℕ)) (output : Output)
+    (tells : List (List ℕ) → List File → Outcome → Type 0)
     (calls calls_after faults faults_after : ℕ) (tree : List File) : Type 0 where
   pub out : RunOut
   pub over : IsReadAndRun given left tells calls calls_after faults faults_after tree out
@@ -116,9 +123,10 @@ abbrev pub IsRefusedBy : Option (List ℕ) → Option (List ℕ) → Output → 
 IsRefusedBy given left output tells calls calls_after faults faults_after tree Read =
     NoneCalled calls calls_after faults faults_after
 IsRefusedBy given left output tells calls calls_after faults faults_after tree (BadConfig fault) =
-    (fault.kind ≢ kind.OutOfMemory) × ReadsNoConfiguration given left fault × NoneCalled calls calls_after faults faults_after
+    (fault.kind ≢ kind.OutOfMemory) × ReadsNoConfiguration given left fault
+    × NoneCalled calls calls_after faults faults_after
 IsRefusedBy given left output tells calls calls_after faults faults_after tree Write =
-    IsCutOff given left output tells calls calls_after faults faults_after tree
+    IsReportCutOff given left output tells calls calls_after faults faults_after tree
 IsRefusedBy given left output tells calls calls_after faults faults_after tree OutOfMemory =
     NoneCalled calls calls_after faults faults_after
     ⊎ IsReadAndStopped given left tells calls calls_after faults faults_after tree stop.OutOfMemory
@@ -129,7 +137,8 @@ IsRefusedBy given left output tells calls calls_after faults faults_after tree S
 
 -- a configuration's run is refused for want of memory, before any child is called or later, or because a
 -- further child is needed and no more can be counted
-abbrev pub IsRefusedRun : (List (List ℕ) → List File → Outcome → Type 0) → ℕ → ℕ → ℕ → ℕ → Config → List File → TryFault → Type 0
+abbrev pub IsRefusedRun : (List (List ℕ) → List File → Outcome → Type 0) → ℕ → ℕ → ℕ → ℕ → Config → List File → TryFault
+    → Type 0
 IsRefusedRun tells calls calls_after faults faults_after config tree OutOfMemory =
     NoneCalled calls calls_after faults faults_after
     ⊎ IsStoppedOnAll tells calls calls_after faults faults_after config tree stop.OutOfMemory

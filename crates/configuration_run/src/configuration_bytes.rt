@@ -40,7 +40,8 @@ pub fn read_bytes<R: Read>(alloc: Global, reader: &mut R) -> Result<Vec<u8>, Try
 // Reads once, at most so many bytes, and adds them after the others. The answer is how many were read.
 fn read_piece<R: Read>(reader: &mut R, bytes: &mut Vec<u8>, most: usize) -> Result<usize, TryFault>
     requires { 1 ≤ most }
-    ensures piece { IfOk result (ReadsPiece (R.remaining reader.old) (R.remaining reader.new) bytes.old.items bytes.new.items) }
+    ensures piece { IfOk result (ReadsPiece (R.remaining reader.old) (R.remaining reader.new) bytes.old.items
+        bytes.new.items) }
     ensures refused { IfErr result (λ e. (e ≡ fault.Read) ⊎ (e ≡ fault.OutOfMemory)) }
     ensures within { ReadsWithin most (R.remaining reader.old) (R.remaining reader.new) }
     ensures count { IfOk result (λ count. count ≤ most) }

@@ -4,7 +4,7 @@
 
 ghost use Rattle.std.specs.Prelude.{◌≡◌, ◌≢◌, ◌≤◌, ◌+◌, IfOk, IfErr, OnOk, OnErr};
 ghost use Rattle.child_port.specs.Telling.{SameTells};
-ghost use Rattle.text_output.specs.Outputs.{Has, HasBeginning};
+ghost use Rattle.text_output.specs.Outputs.{Has, HasBeginning, output_of};
 ghost use Rattle.configuration_run.specs.TryOver.{IsRefusedBy, IsRefusedRun, IsRunOnAll, IsTriedOver, ReadsWithin, most_bytes};
 ghost use Rattle.configuration_run.specs.declared.try_fault.TryFault.TheVariants as fault;
 
@@ -45,11 +45,11 @@ pub fn try_over<R: Read, W: Write, C: Children>(
     children: &mut C,
 ) -> Result<bool, TryFault>
     ensures tried { IfOk result (IsTriedOver (R.remaining reader.old) (R.remaining reader.new)
-        (record { held = W.contents writer.old; holds = W.contents writer.new }) (C.tells children.old)
+        (output_of (W.contents writer.old) (W.contents writer.new)) (C.tells children.old)
         (C.call_count children.old) (C.call_count children.new)
         (C.fault_count children.old) (C.fault_count children.new) tree.now) }
     ensures refused { IfErr result (IsRefusedBy (R.remaining reader.old) (R.remaining reader.new)
-        (record { held = W.contents writer.old; holds = W.contents writer.new }) (C.tells children.old)
+        (output_of (W.contents writer.old) (W.contents writer.new)) (C.tells children.old)
         (C.call_count children.old) (C.call_count children.new)
         (C.fault_count children.old) (C.fault_count children.new) tree.now) }
     ensures unwritten { IfErr result (λ e. e ≢ fault.Write → writer.new ≡ writer.old) }
@@ -78,7 +78,8 @@ fn run_on_all<C: Children>(
 ) -> Result<RunOut, TryFault>
     ensures run { IfOk result (IsRunOnAll (C.tells children.old) (C.call_count children.old) (C.call_count children.new)
         (C.fault_count children.old) (C.fault_count children.new) config.now tree.now) }
-    ensures refused { IfErr result (IsRefusedRun (C.tells children.old) (C.call_count children.old) (C.call_count children.new)
+    ensures refused { IfErr result (IsRefusedRun (C.tells children.old) (C.call_count children.old)
+        (C.call_count children.new)
         (C.fault_count children.old) (C.fault_count children.new) config.now tree.now) }
     ensures same { SameTells (C.tells children.old) (C.tells children.new) }
     ensures calls { C.call_count children.old ≤ C.call_count children.new }
@@ -98,9 +99,9 @@ fn run_on_all<C: Children>(
 }
 
 fn write_report<W: Write>(writer: &mut W, report: &[u8]) -> Result<(), TryFault>
-    ensures ok { OnOk result (Has (record { held = W.contents writer.old; holds = W.contents writer.new }) report.now) }
+    ensures ok { OnOk result (Has (output_of (W.contents writer.old) (W.contents writer.new)) report.now) }
     ensures err { IfErr result (λ e. e ≡ fault.Write) }
-    ensures begun { OnErr result (HasBeginning (record { held = W.contents writer.old; holds = W.contents writer.new }) report.now) }
+    ensures begun { OnErr result (HasBeginning (output_of (W.contents writer.old) (W.contents writer.new)) report.now) }
 {
     match write_out(writer, report) {
         Ok(()) => Ok(()),

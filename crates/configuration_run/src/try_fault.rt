@@ -30,11 +30,11 @@ pub enum TryFault {
 
 impl TryFault {
     ghost use Rattle.std.specs.Prelude.{◌≡◌};
-    ghost use Rattle.configuration_run.specs.TryFaults.{name_of, number_of};
+    ghost use Rattle.configuration_run.specs.TryFaults.{try_fault_name, try_fault_number};
 
     /// The refusal's number, from 1 to 5.
     pub fn number(&self) -> u8
-        ensures { result ≡ number_of self.now }
+        ensures { result ≡ try_fault_number self.now }
     {
         match self {
             TryFault::Read => 1,
@@ -47,7 +47,7 @@ impl TryFault {
 
     /// The refusal's name, as it is printed after its number.
     pub fn name(&self) -> &'static str
-        ensures { result.now ≡ name_of self.now }
+        ensures { result.now ≡ try_fault_name self.now }
     {
         match self {
             TryFault::Read => "Read",

@@ -84,7 +84,8 @@ absent_stays [] rows path none = none
 absent_stays (change ∷ changes) rows path none =
     absent_stays changes (apply_at change.path change.now rows) path (applied_absent path change.path change.now rows none)
 
-pub changed_at : (changes : List Change) (paths : List (List ℕ)) (old new : List File) → new ≡ apply_changes changes old → ((path : List ℕ) → is_among paths path ≡ is_among (paths_named changes) path) → IsChangedAt paths old new
+pub changed_at : (changes : List Change) (paths : List (List ℕ)) (old new : List File) → new ≡ apply_changes changes old → ((path : List ℕ) → is_among paths path ≡ is_among (paths_named changes) path)
+    → IsChangedAt paths old new
 changed_at changes paths old new applied same = record {
   elsewhere = λ path none. ap (entry_of path) applied ∙ elsewhere_same changes old path (sym (same path) ∙ none);
   absent = λ path none. ap (entry_of path) applied ∙ absent_stays changes old path none;
@@ -136,7 +137,8 @@ entry_in new path (row ∷ rows) rising =
           entry_of-later path (rows_in new (row ∷ rows)) (below_rows_in new path (row ∷ rows) all)
           ∙ sym (ap (λ (held : Option FileEntry). where_held held (entry_of path new)) (entry_of-later path (row ∷ rows) all))
       | inl (inr same) ↦
-          let here : entry_of row.path (rows_in new (row ∷ rows)) ≡ entry_of row.path new = at_row_with row.path (entry_of row.path new) (rows_in new rows) (below_rows_in new row.path rows rising.0) in
+          let here : entry_of row.path (rows_in new (row ∷ rows)) ≡ entry_of row.path new =
+          at_row_with row.path (entry_of row.path new) (rows_in new rows) (below_rows_in new row.path rows rising.0) in
           ap (λ (p : List ℕ). entry_of p (rows_in new (row ∷ rows))) same
           ∙ here
           ∙ ap (λ (p : List ℕ). entry_of p new) (sym same)
@@ -147,7 +149,8 @@ entry_in new path (row ∷ rows) rising =
           ∙ sym (ap (λ (held : Option FileEntry). where_held held (entry_of path new)) (entry_of-rest path row rows above))
     ]
 
-all_held : (old new : List File) (path : List ℕ) → (entry_of path old ≡ None → entry_of path new ≡ None) → (held : Option FileEntry) → entry_of path old ≡ held → where_held held (entry_of path new) ≡ entry_of path new
+all_held : (old new : List File) (path : List ℕ) → (entry_of path old ≡ None → entry_of path new ≡ None) → (held : Option FileEntry) → entry_of path old ≡ held
+    → where_held held (entry_of path new) ≡ entry_of path new
 all_held old new path absent None is = sym (absent is)
 all_held old new path absent (Some entry) is = refl
 

@@ -13,7 +13,7 @@ use Rattle.std.proofs.Math.Seq.{get_or-append_seam, take-append_seam}
 use Rattle.std.proofs.Math.Bool.{or-true}
 use denote.Ref.{Bor}
 use Rattle.file_tags.specs.Cuts.{is_dot, last_part, before_dots, extension_of}
-use Rattle.file_tags.specs.LastCuts.{Lacks, IsLastCut, IsCutAtLast, has_other_than_dots}
+use Rattle.file_tags.specs.LastCuts.{LacksByte, IsLastCut, IsCutAtLast, has_other_than_dots}
 
 -- a cut at the last mark
 
@@ -21,7 +21,8 @@ none_is : (mark : ℕ) (text : List ℕ) → ((i : ℕ) → i < length text → 
 none_is mark [] none = refl
 none_is mark (byte ∷ bytes) none = rw (ne_eqb byte mark (none 0 (omega arith))) (none_is mark bytes (λ i h. none (suc i) (omega arith)))
 
-pub cut_at_last_is : (mark : ℕ) (text : List ℕ) (r : Option (Bor (List ℕ) × Bor (List ℕ))) → MatchOption r (RFindsChar mark text None) (λ x. SplitsAroundMatch (RFindsChar mark) text x.0.now x.1.now) → mark < 128 → IsCutAtLast mark text r
+pub cut_at_last_is : (mark : ℕ) (text : List ℕ) (r : Option (Bor (List ℕ) × Bor (List ℕ))) → MatchOption r (RFindsChar mark text None) (λ x. SplitsAroundMatch (RFindsChar mark) text x.0.now x.1.now)
+    → mark < 128 → IsCutAtLast mark text r
 cut_at_last_is mark text None none small = record { none = none_is mark text (λ i. NoCharPasses-char mark text i none small) }
 cut_at_last_is mark text (Some x) split small =
     let at = drop_at_char mark text split.0 split.1 split.2.1 small in
@@ -53,7 +54,7 @@ last_part_whole mark (byte ∷ bytes) none =
 pub last_part_of_cut : (mark : ℕ) (text before after : List ℕ) → IsLastCut mark text before after → last_part (λ byte. byte == mark) text ≡ after
 last_part_of_cut mark text before after cut = rw cut.whole (last_part_behind mark before after cut.last.none)
 
-pub last_part_of_whole : (mark : ℕ) (text : List ℕ) → Lacks mark text → last_part (λ byte. byte == mark) text ≡ text
+pub last_part_of_whole : (mark : ℕ) (text : List ℕ) → LacksByte mark text → last_part (λ byte. byte == mark) text ≡ text
 last_part_of_whole mark text lacks = last_part_whole mark text lacks.none
 
 -- what stands before the dots
@@ -71,7 +72,7 @@ before_dots_behind (byte ∷ before) after none = rw (before_dots_behind before 
 pub before_dots_of_cut : (text before after : List ℕ) → IsLastCut 46 text before after → before_dots text ≡ before ∷ before_dots before
 before_dots_of_cut text before after cut = rw cut.whole (before_dots_behind before after cut.last.none)
 
-pub before_dots_of_whole : (text : List ℕ) → Lacks 46 text → before_dots text ≡ []
+pub before_dots_of_whole : (text : List ℕ) → LacksByte 46 text → before_dots text ≡ []
 before_dots_of_whole text lacks = before_dots_none text lacks.none
 
 pub before_is_shorter : (text before after : List ℕ) → IsLastCut 46 text before after → length before < length text
@@ -121,5 +122,5 @@ extension_of_cut name before after cut other = rw cut.whole (extension_behind be
 pub no_extension_of_cut : (name before after : List ℕ) → IsLastCut 46 name before after → has_other_than_dots before ≡ false → extension_of name ≡ []
 no_extension_of_cut name before after cut dots = rw cut.whole (extension_of_dots before after cut.last.none dots)
 
-pub no_extension_of_whole : (name : List ℕ) → Lacks 46 name → extension_of name ≡ []
+pub no_extension_of_whole : (name : List ℕ) → LacksByte 46 name → extension_of name ≡ []
 no_extension_of_whole name lacks = extension_none name lacks.none

@@ -59,7 +59,8 @@ without_first first left all [] below same = tt
 without_first first left all (row ∷ rows) below same =
     (sym (ap (λ (b : Bool). b || is_among left row.path) (below_differs first row.path below.0)) ∙ same.0, without_first first left all rows below.1 same.1)
 
-without_next : (paths all : List (List ℕ)) (next : ℕ) (row : File) (rows : List File) → IsRising (row ∷ rows) → first_cmp (drop next paths) row.path ≡ Less → AreLeft (drop next paths) all (row ∷ rows) → AreLeft (drop (suc next) paths) all (row ∷ rows)
+without_next : (paths all : List (List ℕ)) (next : ℕ) (row : File) (rows : List File) → IsRising (row ∷ rows) → first_cmp (drop next paths) row.path ≡ Less → AreLeft (drop next paths) all (row ∷ rows)
+    → AreLeft (drop (suc next) paths) all (row ∷ rows)
 without_next [] all zero row rows rising is same = absurd (cc)
 without_next [] all (suc next) row rows rising is same = absurd (cc)
 without_next (first ∷ paths) all zero row rows rising is same =
@@ -83,7 +84,8 @@ path_left [] (suc next) path some = absurd (some refl)
 path_left (first ∷ paths) zero path some = omega arith
 path_left (first ∷ paths) (suc next) path some = let left = path_left paths next path some in omega arith
 
-pub cmp_found : (paths : List (Bor (List ℕ))) (next : ℕ) (found : Bor (List ℕ)) (path : List ℕ) → slice_get paths next ≡ Some found → path_cmp found.now path ≡ first_cmp (drop next (texts_of paths)) path
+pub cmp_found : (paths : List (Bor (List ℕ))) (next : ℕ) (found : Bor (List ℕ)) (path : List ℕ) → slice_get paths next ≡ Some found
+    → path_cmp found.now path ≡ first_cmp (drop next (texts_of paths)) path
 cmp_found [] next found path held = absurd (cc)
 cmp_found (first ∷ paths) zero found path held = let same : first ≡ found = cc in ap (λ (f : Bor (List ℕ)). path_cmp f.now path) (sym same)
 cmp_found (first ∷ paths) (suc next) found path held = cmp_found paths next found path held
@@ -108,13 +110,15 @@ module _ (paths : List (List ℕ)) (old new : List File) (index next : ℕ) (row
       let one : suc next ≡ next + 1 = omega arith in
       let rest : IsRising (row ∷ drop (index + 1) old) = subst IsRising (at_row old index row held) (rising_rest path_of old index rising) in
       let after = without_next paths paths next row (drop (index + 1) old) rest is (at_first left) in
-      subst (λ (rows : List File). AreLeft (drop (next + 1) paths) paths rows) (sym (at_row old index row held)) (subst (λ (n : ℕ). AreLeft (drop n paths) paths (row ∷ drop (index + 1) old)) one after)
+      subst (λ (rows : List File). AreLeft (drop (next + 1) paths) paths rows) (sym (at_row old index row held))
+      (subst (λ (n : ℕ). AreLeft (drop n paths) paths (row ∷ drop (index + 1) old)) one after)
 
   pub rows_split : rows_in new (drop index old) ≡ row_with row.path (entry_of row.path new) ++ rows_in new (drop (index + 1) old)
   rows_split = ap (rows_in new) (at_row old index row held)
 
   -- a row whose path is before all that are left stays
-  pub row_stays : IsRising old → IsRisingBy itself paths → IsChangedAt paths old new → first_cmp (drop next paths) row.path ≡ Greater → AreLeft (drop next paths) paths (drop index old) → rows_in new (drop index old) ≡ row ∷ rows_in new (drop (index + 1) old)
+  pub row_stays : IsRising old → IsRisingBy itself paths → IsChangedAt paths old new → first_cmp (drop next paths) row.path ≡ Greater → AreLeft (drop next paths) paths (drop index old)
+      → rows_in new (drop index old) ≡ row ∷ rows_in new (drop (index + 1) old)
   row_stays rising_old rising changed is left =
       let none : is_among paths row.path ≡ false = sym (at_first left).0 ∙ none_left (drop next paths) row.path (rising_rest itself paths next rising) is in
       let same : entry_of row.path new ≡ Some row.entry = changed.elsewhere row.path none ∙ held_at old index row rising_old held in
@@ -128,13 +132,15 @@ module _ (paths : List (List ℕ)) (old new : List File) (index next : ℕ) (row
       ∙ get_or_from_slice_get (tags_of_tree old) index (tags_of_row row) found (slice_get-map tags_of_row old index ∙ ap (option_map tags_of_row) held)
 
 -- the tags of rows that are split are split alike
-pub tags_more : (made : List (List (List ℕ))) (first all rest : List File) (target : List (List (List ℕ))) → all ≡ first ++ rest → made ++ tags_of_tree all ≡ target → (made ++ tags_of_tree first) ++ tags_of_tree rest ≡ target
+pub tags_more : (made : List (List (List ℕ))) (first all rest : List File) (target : List (List (List ℕ))) → all ≡ first ++ rest → made ++ tags_of_tree all ≡ target
+    → (made ++ tags_of_tree first) ++ tags_of_tree rest ≡ target
 tags_more made first all rest target split so_far =
     append_assoc made (tags_of_tree first) (tags_of_tree rest)
     ∙ ap (λ (more : List (List (List ℕ))). made ++ more) (sym (map-append tags_of_row first rest) ∙ ap tags_of_tree (sym split))
     ∙ so_far
 
-pub tags_all : (made : List (List (List ℕ))) (old new : List File) (index : ℕ) (target : List (List (List ℕ))) → length old ≤ index → made ++ tags_of_tree (rows_in new (drop index old)) ≡ target → made ≡ target
+pub tags_all : (made : List (List (List ℕ))) (old new : List File) (index : ℕ) (target : List (List (List ℕ))) → length old ≤ index → made ++ tags_of_tree (rows_in new (drop index old)) ≡ target
+    → made ≡ target
 tags_all made old new index target past so_far =
     sym (append-nil made)
     ∙ ap (λ (rows : List File). made ++ tags_of_tree (rows_in new rows)) (sym (drop_all index old past))

@@ -77,9 +77,11 @@ has_by_reason tag path entry (by_mode mode) =
     let told = told_tags (name_of path) entry in
     has_left tag (mode_tags entry.mode ++ told) (content_tags told entry.bytes) (has_left tag (mode_tags entry.mode) told mode)
 has_by_reason tag path entry (by_name name) =
-    has_told tag path entry (has_else tag (name_tags (name_of path) ++ extension_tags (name_of path)) (script_tags entry.mode entry.bytes) (has_left tag (name_tags (name_of path)) (extension_tags (name_of path)) name))
+    has_told tag path entry (has_else tag (name_tags (name_of path) ++ extension_tags (name_of path)) (script_tags entry.mode entry.bytes)
+    (has_left tag (name_tags (name_of path)) (extension_tags (name_of path)) name))
 has_by_reason tag path entry (by_extension extension) =
-    has_told tag path entry (has_else tag (name_tags (name_of path) ++ extension_tags (name_of path)) (script_tags entry.mode entry.bytes) (has_right tag (name_tags (name_of path)) (extension_tags (name_of path)) extension))
+    has_told tag path entry (has_else tag (name_tags (name_of path) ++ extension_tags (name_of path)) (script_tags entry.mode entry.bytes)
+    (has_right tag (name_tags (name_of path)) (extension_tags (name_of path)) extension))
 has_by_reason tag path entry (by_first_line unknown script) =
     has_told tag path entry (has_other tag (name_tags (name_of path) ++ extension_tags (name_of path)) (script_tags entry.mode entry.bytes) unknown script)
 has_by_reason tag path entry (by_bytes untold same) =

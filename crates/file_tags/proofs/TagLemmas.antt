@@ -43,29 +43,35 @@ named name yielded = name ∷ texts_of yielded
 named-push : (name : List ℕ) (yielded : List (Bor (List ℕ))) (piece : Bor (List ℕ)) → named name (yielded ++ piece ∷ []) ≡ named name yielded ++ piece.now ∷ []
 named-push name yielded piece = ap (λ names. name ∷ names) (map-append (λ (text : Bor (List ℕ)). text.now) yielded (piece ∷ []))
 
-with_piece : (rows : List TagRow) (name : List ℕ) (yielded : List (Bor (List ℕ))) (piece : Bor (List ℕ)) → tags_of_first rows (named name (yielded ++ piece ∷ [])) ≡ or_else (tags_of_first rows (named name yielded)) (tags_in rows piece.now)
+with_piece : (rows : List TagRow) (name : List ℕ) (yielded : List (Bor (List ℕ))) (piece : Bor (List ℕ))
+    → tags_of_first rows (named name (yielded ++ piece ∷ [])) ≡ or_else (tags_of_first rows (named name yielded)) (tags_in rows piece.now)
 with_piece rows name yielded piece =
     ap (λ names. tags_of_first rows names) (named-push name yielded piece) ∙ tags_of_first-push rows (named name yielded) piece.now
 
-pub piece_looked_up : (rows : List TagRow) (name : List ℕ) (yielded : List (Bor (List ℕ))) (piece : Bor (List ℕ)) (tags new : List (Bor (List ℕ))) → texts_of tags ≡ tags_of_first rows (named name yielded) → length tags ≡ 0 → texts_of new ≡ tags_in rows piece.now → texts_of new ≡ tags_of_first rows (named name (yielded ++ piece ∷ []))
+pub piece_looked_up : (rows : List TagRow) (name : List ℕ) (yielded : List (Bor (List ℕ))) (piece : Bor (List ℕ)) (tags new : List (Bor (List ℕ)))
+    → texts_of tags ≡ tags_of_first rows (named name yielded) → length tags ≡ 0 → texts_of new ≡ tags_in rows piece.now → texts_of new ≡ tags_of_first rows (named name (yielded ++ piece ∷ []))
 piece_looked_up rows name yielded piece tags new before none found =
     let unknown : tags_of_first rows (named name yielded) ≡ [] = sym before ∙ is_none tags none in
     found ∙ sym (with_piece rows name yielded piece ∙ ap (λ first. or_else first (tags_in rows piece.now)) unknown)
 
-pub piece_passed : (rows : List TagRow) (name : List ℕ) (yielded : List (Bor (List ℕ))) (piece : Bor (List ℕ)) (tags : List (Bor (List ℕ))) → texts_of tags ≡ tags_of_first rows (named name yielded) → (length tags ≡ 0 → ⊥) → texts_of tags ≡ tags_of_first rows (named name (yielded ++ piece ∷ []))
+pub piece_passed : (rows : List TagRow) (name : List ℕ) (yielded : List (Bor (List ℕ))) (piece : Bor (List ℕ)) (tags : List (Bor (List ℕ))) → texts_of tags ≡ tags_of_first rows (named name yielded)
+    → (length tags ≡ 0 → ⊥) → texts_of tags ≡ tags_of_first rows (named name (yielded ++ piece ∷ []))
 piece_passed rows name yielded piece tags before some =
     sym (or_else-some tags (tags_in rows piece.now) some)
     ∙ (ap (λ first. or_else first (tags_in rows piece.now)) before ∙ sym (with_piece rows name yielded piece))
 
-pub names_all : (rows : List TagRow) (name : List ℕ) (pieces all : List (List ℕ)) (tags : List (List ℕ)) → tags ≡ tags_of_first rows (name ∷ pieces) → pieces ≡ all → tags ≡ tags_of_first rows (name ∷ all)
+pub names_all : (rows : List TagRow) (name : List ℕ) (pieces all : List (List ℕ)) (tags : List (List ℕ)) → tags ≡ tags_of_first rows (name ∷ pieces) → pieces ≡ all
+    → tags ≡ tags_of_first rows (name ∷ all)
 names_all rows name pieces all tags before same = before ∙ rw same refl
 
 -- of a name and shorter ones
 
-pub name_found : (rows : List TagRow) (name : List ℕ) (names : List (List ℕ)) (tags : List (Bor (List ℕ))) → texts_of tags ≡ tags_in rows name → (length tags ≡ 0 → ⊥) → texts_of tags ≡ tags_of_first rows (name ∷ names)
+pub name_found : (rows : List TagRow) (name : List ℕ) (names : List (List ℕ)) (tags : List (Bor (List ℕ))) → texts_of tags ≡ tags_in rows name → (length tags ≡ 0 → ⊥)
+    → texts_of tags ≡ tags_of_first rows (name ∷ names)
 name_found rows name names tags found some = rw (← found) (sym (or_else-some tags (tags_of_first rows names) some))
 
-pub name_unknown : (rows : List TagRow) (name : List ℕ) (names : List (List ℕ)) (tags : List (Bor (List ℕ))) → texts_of tags ≡ tags_in rows name → length tags ≡ 0 → tags_of_first rows (name ∷ names) ≡ tags_of_first rows names
+pub name_unknown : (rows : List TagRow) (name : List ℕ) (names : List (List ℕ)) (tags : List (Bor (List ℕ))) → texts_of tags ≡ tags_in rows name → length tags ≡ 0
+    → tags_of_first rows (name ∷ names) ≡ tags_of_first rows names
 name_unknown rows name names tags found none = rw (← found, is_none tags none) refl
 
 pub name_alone : (rows : List TagRow) (name : List ℕ) (names tags : List (List ℕ)) → tags ≡ tags_in rows name → names ≡ [] → tags ≡ tags_of_first rows (name ∷ names)

@@ -5,20 +5,20 @@ use Rattle.std.specs.List.{list_any}
 abbrev pub is_dot : ℕ → Bool
 is_dot byte = byte == 46
 
-abbrev pub is_slash : ℕ → Bool
-is_slash byte = byte == 47
+abbrev pub is_path_slash : ℕ → Bool
+is_path_slash byte = byte == 47
 
 abbrev pub is_line_feed : ℕ → Bool
 is_line_feed byte = byte == 10
 
-abbrev pub is_space : ℕ → Bool
-is_space byte = byte == 32
+abbrev pub is_space_byte : ℕ → Bool
+is_space_byte byte = byte == 32
 
 abbrev pub is_tab : ℕ → Bool
 is_tab byte = byte == 9
 
-abbrev pub is_blank : ℕ → Bool
-is_blank byte = is_space byte || is_tab byte
+abbrev pub is_shebang_blank : ℕ → Bool
+is_shebang_blank byte = is_space_byte byte || is_tab byte
 
 -- what follows the last byte that passes, or all bytes if none passes
 abbrev pub last_part : (ℕ → Bool) → List ℕ → List ℕ

@@ -6,7 +6,7 @@ use Rattle.std.specs.Str.{bytes_eq}
 use Rattle.hook_base.specs.declared.file.FileEntry.{FileEntry}
 use Rattle.hook_base.specs.declared.file.Mode.{Mode}
 use Rattle.hook_base.specs.declared.file.Mode.TheVariants.{Plain, Executable}
-use Rattle.file_tags.specs.Cuts.{is_dot, is_slash, last_part, before_dots, extension_of}
+use Rattle.file_tags.specs.Cuts.{is_dot, is_path_slash, last_part, before_dots, extension_of}
 use Rattle.file_tags.specs.TagTables.{name_rows, extension_rows, interpreter_rows, tags_in, tags_of_first, or_else}
 use Rattle.file_tags.specs.Shebangs.{shebang_of, from_interpreter}
 use Rattle.file_tags.specs.Contents.{is_text}
@@ -22,7 +22,7 @@ mode_tags Executable = codes "file" ∷ codes "executable" ∷ []
 
 -- the last part of a path
 abbrev pub name_of : List ℕ → List ℕ
-name_of path = last_part is_slash path
+name_of path = last_part is_path_slash path
 
 -- the tags of the whole name, otherwise of the first of its pieces between dots that is known (identify
 -- 2.5's tags_from_filename)
@@ -38,7 +38,7 @@ extension_tags name = tags_in extension_rows (map to_ascii_lowercase (extension_
 abbrev pub interpreter_tags : List (List ℕ) → List (List ℕ)
 interpreter_tags [] = []
 interpreter_tags (word ∷ words) =
-    tags_of_first interpreter_rows (last_part is_slash word ∷ before_dots (last_part is_slash word))
+    tags_of_first interpreter_rows (last_part is_path_slash word ∷ before_dots (last_part is_path_slash word))
 
 -- the tags of the program that an executable file names in its first line
 abbrev pub script_tags : Mode → List ℕ → List (List ℕ)

@@ -12,6 +12,8 @@ pub data Reason (tag path : List ℕ) (entry : FileEntry) : Type 0 where
   -- the table of extensions has its extension
   by_extension : IsTrue (has_tag tag (extension_tags (name_of path))) → Reason tag path entry
   -- neither has; it is executable, and the table of interpreters has the one that its first line names
-  by_first_line : name_tags (name_of path) ++ extension_tags (name_of path) ≡ [] → IsTrue (has_tag tag (script_tags entry.mode entry.bytes)) → Reason tag path entry
+  by_first_line : name_tags (name_of path) ++ extension_tags (name_of path) ≡ []
+      → IsTrue (has_tag tag (script_tags entry.mode entry.bytes)) → Reason tag path entry
   -- none of these says whether it is text, and its bytes look so
-  by_bytes : tell_encoding (told_tags (name_of path) entry) ≡ false → IsTrue (bytes_eq (encoding_of entry.bytes) tag) → Reason tag path entry
+  by_bytes : tell_encoding (told_tags (name_of path) entry) ≡ false → IsTrue (bytes_eq (encoding_of entry.bytes) tag)
+      → Reason tag path entry

@@ -3,7 +3,7 @@
 use Rattle.std.specs.Prelude.{ℕ, Bool, true, false, ◌==◌, ◌&&◌, nat_le, if◌then◌else◌, List, [], ◌∷◌, length, codes, Option, None, Some}
 use Rattle.std.specs.List.{filter, slice_split, before_first}
 use Rattle.std.specs.Str.{bytes_eq, is_utf8}
-use Rattle.file_tags.specs.Cuts.{is_blank, is_line_feed}
+use Rattle.file_tags.specs.Cuts.{is_shebang_blank, is_line_feed}
 
 -- the most bytes that may follow `#!` in the first line, including a carriage return at its end
 abbrev pub most_shebang_bytes : ℕ
@@ -15,13 +15,13 @@ without_carriage_return [] = []
 without_carriage_return (byte ∷ []) = if byte == 13 then [] else byte ∷ []
 without_carriage_return (byte ∷ next ∷ bytes) = byte ∷ without_carriage_return (next ∷ bytes)
 
-abbrev pub is_word : List ℕ → Bool
-is_word [] = false
-is_word (byte ∷ bytes) = true
+abbrev pub is_shebang_word : List ℕ → Bool
+is_shebang_word [] = false
+is_shebang_word (byte ∷ bytes) = true
 
 -- what is between spaces and tabs
-abbrev pub words_of : List ℕ → List (List ℕ)
-words_of line = filter is_word (slice_split is_blank line)
+abbrev pub words_of_shebang : List ℕ → List (List ℕ)
+words_of_shebang line = filter is_shebang_word (slice_split is_shebang_blank line)
 
 -- what follows `#!` in the first line, if it is short enough and UTF-8
 abbrev pub line_of : List ℕ → Option (List ℕ)
@@ -30,7 +30,7 @@ line_of rest =
 
 abbrev pub words_of_line : Option (List ℕ) → List (List ℕ)
 words_of_line None = []
-words_of_line (Some line) = words_of line
+words_of_line (Some line) = words_of_shebang line
 
 -- the words after `#!` at the start of a file, up to the first line feed; none if it doesn't begin so
 abbrev pub shebang_of : List ℕ → List (List ℕ)

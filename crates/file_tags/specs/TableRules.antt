@@ -17,7 +17,8 @@ are_some_tags (tag ∷ tags) = list_all is_some_name (tag ∷ tags)
 abbrev pub are_rows : List TagRow → Bool
 are_rows [] = true
 are_rows (row ∷ rows) =
-    is_some_name row.name && are_some_tags row.tags && not (list_any (λ later. bytes_eq later.name row.name) rows) && are_rows rows
+    is_some_name row.name && are_some_tags row.tags && not (list_any (λ later. bytes_eq later.name row.name) rows) &&
+    are_rows rows
 
 -- no name has an ASCII capital letter
 abbrev pub are_small : List TagRow → Bool

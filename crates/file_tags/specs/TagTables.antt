@@ -14,8 +14,8 @@ abbrev pub texts_of : List (Bor (List ℕ)) → List (List ℕ)
 texts_of = map (λ text. text.now)
 
 -- the rows of a table, as the code looks them up
-abbrev pub rows_of : List (Bor (List ℕ) × Bor (List (Bor (List ℕ)))) → List TagRow
-rows_of = map (λ row. record { name = row.0.now; tags = texts_of row.1.now })
+abbrev pub rows_of_tag_table : List (Bor (List ℕ) × Bor (List (Bor (List ℕ)))) → List TagRow
+rows_of_tag_table = map (λ row. record { name = row.0.now; tags = texts_of row.1.now })
 
 -- names of files, and of their pieces between dots
 unfoldable pub name_rows : List TagRow

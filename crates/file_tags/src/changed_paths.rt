@@ -16,7 +16,8 @@ pub(crate) fn changed_paths<'c>(
     changes: &'c [Change],
 ) -> Result<Vec<&'c RepoPath>, OutOfMemory>
     ensures rising { IfOk result (λ paths. IsRisingBy (λ path. path) (texts_of paths.items)) }
-    ensures same { IfOk result (λ paths. (path : List ℕ) → is_among (texts_of paths.items) path ≡ is_among (paths_named changes.now) path) }
+    ensures same { IfOk result (λ paths. (path : List ℕ)
+        → is_among (texts_of paths.items) path ≡ is_among (paths_named changes.now) path) }
 {
     let mut paths = paths_named(alloc, changes)?;
     sort_paths(&mut paths);
@@ -35,7 +36,8 @@ fn paths_named<'c>(alloc: Global, changes: &'c [Change]) -> Result<Vec<&'c RepoP
 
 fn sort_paths(paths: &mut Vec<&RepoPath>)
     ensures rising { IsRisingBy (λ path. path) (texts_of paths.new.items) }
-    ensures same { (path : List ℕ) → is_among (texts_of paths.new.items) path ≡ is_among (texts_of paths.old.items) path }
+    ensures same { (path : List ℕ) → is_among (texts_of paths.new.items) path
+        ≡ is_among (texts_of paths.old.items) path }
 {
     paths.sort_unstable();
     paths.dedup();

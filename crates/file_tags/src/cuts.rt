@@ -3,7 +3,7 @@
 //! The contracts cite `specs/Cuts.antt` and `specs/LastCuts.antt`.
 
 ghost use Rattle.std.specs.Prelude.{◌≡◌, ◌<◌};
-ghost use Rattle.file_tags.specs.Cuts.{is_slash, last_part, extension_of};
+ghost use Rattle.file_tags.specs.Cuts.{is_path_slash, last_part, extension_of};
 ghost use Rattle.file_tags.specs.LastCuts.{IsCutAtLast, has_other_than_dots};
 
 // What comes before the last such character and what follows it. `None` if there is none.
@@ -16,7 +16,7 @@ pub(crate) fn cut_at_last(text: &str, mark: char) -> Option<(&str, &str)>
 
 /// What follows the last slash, or all of the text if there is none.
 pub(crate) fn last_part(text: &str) -> &str
-    ensures { result.now ≡ last_part is_slash text.now }
+    ensures { result.now ≡ last_part is_path_slash text.now }
 {
     match cut_at_last(text, '/') {
         Some((_, after)) => after,

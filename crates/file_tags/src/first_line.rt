@@ -6,7 +6,7 @@ ghost use Rattle.std.specs.Prelude.{◌≡◌, ◌++◌, IfOk, OnOk};
 ghost use Rattle.std.specs.List.{filter, slice_split, before_first};
 ghost use Rattle.std.specs.Option.{option_copied};
 ghost use Rattle.file_tags.specs.Cuts.{is_line_feed, is_tab};
-ghost use Rattle.file_tags.specs.Shebangs.{is_word, line_of, shebang_of, without_carriage_return, words_of};
+ghost use Rattle.file_tags.specs.Shebangs.{is_shebang_word, line_of, shebang_of, without_carriage_return, words_of_shebang};
 
 use hook_base::{Items, OutOfMemory, Text};
 use std::alloc::Global;
@@ -64,7 +64,7 @@ fn without_carriage_return(line: &str) -> &str
 }
 
 fn words_of(alloc: Global, line: &str) -> Result<Items<Text>, OutOfMemory>
-    ensures { IfOk result (λ words. words ≡ words_of line.now) }
+    ensures { IfOk result (λ words. words ≡ words_of_shebang line.now) }
 {
     let mut words = Vec::new(alloc);
     'parts: for part in line.split(' ') {
@@ -74,7 +74,7 @@ fn words_of(alloc: Global, line: &str) -> Result<Items<Text>, OutOfMemory>
 }
 
 fn push_words(alloc: Global, words: &mut Vec<Text>, part: &str) -> Result<(), OutOfMemory>
-    ensures { OnOk result (words.new.items ≡ words.old.items ++ filter is_word (slice_split is_tab part.now)) }
+    ensures { OnOk result (words.new.items ≡ words.old.items ++ filter is_shebang_word (slice_split is_tab part.now)) }
 {
     'words: for word in part.split('\t') {
         if !word.is_empty() {

@@ -28,5 +28,6 @@ pub fn the_tables_are_fit()
 
 /// A file has a tag exactly if one of the rules gives it.
 pub fn each_tag_has_a_reason()
-    ensures { (tag path : List ℕ) (entry : FileEntry) → IsTrue (has_tag tag (tags_of_file path entry)) ↔ Reason tag path entry }
+    ensures { (tag path : List ℕ) (entry : FileEntry)
+        → IsTrue (has_tag tag (tags_of_file path entry)) ↔ Reason tag path entry }
 {}

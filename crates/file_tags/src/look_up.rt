@@ -5,7 +5,7 @@
 ghost use Rattle.std.specs.Prelude.{◌≡◌, ◌∷◌};
 ghost use Rattle.file_tags.specs.Cuts.{before_dots};
 ghost use Rattle.file_tags.specs.FileTags.{name_tags};
-ghost use Rattle.file_tags.specs.TagTables.{texts_of, rows_of, name_rows, extension_rows, interpreter_rows, tags_in, tags_of_first};
+ghost use Rattle.file_tags.specs.TagTables.{texts_of, rows_of_tag_table, name_rows, extension_rows, interpreter_rows, tags_in, tags_of_first};
 
 use crate::cuts::cut_at_last;
 use crate::tables::{EXTENSIONS, INTERPRETERS, NAMES};
@@ -15,7 +15,7 @@ fn tags_in(
     rows: &'static [(&'static str, &'static [&'static str])],
     name: &str,
 ) -> &'static [&'static str]
-    ensures { texts_of result.now ≡ tags_in (rows_of rows.now) name.now }
+    ensures { texts_of result.now ≡ tags_in (rows_of_tag_table rows.now) name.now }
 {
     'rows: for row in rows {
         if row.0 == name {

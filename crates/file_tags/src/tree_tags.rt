@@ -88,7 +88,8 @@ fn push_tags(
     path: &RepoPath,
     found: Option<&FileEntry>,
 ) -> Result<(), OutOfMemory>
-    ensures { OnOk result (tags.new.items ≡ tags.old.items ++ tags_of_tree (row_with path.now (option_copied found.entry))) }
+    ensures { OnOk result (tags.new.items ≡ tags.old.items ++ tags_of_tree
+        (row_with path.now (option_copied found.entry))) }
 {
     if let Some(entry) = found {
         let made = tags_of(alloc, path, entry)?;

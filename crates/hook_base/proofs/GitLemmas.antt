@@ -51,7 +51,8 @@ begins_with_name [] (byte ∷ bytes) whole =
 begins_with_name (one ∷ name) [] whole = refl
 begins_with_name (one ∷ name) (byte ∷ bytes) whole =
     let tail = starts_with nat_eq bytes (name ++ 47 ∷ []) in
-    elim (is_slash byte) as (λ b. is_slash byte ≡ b → (((byte == one) && bytes_eq bytes name) || ((one == byte) && tail)) ≡ begins_with_part (one ∷ name) (cond b ([] ∷ parts_of bytes) (onto_first byte (parts_of bytes)))) [
+    elim (is_slash byte) as (λ b. is_slash byte ≡ b → (((byte == one) && bytes_eq bytes name) || ((one == byte) && tail))
+    ≡ begins_with_part (one ∷ name) (cond b ([] ∷ parts_of bytes) (onto_first byte (parts_of bytes)))) [
       | true ↦ λ slash. let apart : (byte == one) ≡ false = at_slash byte one slash (or-first (is_slash one) _ whole) in rw (turned one byte) (rw apart refl)
       | false ↦ λ other. rw (turned one byte) (over_and (byte == one) _ _ _ (begins_with_name name bytes (or-second (is_slash one) _ whole)) ∙ sym (begins-onto byte one bytes name))
     ] refl

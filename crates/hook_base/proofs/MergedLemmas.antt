@@ -24,7 +24,8 @@ entry_of-put_here path new (row ∷ rows) here =
     elim (path_cases new.path row.path) [
       | inl (inl below) ↦ rw below.is_less (rw (bytes_same path new.path here))
       | inl (inr same) ↦ rw (path_itself new.path row.path same) (rw (bytes_same path new.path here))
-      | inr above ↦ rw (greater_from_below row.path new.path above) (rw (above_differs path row.path (subst (λ (p : List ℕ). IsBelow row.path p) (sym here) above)) (entry_of-put_here path new rows here))
+      | inr above ↦ rw (greater_from_below row.path new.path above) (rw (above_differs path row.path (subst (λ (p : List ℕ). IsBelow row.path p) (sym here) above))
+          (entry_of-put_here path new rows here))
     ]
 
 pub entry_of-put_other : (path : List ℕ) (new : File) (rows : List File) → bytes_eq path new.path ≡ false → entry_of path (put_row new rows) ≡ entry_of path rows
@@ -69,7 +70,8 @@ later_at path new added here later =
 pub entry_of-put_rows : (path : List ℕ) (added rows : List File) → IsRising added → entry_of path (put_rows added rows) ≡ or_entry (entry_of path added) (entry_of path rows)
 entry_of-put_rows path [] rows rising = refl
 entry_of-put_rows path (new ∷ added) rows rising =
-    entry_of-put_rows path added (put_row new rows) rising.1 ∙ (elim (bytes_eq path new.path) as (λ (b : Bool). bytes_eq path new.path ≡ b → or_entry (entry_of path added) (entry_of path (put_row new rows)) ≡ or_entry (if b then Some new.entry else entry_of path added) (entry_of path rows)) [
+    entry_of-put_rows path added (put_row new rows) rising.1 ∙ (elim (bytes_eq path new.path) as (λ (b : Bool). bytes_eq path new.path ≡ b
+    → or_entry (entry_of path added) (entry_of path (put_row new rows)) ≡ or_entry (if b then Some new.entry else entry_of path added) (entry_of path rows)) [
       | true ↦ λ same. let here = (bytes_decides path new.path).0 same in rw (later_at path new added here rising.0) (entry_of-put_here path new rows here)
       | false ↦ λ other. rw (entry_of-put_other path new rows other)
     ] refl)
@@ -93,30 +95,41 @@ absent_here path from rows here absent = subst (λ (p : List ℕ). entry_of p ro
 
 pub put_row-rows : (new : File) (added rows : List File) → IsRising added → IsRising rows → entry_of new.path added ≡ None → put_rows added (put_row new rows) ≡ put_row new (put_rows added rows)
 put_row-rows new added rows up rising absent =
-    same_rows (put_rows added (put_row new rows)) (put_row new (put_rows added rows)) (IsRising-put_rows added (put_row new rows) (IsRising-put_row new rows rising)) (IsRising-put_row new (put_rows added rows) (IsRising-put_rows added rows rising)) (λ path.
+    same_rows (put_rows added (put_row new rows)) (put_row new (put_rows added rows)) (IsRising-put_rows added (put_row new rows) (IsRising-put_row new rows rising))
+    (IsRising-put_row new (put_rows added rows) (IsRising-put_rows added rows rising)) (λ path.
     entry_of-put_rows path added (put_row new rows) up ∙ at_path (or_entry (entry_of path added) (entry_of path (put_row new rows)) ≡ entry_of path (put_row new (put_rows added rows))) path new.path
     (λ here. rw (absent_here path new.path added here absent) (entry_of-put_here path new rows here ∙ sym (entry_of-put_here path new (put_rows added rows) here)))
     (λ other. rw (entry_of-put_other path new rows other) (sym (entry_of-put_other path new (put_rows added rows) other ∙ entry_of-put_rows path added rows up))))
 
 pub put_row-added : (new : File) (added rows : List File) → IsRising added → IsRising rows → put_rows (put_row new added) rows ≡ put_row new (put_rows added rows)
 put_row-added new added rows up rising =
-    same_rows (put_rows (put_row new added) rows) (put_row new (put_rows added rows)) (IsRising-put_rows (put_row new added) rows rising) (IsRising-put_row new (put_rows added rows) (IsRising-put_rows added rows rising)) (λ path.
-    entry_of-put_rows path (put_row new added) rows (IsRising-put_row new added up) ∙ at_path (or_entry (entry_of path (put_row new added)) (entry_of path rows) ≡ entry_of path (put_row new (put_rows added rows))) path new.path
+    same_rows (put_rows (put_row new added) rows) (put_row new (put_rows added rows)) (IsRising-put_rows (put_row new added) rows rising)
+    (IsRising-put_row new (put_rows added rows) (IsRising-put_rows added rows rising)) (λ path.
+    entry_of-put_rows path (put_row new added) rows (IsRising-put_row new added up)
+    ∙ at_path (or_entry (entry_of path (put_row new added)) (entry_of path rows) ≡ entry_of path (put_row new (put_rows added rows))) path new.path
     (λ here. rw (entry_of-put_here path new added here) (sym (entry_of-put_here path new (put_rows added rows) here)))
     (λ other. rw (entry_of-put_other path new added other) (sym (entry_of-put_other path new (put_rows added rows) other ∙ entry_of-put_rows path added rows up))))
 
-pub remove_file-rows : (from : List ℕ) (added rows : List File) → IsRising added → IsRising rows → entry_of from added ≡ None → put_rows added (remove_file from rows) ≡ remove_file from (put_rows added rows)
+pub remove_file-rows : (from : List ℕ) (added rows : List File) → IsRising added → IsRising rows → entry_of from added ≡ None
+    → put_rows added (remove_file from rows) ≡ remove_file from (put_rows added rows)
 remove_file-rows from added rows up rising absent =
-    same_rows (put_rows added (remove_file from rows)) (remove_file from (put_rows added rows)) (IsRising-put_rows added (remove_file from rows) (IsRising-remove_file from rows rising)) (IsRising-remove_file from (put_rows added rows) (IsRising-put_rows added rows rising)) (λ path.
-    entry_of-put_rows path added (remove_file from rows) up ∙ at_path (or_entry (entry_of path added) (entry_of path (remove_file from rows)) ≡ entry_of path (remove_file from (put_rows added rows))) path from
-    (λ here. rw (absent_here path from added here absent) (absent_here path from (remove_file from rows) here (entry_of-removed from rows) ∙ sym (absent_here path from (remove_file from (put_rows added rows)) here (entry_of-removed from (put_rows added rows)))))
+    same_rows (put_rows added (remove_file from rows)) (remove_file from (put_rows added rows)) (IsRising-put_rows added (remove_file from rows) (IsRising-remove_file from rows rising))
+    (IsRising-remove_file from (put_rows added rows) (IsRising-put_rows added rows rising)) (λ path.
+    entry_of-put_rows path added (remove_file from rows) up ∙ at_path (or_entry (entry_of path added) (entry_of path (remove_file from rows)) ≡ entry_of path (remove_file from (put_rows added rows)))
+    path from
+    (λ here. rw (absent_here path from added here absent) (absent_here path from (remove_file from rows) here (entry_of-removed from rows)
+    ∙ sym (absent_here path from (remove_file from (put_rows added rows)) here (entry_of-removed from (put_rows added rows)))))
     (λ other. rw (entry_of-remove_other path from rows other) (sym (entry_of-remove_other path from (put_rows added rows) other ∙ entry_of-put_rows path added rows up))))
 
-pub remove_file-added : (from : List ℕ) (added rows : List File) → IsRising added → IsRising rows → entry_of from rows ≡ None → put_rows (remove_file from added) rows ≡ remove_file from (put_rows added rows)
+pub remove_file-added : (from : List ℕ) (added rows : List File) → IsRising added → IsRising rows → entry_of from rows ≡ None
+    → put_rows (remove_file from added) rows ≡ remove_file from (put_rows added rows)
 remove_file-added from added rows up rising absent =
-    same_rows (put_rows (remove_file from added) rows) (remove_file from (put_rows added rows)) (IsRising-put_rows (remove_file from added) rows rising) (IsRising-remove_file from (put_rows added rows) (IsRising-put_rows added rows rising)) (λ path.
-    entry_of-put_rows path (remove_file from added) rows (IsRising-remove_file from added up) ∙ at_path (or_entry (entry_of path (remove_file from added)) (entry_of path rows) ≡ entry_of path (remove_file from (put_rows added rows))) path from
-    (λ here. rw (absent_here path from (remove_file from added) here (entry_of-removed from added)) (absent_here path from rows here absent ∙ sym (absent_here path from (remove_file from (put_rows added rows)) here (entry_of-removed from (put_rows added rows)))))
+    same_rows (put_rows (remove_file from added) rows) (remove_file from (put_rows added rows)) (IsRising-put_rows (remove_file from added) rows rising)
+    (IsRising-remove_file from (put_rows added rows) (IsRising-put_rows added rows rising)) (λ path.
+    entry_of-put_rows path (remove_file from added) rows (IsRising-remove_file from added up)
+    ∙ at_path (or_entry (entry_of path (remove_file from added)) (entry_of path rows) ≡ entry_of path (remove_file from (put_rows added rows))) path from
+    (λ here. rw (absent_here path from (remove_file from added) here (entry_of-removed from added))
+    (absent_here path from rows here absent ∙ sym (absent_here path from (remove_file from (put_rows added rows)) here (entry_of-removed from (put_rows added rows)))))
     (λ other. rw (entry_of-remove_other path from added other) (sym (entry_of-remove_other path from (put_rows added rows) other ∙ entry_of-put_rows path added rows up))))
 
 -- no path has a row in both
@@ -278,15 +291,19 @@ read-at path (first ∷ rows) zero row at there here =
 read-at path (first ∷ rows) (suc k) row at there here =
     read-at path rows k row at.1 (sym (rw (above_differs path first.path at.0)) ∙ there) here
 
-pub read_added : (added rows : List File) (a b n : ℕ) (row : File) → n ≡ a + b → IsRising added → AreApart added rows → IsAt row.path added a → IsGap row.path rows b → get_or added a row ≡ row → slice_get (put_rows added rows) n ≡ Some row
+pub read_added : (added rows : List File) (a b n : ℕ) (row : File) → n ≡ a + b → IsRising added → AreApart added rows → IsAt row.path added a → IsGap row.path rows b → get_or added a row ≡ row
+    → slice_get (put_rows added rows) n ≡ Some row
 read_added added rows a b n row is rising apart at gap stood =
     let there = entry_of-at row.path added a row at ∙ ap (λ (stood : File). Some stood.entry) stood in
-    read-at row.path (put_rows added rows) n row (at-added row.path added rows a b n is rising apart at gap) (entry_of-put_rows row.path added rows rising ∙ ap (λ (found : Option FileEntry). or_entry found (entry_of row.path rows)) there) refl
+    read-at row.path (put_rows added rows) n row (at-added row.path added rows a b n is rising apart at gap)
+    (entry_of-put_rows row.path added rows rising ∙ ap (λ (found : Option FileEntry). or_entry found (entry_of row.path rows)) there) refl
 
-pub read_rows : (added rows : List File) (a b n : ℕ) (row : File) → n ≡ a + b → IsRising added → AreApart added rows → IsGap row.path added a → IsAt row.path rows b → get_or rows b row ≡ row → slice_get (put_rows added rows) n ≡ Some row
+pub read_rows : (added rows : List File) (a b n : ℕ) (row : File) → n ≡ a + b → IsRising added → AreApart added rows → IsGap row.path added a → IsAt row.path rows b → get_or rows b row ≡ row
+    → slice_get (put_rows added rows) n ≡ Some row
 read_rows added rows a b n row is rising apart gap at stood =
     let there = entry_of-at row.path rows b row at ∙ ap (λ (stood : File). Some stood.entry) stood in
-    read-at row.path (put_rows added rows) n row (at-rows row.path added rows a b n is rising apart gap at) (entry_of-put_rows row.path added rows rising ∙ (ap (λ (found : Option FileEntry). or_entry found (entry_of row.path rows)) (entry_of-gap row.path added a gap) ∙ there)) refl
+    read-at row.path (put_rows added rows) n row (at-rows row.path added rows a b n is rising apart gap at)
+    (entry_of-put_rows row.path added rows rising ∙ (ap (λ (found : Option FileEntry). or_entry found (entry_of row.path rows)) (entry_of-gap row.path added a gap) ∙ there)) refl
 
 pub rising_now : (added rows now : List File) → IsRising rows → put_rows added rows ≡ now → IsRising now
 rising_now added rows now rising is = subst IsRising is (IsRising-put_rows added rows rising)
@@ -330,17 +347,20 @@ found_put path (Some entry) row rows is = let same : row ≡ record { path = pat
 row_is : (path : List ℕ) (row : File) → path ≡ row.path → Some row ≡ row_found path (Some row.entry)
 row_is path row here = ap (λ (p : List ℕ). row_found p (Some row.entry)) (sym here)
 
-pub found_in_added : (path : List ℕ) (added rows : List File) (k : ℕ) (row : File) → IsRising added → IsAt path added k → get_or added k row ≡ row → Some row ≡ row_found path (entry_of path (put_rows added rows))
+pub found_in_added : (path : List ℕ) (added rows : List File) (k : ℕ) (row : File) → IsRising added → IsAt path added k → get_or added k row ≡ row
+    → Some row ≡ row_found path (entry_of path (put_rows added rows))
 found_in_added path added rows k row rising at stood =
     let here = path-at path added k row at ∙ ap path_of stood in
     let there = entry_of-at path added k row at ∙ ap (λ (stood : File). Some stood.entry) stood in
     row_is path row here ∙ ap (row_found path) (sym (entry_of-put_rows path added rows rising ∙ ap (λ (found : Option FileEntry). or_entry found (entry_of path rows)) there))
 
-pub found_in_rows : (path : List ℕ) (added rows : List File) (a k : ℕ) (row : File) → IsRising added → IsGap path added a → IsAt path rows k → get_or rows k row ≡ row → Some row ≡ row_found path (entry_of path (put_rows added rows))
+pub found_in_rows : (path : List ℕ) (added rows : List File) (a k : ℕ) (row : File) → IsRising added → IsGap path added a → IsAt path rows k → get_or rows k row ≡ row
+    → Some row ≡ row_found path (entry_of path (put_rows added rows))
 found_in_rows path added rows a k row rising gap at stood =
     let here = path-at path rows k row at ∙ ap path_of stood in
     let there = entry_of-at path rows k row at ∙ ap (λ (stood : File). Some stood.entry) stood in
-    row_is path row here ∙ ap (row_found path) (sym (entry_of-put_rows path added rows rising ∙ (ap (λ (found : Option FileEntry). or_entry found (entry_of path rows)) (entry_of-gap path added a gap) ∙ there)))
+    row_is path row here ∙ ap (row_found path) (sym (entry_of-put_rows path added rows rising
+    ∙ (ap (λ (found : Option FileEntry). or_entry found (entry_of path rows)) (entry_of-gap path added a gap) ∙ there)))
 
 pub found_nowhere : (path : List ℕ) (added rows : List File) (a k : ℕ) → IsRising added → IsGap path added a → IsGap path rows k → entry_of path (put_rows added rows) ≡ None
 found_nowhere path added rows a k rising first second =

@@ -16,7 +16,8 @@ use Rattle.hook_base.specs.Trees.{IsRising, apply_at, entry_of, path_of, remove_
 
 -- what stands at an index
 
-pub standing-read : (base : List File) (states : List RowState) (k : ℕ) (d : File) (e : RowState) → k < length base → k < length states → standing_at base states k ≡ Some (row_by (get_or base k d) (get_or states k e))
+pub standing-read : (base : List File) (states : List RowState) (k : ℕ) (d : File) (e : RowState) → k < length base → k < length states
+    → standing_at base states k ≡ Some (row_by (get_or base k d) (get_or states k e))
 standing-read [] states k d e within one = absurd (omega arith)
 standing-read (row ∷ base) [] k d e within one = absurd (omega arith)
 standing-read (row ∷ base) (state ∷ states) zero d e within one = refl
@@ -30,7 +31,8 @@ states-length [] (state ∷ states) are = absurd are
 states-length (row ∷ base) [] are = absurd are
 states-length (row ∷ base) (state ∷ states) are = ap suc (states-length base states are.1)
 
-pub states-set : (base : List File) (states : List RowState) (k : ℕ) (state : RowState) → AreStatesOf base states → ((d : File) → IsStateOf (get_or base k d) state) → AreStatesOf base (set states k state)
+pub states-set : (base : List File) (states : List RowState) (k : ℕ) (state : RowState) → AreStatesOf base states → ((d : File) → IsStateOf (get_or base k d) state)
+    → AreStatesOf base (set states k state)
 states-set [] [] k state are new = tt
 states-set [] (old ∷ states) k state are new = absurd are
 states-set (row ∷ base) [] k state are new = absurd are
@@ -66,11 +68,13 @@ IsRising-live_rows (row ∷ base) (Gone ∷ states) are rising = IsRising-live_r
 
 -- edits at the place of a path in the base
 
-later_of : (path : List ℕ) (row : File) (base : List File) (states : List RowState) → AreStatesOf base states → path ≡ row.path → IsBelowAll path_of row.path base → IsBelowAll path_of path (live_rows base states)
+later_of : (path : List ℕ) (row : File) (base : List File) (states : List RowState) → AreStatesOf base states → path ≡ row.path → IsBelowAll path_of row.path base
+    → IsBelowAll path_of path (live_rows base states)
 later_of path row base states are same later =
     below_all-live_rows path base states are (subst (λ (p : List ℕ). IsBelowAll path_of p base) (sym same) later)
 
-pub live_rows-gone : (path : List ℕ) (base : List File) (states : List RowState) (k : ℕ) → IsRising base → AreStatesOf base states → IsAt path base k → live_rows base (set states k Gone) ≡ remove_file path (live_rows base states)
+pub live_rows-gone : (path : List ℕ) (base : List File) (states : List RowState) (k : ℕ) → IsRising base → AreStatesOf base states → IsAt path base k
+    → live_rows base (set states k Gone) ≡ remove_file path (live_rows base states)
 live_rows-gone path [] states k rising are at = absurd at
 live_rows-gone path (row ∷ base) [] k rising are at = absurd are
 live_rows-gone path (row ∷ base) (Kept ∷ states) zero rising are at =
@@ -86,25 +90,30 @@ live_rows-gone path (row ∷ base) (Replaced new ∷ states) (suc k) rising are 
 live_rows-gone path (row ∷ base) (Gone ∷ states) (suc k) rising are at = live_rows-gone path base states k rising.1 are.1 at.1
 
 -- where the row stands, other bytes in it are another row in its place
-pub live_rows-rewritten : (path bytes : List ℕ) (base : List File) (states : List RowState) (k : ℕ) (old : File) (d : RowState) → IsRising base → AreStatesOf base states → IsAt path base k → standing_at base states k ≡ Some old → (get_or states k d ≡ Gone → ⊥) → live_rows base (set states k (Replaced (with_bytes bytes old))) ≡ rewrite_file path bytes (live_rows base states)
+pub live_rows-rewritten : (path bytes : List ℕ) (base : List File) (states : List RowState) (k : ℕ) (old : File) (d : RowState) → IsRising base → AreStatesOf base states → IsAt path base k
+    → standing_at base states k ≡ Some old → (get_or states k d ≡ Gone → ⊥) → live_rows base (set states k (Replaced (with_bytes bytes old))) ≡ rewrite_file path bytes (live_rows base states)
 live_rows-rewritten path bytes [] states k old d rising are at stood live = absurd at
 live_rows-rewritten path bytes (row ∷ base) [] k old d rising are at stood live = absurd are
 live_rows-rewritten path bytes (row ∷ base) (Kept ∷ states) zero old d rising are at stood live =
     let same : row ≡ old = cc in
-    rw (bytes_same path row.path at) (rw (rewrite_file-later path bytes (live_rows base states) (later_of path row base states are.1 at rising.0)) (ap (λ (stood : File). with_bytes bytes stood ∷ live_rows base states) (sym same)))
+    rw (bytes_same path row.path at) (rw (rewrite_file-later path bytes (live_rows base states) (later_of path row base states are.1 at rising.0))
+    (ap (λ (stood : File). with_bytes bytes stood ∷ live_rows base states) (sym same)))
 live_rows-rewritten path bytes (row ∷ base) (Replaced new ∷ states) zero old d rising are at stood live =
     let same : new ≡ old = cc in
-    rw (bytes_same path new.path (at ∙ sym are.0)) (rw (rewrite_file-later path bytes (live_rows base states) (later_of path row base states are.1 at rising.0)) (ap (λ (stood : File). with_bytes bytes stood ∷ live_rows base states) (sym same)))
+    rw (bytes_same path new.path (at ∙ sym are.0)) (rw (rewrite_file-later path bytes (live_rows base states) (later_of path row base states are.1 at rising.0))
+    (ap (λ (stood : File). with_bytes bytes stood ∷ live_rows base states) (sym same)))
 live_rows-rewritten path bytes (row ∷ base) (Gone ∷ states) zero old d rising are at stood live = absurd (live refl)
 live_rows-rewritten path bytes (row ∷ base) (Kept ∷ states) (suc k) old d rising are at stood live =
     rw (above_differs path row.path at.0) (ap (λ (rest : List File). row ∷ rest) (live_rows-rewritten path bytes base states k old d rising.1 are.1 at.1 stood live))
 live_rows-rewritten path bytes (row ∷ base) (Replaced new ∷ states) (suc k) old d rising are at stood live =
-    rw (above_differs path new.path (subst (λ (p : List ℕ). IsBelow p path) (sym are.0) at.0)) (ap (λ (rest : List File). new ∷ rest) (live_rows-rewritten path bytes base states k old d rising.1 are.1 at.1 stood live))
+    rw (above_differs path new.path (subst (λ (p : List ℕ). IsBelow p path) (sym are.0) at.0))
+    (ap (λ (rest : List File). new ∷ rest) (live_rows-rewritten path bytes base states k old d rising.1 are.1 at.1 stood live))
 live_rows-rewritten path bytes (row ∷ base) (Gone ∷ states) (suc k) old d rising are at stood live =
     live_rows-rewritten path bytes base states k old d rising.1 are.1 at.1 stood live
 
 -- where the row is gone, other bytes change nothing
-pub rewrite_file-gone : (path bytes : List ℕ) (base : List File) (states : List RowState) (k : ℕ) (d : RowState) → IsRising base → AreStatesOf base states → IsAt path base k → get_or states k d ≡ Gone → rewrite_file path bytes (live_rows base states) ≡ live_rows base states
+pub rewrite_file-gone : (path bytes : List ℕ) (base : List File) (states : List RowState) (k : ℕ) (d : RowState) → IsRising base → AreStatesOf base states → IsAt path base k → get_or states k d ≡ Gone
+    → rewrite_file path bytes (live_rows base states) ≡ live_rows base states
 rewrite_file-gone path bytes [] states k d rising are at gone = absurd at
 rewrite_file-gone path bytes (row ∷ base) [] k d rising are at gone = absurd are
 rewrite_file-gone path bytes (row ∷ base) (Kept ∷ states) zero d rising are at gone = absurd (cc)
@@ -114,7 +123,8 @@ rewrite_file-gone path bytes (row ∷ base) (Gone ∷ states) zero d rising are 
 rewrite_file-gone path bytes (row ∷ base) (Kept ∷ states) (suc k) d rising are at gone =
     rw (above_differs path row.path at.0) (ap (λ (rest : List File). row ∷ rest) (rewrite_file-gone path bytes base states k d rising.1 are.1 at.1 gone))
 rewrite_file-gone path bytes (row ∷ base) (Replaced new ∷ states) (suc k) d rising are at gone =
-    rw (above_differs path new.path (subst (λ (p : List ℕ). IsBelow p path) (sym are.0) at.0)) (ap (λ (rest : List File). new ∷ rest) (rewrite_file-gone path bytes base states k d rising.1 are.1 at.1 gone))
+    rw (above_differs path new.path (subst (λ (p : List ℕ). IsBelow p path) (sym are.0) at.0))
+    (ap (λ (rest : List File). new ∷ rest) (rewrite_file-gone path bytes base states k d rising.1 are.1 at.1 gone))
 rewrite_file-gone path bytes (row ∷ base) (Gone ∷ states) (suc k) d rising are at gone = rewrite_file-gone path bytes base states k d rising.1 are.1 at.1 gone
 
 -- a path that the base lacks has no row that stands
@@ -155,7 +165,8 @@ apply_at-absent path None rows absent = remove_file-absent path rows absent
 apply_at-absent path (Some bytes) rows absent = rewrite_file-absent path bytes rows absent
 
 -- what stands in the place of a path has the path
-pub standing-path : (path : List ℕ) (base : List File) (states : List RowState) (k : ℕ) (old : File) → AreStatesOf base states → IsAt path base k → standing_at base states k ≡ Some old → path ≡ old.path
+pub standing-path : (path : List ℕ) (base : List File) (states : List RowState) (k : ℕ) (old : File) → AreStatesOf base states → IsAt path base k → standing_at base states k ≡ Some old
+    → path ≡ old.path
 standing-path path [] states k old are at stood = absurd at
 standing-path path (row ∷ base) [] k old are at stood = absurd are
 standing-path path (row ∷ base) (Kept ∷ states) zero old are at stood = let same : row ≡ old = cc in at ∙ ap path_of same
@@ -290,7 +301,8 @@ live_indices-removed first (Replaced new ∷ states) (suc r) (suc k) is =
 live_indices-removed first (Gone ∷ states) r zero is = absurd is
 live_indices-removed first (Gone ∷ states) r (suc k) is = live_indices-removed (first + 1) states r k is
 
-pub live_rows-replaced : (base : List File) (states : List RowState) (r k : ℕ) (by : File) → AreStatesOf base states → IsNth states r k → live_rows base (set states k (Replaced by)) ≡ set (live_rows base states) r by
+pub live_rows-replaced : (base : List File) (states : List RowState) (r k : ℕ) (by : File) → AreStatesOf base states → IsNth states r k
+    → live_rows base (set states k (Replaced by)) ≡ set (live_rows base states) r by
 live_rows-replaced [] [] r k by are is = absurd is
 live_rows-replaced [] (state ∷ states) r k by are is = absurd are
 live_rows-replaced (row ∷ base) [] r k by are is = absurd are
@@ -324,10 +336,12 @@ live_indices-replaced first (Gone ∷ states) r (suc k) by is = live_indices-rep
 
 -- the indices that are kept are those of the rows that stand
 
-pub live_count : (base : List File) (states : List RowState) (live : List ℕ) (now : List File) → AreStatesOf base states → live ≡ live_indices 0 states → live_rows base states ≡ now → length live ≡ length now
+pub live_count : (base : List File) (states : List RowState) (live : List ℕ) (now : List File) → AreStatesOf base states → live ≡ live_indices 0 states → live_rows base states ≡ now
+    → length live ≡ length now
 live_count base states live now are live_is now_is = ap length live_is ∙ (live_indices-length 0 base states are ∙ ap length now_is)
 
-pub chosen : (base : List File) (states : List RowState) (live : List ℕ) (now : List File) (r k : ℕ) → AreStatesOf base states → live ≡ live_indices 0 states → live_rows base states ≡ now → r < length now → k ≡ get_or live r k → IsNth states r k
+pub chosen : (base : List File) (states : List RowState) (live : List ℕ) (now : List File) (r k : ℕ) → AreStatesOf base states → live ≡ live_indices 0 states → live_rows base states ≡ now
+    → r < length now → k ≡ get_or live r k → IsNth states r k
 chosen base states live now r k are live_is now_is within is =
     let count = live_count base states live now are live_is now_is in
     let counted = ap length live_is in

@@ -65,18 +65,22 @@ UpTo-gap path (row ∷ rows) (suc n) gap = (gap.0, UpTo-gap path rows n gap.1)
 
 -- what comparing the path of a row tells
 
-compared : (path : List ℕ) (rows : List File) (k : ℕ) (shown row : File) (o : Ordering) → shown ≡ row → row ≡ get_or rows k row → path_cmp shown.path path ≡ o → path_cmp (get_or rows k row).path path ≡ o
+compared : (path : List ℕ) (rows : List File) (k : ℕ) (shown row : File) (o : Ordering) → shown ≡ row → row ≡ get_or rows k row → path_cmp shown.path path ≡ o
+    → path_cmp (get_or rows k row).path path ≡ o
 compared path rows k shown row o same stood is = subst (λ (file : File). path_cmp file.path path ≡ o) (same ∙ stood) is
 
-pub up_to_row : (path : List ℕ) (rows : List File) (k : ℕ) (shown row : File) → k < length rows → IsRising rows → shown ≡ row → row ≡ get_or rows k row → path_cmp shown.path path ≡ Less → UpTo path rows (k + 1)
+pub up_to_row : (path : List ℕ) (rows : List File) (k : ℕ) (shown row : File) → k < length rows → IsRising rows → shown ≡ row → row ≡ get_or rows k row → path_cmp shown.path path ≡ Less
+    → UpTo path rows (k + 1)
 up_to_row path rows k shown row within rising same stood is =
     let next : suc k ≡ k + 1 = omega arith in
     subst (λ (n : ℕ). UpTo path rows n) next (up_to path rows k row within rising (record { is_less = compared path rows k shown row Less same stood is }))
 
-pub from_row : (path : List ℕ) (rows : List File) (k : ℕ) (shown row : File) → k < length rows → IsRising rows → shown ≡ row → row ≡ get_or rows k row → path_cmp shown.path path ≡ Greater → From path rows k
+pub from_row : (path : List ℕ) (rows : List File) (k : ℕ) (shown row : File) → k < length rows → IsRising rows → shown ≡ row → row ≡ get_or rows k row → path_cmp shown.path path ≡ Greater
+    → From path rows k
 from_row path rows k shown row within rising same stood is =
     from_on path rows k row within rising (below_from_greater path (get_or rows k row).path (compared path rows k shown row Greater same stood is))
 
-pub found_row : (path : List ℕ) (rows : List File) (k : ℕ) (shown row : File) → k < length rows → IsRising rows → shown ≡ row → row ≡ get_or rows k row → path_cmp shown.path path ≡ Equal → IsAt path rows k
+pub found_row : (path : List ℕ) (rows : List File) (k : ℕ) (shown row : File) → k < length rows → IsRising rows → shown ≡ row → row ≡ get_or rows k row → path_cmp shown.path path ≡ Equal
+    → IsAt path rows k
 found_row path rows k shown row within rising same stood is =
     found path rows k row within rising (sym (path_tied (get_or rows k row).path path (compared path rows k shown row Equal same stood is)))

@@ -21,7 +21,8 @@ and_decides x y p q =
 pub same_decides : {P Q : Type 0} (x : Bool) → Decides x P → (P → Q) → (Q → P) → Decides x Q
 same_decides x d to from = (λ h. to (d.0 h), λ h. d.1 (from h))
 
-pub option_decides : {X : Type 0} {E : X → X → Bool} → ((a b : X) → Decides (E a b) (a ≡ b)) → (a b : Option X) → Decides (option_eq E a b) (a ≡ b)
+pub option_decides : {X : Type 0} {E : X → X → Bool} → ((a b : X) → Decides (E a b) (a ≡ b)) → (a b : Option X)
+    → Decides (option_eq E a b) (a ≡ b)
 option_decides d None None = (λ h. refl, λ h. refl)
 option_decides d None (Some y) = (λ h. cc, λ h. cc)
 option_decides d (Some x) None = (λ h. cc, λ h. cc)
@@ -47,13 +48,19 @@ same_change p q m n path now = cc
 
 pub file_decides : (a b : File) → Decides (file_eq.ghosts.eq a b) (a ≡ b)
 file_decides a b =
-    same_decides _ (and_decides _ _ (bytes_decides a.path b.path) (and_decides _ _ (mode_decides a.entry.mode b.entry.mode) (bytes_decides a.entry.bytes b.entry.bytes)))
-    (λ h. same_row _ _ _ _ _ _ h.0 h.1.0 h.1.1) (λ h. (ap (λ (row : File). row.path) h, (ap (λ (row : File). row.entry.mode) h, ap (λ (row : File). row.entry.bytes) h)))
+    same_decides _ (and_decides _ _ (bytes_decides a.path b.path)
+    (and_decides _ _ (mode_decides a.entry.mode b.entry.mode) (bytes_decides a.entry.bytes b.entry.bytes)))
+    (λ h. same_row _ _ _ _ _ _ h.0 h.1.0 h.1.1)
+    (λ h. (
+      ap (λ (row : File). row.path) h,
+      (ap (λ (row : File). row.entry.mode) h, ap (λ (row : File). row.entry.bytes) h),
+    ))
 
 pub change_decides : (a b : Change) → Decides (change_eq.ghosts.eq a b) (a ≡ b)
 change_decides a b =
     same_decides _ (and_decides _ _ (bytes_decides a.path b.path) (option_decides bytes_decides a.now b.now))
-    (λ h. same_change _ _ _ _ h.0 h.1) (λ h. (ap (λ (change : Change). change.path) h, ap (λ (change : Change). change.now) h))
+    (λ h. same_change _ _ _ _ h.0 h.1) (λ h.
+    (ap (λ (change : Change). change.path) h, ap (λ (change : Change). change.now) h))
 
 pub per_from_decides : {X : Type 0} (E : X → X → Bool) → ((a b : X) → Decides (E a b) (a ≡ b)) → IsPartialEquivalence E
 per_from_decides E d = record {
@@ -65,5 +72,6 @@ pub equiv_from_decides : {X : Type 0} (E : X → X → Bool) → ((a b : X) → 
 equiv_from_decides E d = equiv (per_from_decides E d) (λ x. (d x x).1 refl)
 
 -- `==` of two lists holds exactly if they are the same, if that is so for their items
-pub lists_same : {X : Type 0} {E : X → X → Bool} → ((a b : X) → Decides (E a b) (a ≡ b)) → (xs ys : List X) (r : Bool) → r ≡ pointwise E xs ys → (IsTrue r → xs ≡ ys) × (xs ≡ ys → IsTrue r)
+pub lists_same : {X : Type 0} {E : X → X → Bool} → ((a b : X) → Decides (E a b) (a ≡ b)) → (xs ys : List X) (r : Bool)
+    → r ≡ pointwise E xs ys → (IsTrue r → xs ≡ ys) × (xs ≡ ys → IsTrue r)
 lists_same decides xs ys r e = subst (λ (b : Bool). Decides b (xs ≡ ys)) (sym e) (pointwise_decides decides xs ys)

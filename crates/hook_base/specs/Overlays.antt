@@ -90,7 +90,8 @@ pub record IsSplit (added rows : List File) (index before : ℕ) : Type 0 where
   pub counted : before ≤ index
   pub of_added : before ≤ length added
   pub of_rows : index ≤ before + length rows
-  pub added_first : (next : File) → index < before + length rows → UpTo (get_or rows (index - before) next).path added before
+  pub added_first : (next : File) → index < before + length rows
+      → UpTo (get_or rows (index - before) next).path added before
   pub rows_first : (next : File) → before < length added → UpTo (get_or added before next).path rows (index - before)
 
 -- the row made of a path and the file there

@@ -3,12 +3,12 @@ use Rattle.std.specs.Prelude.{ℕ}
 use Rattle.hook_base.specs.declared.path_fault.PathFault.{PathFault}
 use Rattle.hook_base.specs.declared.path_fault.PathFault.TheVariants.{Empty, Absolute, DotPart, EmptyPart, TooLong, ControlByte, UnderGit, OutOfMemory}
 
-abbrev pub number_of : PathFault → ℕ
-number_of Empty = 1
-number_of Absolute = 2
-number_of DotPart = 3
-number_of EmptyPart = 4
-number_of TooLong = 5
-number_of ControlByte = 6
-number_of UnderGit = 7
-number_of OutOfMemory = 8
+abbrev pub path_fault_number : PathFault → ℕ
+path_fault_number Empty = 1
+path_fault_number Absolute = 2
+path_fault_number DotPart = 3
+path_fault_number EmptyPart = 4
+path_fault_number TooLong = 5
+path_fault_number ControlByte = 6
+path_fault_number UnderGit = 7
+path_fault_number OutOfMemory = 8

@@ -2,8 +2,8 @@
 -- private functions alone: the search in a tree, and the edits of a store's files in `repo_store`.
 use Rattle.std.specs.Prelude.{◌≡◌, ℕ, zero, suc, List, [], ◌∷◌}
 use Rattle.hook_base.specs.declared.file.File.{File}
-use Rattle.hook_base.specs.declared.place.Place.{Place}
-use Rattle.hook_base.specs.declared.place.Place.TheVariants.{At, Before}
+use Rattle.hook_base.specs.declared.row_place.RowPlace.{RowPlace}
+use Rattle.hook_base.specs.declared.row_place.RowPlace.TheVariants.{At, Before}
 use Rattle.hook_base.specs.Rising.{IsBelow, IsBelowAll}
 use Rattle.hook_base.specs.Trees.{path_of}
 
@@ -19,6 +19,6 @@ IsGap path rows zero = IsBelowAll path_of path rows
 IsGap path [] (suc index) = ⊥
 IsGap path (row ∷ rows) (suc index) = IsBelow row.path path × IsGap path rows index
 
-abbrev pub IsPlace : List ℕ → List File → Place → Type 0
+abbrev pub IsPlace : List ℕ → List File → RowPlace → Type 0
 IsPlace path rows (At index) = IsAt path rows index
 IsPlace path rows (Before index) = IsGap path rows index

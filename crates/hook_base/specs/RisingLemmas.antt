@@ -53,12 +53,14 @@ path_cases p q =
     ] refl
 
 module _ {X : Type 0} (path_of : X → List ℕ) where
-  pub below_all_later : (p q : List ℕ) (items : List X) → IsBelow p q → IsBelowAll path_of q items → IsBelowAll path_of p items
+  pub below_all_later : (p q : List ℕ) (items : List X) → IsBelow p q → IsBelowAll path_of q items
+      → IsBelowAll path_of p items
   below_all_later p q [] below all = tt
   below_all_later p q (item ∷ items) below all =
       (IsBelow-trans p q (path_of item) below all.0, below_all_later p q items below all.1)
 
-  pub below_all_filter : (p : List ℕ) (keeps : X → Bool) (items : List X) → IsBelowAll path_of p items → IsBelowAll path_of p (filter keeps items)
+  pub below_all_filter : (p : List ℕ) (keeps : X → Bool) (items : List X) → IsBelowAll path_of p items
+      → IsBelowAll path_of p (filter keeps items)
   below_all_filter p keeps [] all = tt
   below_all_filter p keeps (item ∷ items) all =
       elim (keeps item) as (λ b. IsBelowAll path_of p (if b then item ∷ filter keeps items else filter keeps items)) [
@@ -67,7 +69,8 @@ module _ {X : Type 0} (path_of : X → List ℕ) where
       ]
 
   -- a filter keeps a rising list rising
-  pub IsRisingBy-filter : (keeps : X → Bool) (items : List X) → IsRisingBy path_of items → IsRisingBy path_of (filter keeps items)
+  pub IsRisingBy-filter : (keeps : X → Bool) (items : List X) → IsRisingBy path_of items
+      → IsRisingBy path_of (filter keeps items)
   IsRisingBy-filter keeps [] rising = tt
   IsRisingBy-filter keeps (item ∷ items) rising =
       elim (keeps item) as (λ b. IsRisingBy path_of (if b then item ∷ filter keeps items else filter keeps items)) [
@@ -77,17 +80,22 @@ module _ {X : Type 0} (path_of : X → List ℕ) where
 
   -- a list rises exactly if each item comes before the next
 
-  pub rising_next : (items : List X) (k : ℕ) (d e : X) → suc k < length items → IsRisingBy path_of items → IsBelow (path_of (get_or items k d)) (path_of (get_or items (suc k) e))
+  pub rising_next : (items : List X) (k : ℕ) (d e : X) → suc k < length items → IsRisingBy path_of items
+      → IsBelow (path_of (get_or items k d)) (path_of (get_or items (suc k) e))
   rising_next [] k d e within rising = absurd (omega arith)
   rising_next (item ∷ []) k d e within rising = absurd (omega arith)
   rising_next (item ∷ next ∷ items) zero d e within rising = rising.0.0
   rising_next (item ∷ next ∷ items) (suc k) d e within rising = rising_next (next ∷ items) k d e (omega arith) rising.1
 
-  pub rising_pair : (items : List X) (i j : ℕ) (d e : X) → suc i ≡ j → j < length items → IsRisingBy path_of items → IsBelow (path_of (get_or items i d)) (path_of (get_or items j e))
+  pub rising_pair : (items : List X) (i j : ℕ) (d e : X) → suc i ≡ j → j < length items → IsRisingBy path_of items
+      → IsBelow (path_of (get_or items i d)) (path_of (get_or items j e))
   rising_pair items i j d e next within rising =
-      subst (λ (n : ℕ). IsBelow (path_of (get_or items i d)) (path_of (get_or items n e))) next (rising_next items i d e (omega arith) rising)
+      subst (λ (n : ℕ). IsBelow (path_of (get_or items i d)) (path_of (get_or items n e))) next
+      (rising_next items i d e (omega arith) rising)
 
-  pub rising_from_next : (items : List X) → ((k : ℕ) (d : X) → suc k < length items → IsBelow (path_of (get_or items k d)) (path_of (get_or items (suc k) d))) → IsRisingBy path_of items
+  pub rising_from_next : (items : List X)
+      → ((k : ℕ) (d : X) → suc k < length items
+      → IsBelow (path_of (get_or items k d)) (path_of (get_or items (suc k) d))) → IsRisingBy path_of items
   rising_from_next [] next = tt
   rising_from_next (item ∷ []) next = (tt, tt)
   rising_from_next (item ∷ second ∷ items) next =

@@ -19,7 +19,14 @@ mode_decides Executable Executable = (λ h. refl, λ h. refl)
 pub same_file_decides : (a b : File) → Decides (is_same_file a b) (a ≡ b)
 same_file_decides a b =
     same_decides (is_same_file a b)
-    (and_decides (bytes_eq a.path b.path && is_same_mode a.entry.mode b.entry.mode) (bytes_eq a.entry.bytes b.entry.bytes) (and_decides (bytes_eq a.path b.path) (is_same_mode a.entry.mode b.entry.mode) (bytes_decides a.path b.path) (mode_decides a.entry.mode b.entry.mode))
+    (and_decides (bytes_eq a.path b.path && is_same_mode a.entry.mode b.entry.mode)
+    (bytes_eq a.entry.bytes b.entry.bytes)
+    (and_decides (bytes_eq a.path b.path) (is_same_mode a.entry.mode b.entry.mode) (bytes_decides a.path b.path)
+    (mode_decides a.entry.mode b.entry.mode))
     (bytes_decides a.entry.bytes b.entry.bytes))
     (λ h. same_row a.path b.path a.entry.mode b.entry.mode a.entry.bytes b.entry.bytes h.0.0 h.0.1 h.1)
-    (λ h. ((ap (λ (file : File). file.path) h, ap (λ (file : File). file.entry.mode) h), ap (λ (file : File). file.entry.bytes) h))
+    (λ h. (
+      (ap (λ (file : File). file.path) h, ap (λ (file : File). file.entry.mode) h),
+      ap
+          (λ (file : File). file.entry.bytes) h,
+    ))

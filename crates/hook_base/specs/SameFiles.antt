@@ -12,4 +12,5 @@ is_same_mode Executable Plain = false
 is_same_mode Executable Executable = true
 
 abbrev pub is_same_file : File → File → Bool
-is_same_file a b = bytes_eq a.path b.path && is_same_mode a.entry.mode b.entry.mode && bytes_eq a.entry.bytes b.entry.bytes
+is_same_file a b =
+    bytes_eq a.path b.path && is_same_mode a.entry.mode b.entry.mode && bytes_eq a.entry.bytes b.entry.bytes

@@ -7,5 +7,7 @@ use Rattle.hook_base.specs.contracts.file.Mode as mode
 
 abbrev pub file_code : Coded File
 file_code =
-    code_by (List ℕ × (Mode × List ℕ)) (coded× (coded_list coded_ℕ) (coded× mode.the_row.coded (coded_list coded_ℕ))) (λ f. (f.path, (f.entry.mode, f.entry.bytes))) (λ p. record { path = p.0; entry = record { mode = p.1.0; bytes = p.1.1 } })
+    code_by (List ℕ × (Mode × List ℕ)) (coded× (coded_list coded_ℕ) (coded× mode.the_row.coded (coded_list coded_ℕ)))
+    (λ f. (f.path, (f.entry.mode, f.entry.bytes)))
+    (λ p. record { path = p.0; entry = record { mode = p.1.0; bytes = p.1.1 } })
     (λ _. refl)

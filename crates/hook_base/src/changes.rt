@@ -5,7 +5,7 @@ ghost use Rattle.std.specs.Option.{option_copied};
 ghost use Rattle.hook_base.specs.Overlays.{UpTo};
 ghost use Rattle.hook_base.specs.Trees.{IsRisingChanges, change_to, changes_between, entry_of};
 
-use crate::place::{Place, place_from};
+use crate::row_place::{RowPlace, place_from};
 use crate::{Change, File, FileEntry, OutOfMemory, RepoPath, Tree};
 use std::alloc::{AllocError, Global};
 use std::cmp::Ordering;
@@ -154,11 +154,11 @@ fn reach<'a>(after: &'a Tree, passed: usize, path: &RepoPath) -> Reached<'a>
     ensures passed { UpTo path.now after.now result.index }
 {
     match place_from(after, passed, path) {
-        Place::At(index) => Reached {
+        RowPlace::At(index) => Reached {
             index,
             entry: Some(&after.entry(index).entry),
         },
-        Place::Before(index) => Reached { index, entry: None },
+        RowPlace::Before(index) => Reached { index, entry: None },
     }
 }
 

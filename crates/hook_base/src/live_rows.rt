@@ -33,7 +33,8 @@ impl Model for LiveRows {
 
     ghost view = { λ rows. live_rows rows.base rows.states.items };
 
-    ghost invariant = { λ rows. IsRising rows.base × AreStatesOf rows.base rows.states.items × (rows.live.items ≡ live_indices 0 rows.states.items) };
+    ghost invariant = { λ rows. IsRising rows.base × AreStatesOf rows.base rows.states.items
+        × (rows.live.items ≡ live_indices 0 rows.states.items) };
 }
 
 impl LiveRows {

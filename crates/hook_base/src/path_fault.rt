@@ -1,7 +1,7 @@
 //! The reasons why a text is refused as a path (docs/REFERENCE.md, "Paths").
 
 ghost use Rattle.std.specs.Prelude.{◌≡◌};
-ghost use Rattle.hook_base.specs.PathFaults.{number_of};
+ghost use Rattle.hook_base.specs.PathFaults.{path_fault_number};
 ghost use Rattle.hook_base.specs.declared.path_fault.PathFault.TheVariants.{OutOfMemory};
 
 use crate::MOST_PATH_BYTES;
@@ -42,7 +42,7 @@ pub enum PathFault {
 impl PathFault {
     /// The refusal's number, from 1 to 8.
     pub fn number(&self) -> u8
-        ensures { result ≡ number_of self.now }
+        ensures { result ≡ path_fault_number self.now }
     {
         match self {
             PathFault::Empty => 1,

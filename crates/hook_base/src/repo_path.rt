@@ -35,7 +35,8 @@ impl RepoPath {
     /// [`PathFault`]. A legal path is refused only if memory is: `OutOfMemory` never hides another fault.
     pub fn read(alloc: Global, text: &str) -> Result<RepoPath, PathFault>
         ensures taken { IfOk result (λ path. (path ≡ text.now) × (path_fault text.now ≡ None)) }
-        ensures refused { IfErr result (λ fault. ((fault ≡ PathFault.OutOfMemory) × (path_fault text.now ≡ None)) ⊎ (path_fault text.now ≡ Some fault)) }
+        ensures refused { IfErr result (λ fault. ((fault ≡ PathFault.OutOfMemory) × (path_fault text.now ≡ None))
+            ⊎ (path_fault text.now ≡ Some fault)) }
     {
         if let Some(fault) = fault_of(text) {
             return Err(fault);

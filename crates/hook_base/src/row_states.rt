@@ -5,7 +5,7 @@ ghost use Rattle.hook_base.specs.Places.{IsAt};
 ghost use Rattle.hook_base.specs.Trees.{IsRising, apply_change, apply_changes, rewrite_file};
 ghost use Rattle.hook_base.specs.Overlays.{AreStatesOf, all_kept, live_indices, live_rows, standing_at};
 
-use crate::place::{Place, place_near};
+use crate::row_place::{RowPlace, place_near};
 use crate::row_state::RowState;
 use crate::{Change, Content, File, FileEntry, OutOfMemory, RepoPath, SharedFile};
 
@@ -77,7 +77,8 @@ fn rewrite_state(
     requires rising { IsRising base.now }
     requires states { AreStatesOf base.now states.old.items }
     requires place { IsAt path base.now index }
-    ensures rewritten { OnOk result (live_rows base.now states.new.items ≡ rewrite_file path bytes (live_rows base.now states.old.items)) }
+    ensures rewritten { OnOk result (live_rows base.now states.new.items
+        ≡ rewrite_file path bytes (live_rows base.now states.old.items)) }
     ensures states { AreStatesOf base.now states.new.items }
 {
     if let RowState::Gone = states[index] {
@@ -103,13 +104,14 @@ fn apply_to_state(
 ) -> Result<usize, OutOfMemory>
     requires rising { IsRising base.now }
     requires states { AreStatesOf base.now states.old.items }
-    ensures applied { OnOk result (live_rows base.now states.new.items ≡ apply_change change (live_rows base.now states.old.items)) }
+    ensures applied { OnOk result (live_rows base.now states.new.items
+        ≡ apply_change change (live_rows base.now states.old.items)) }
     ensures states { AreStatesOf base.now states.new.items }
 {
     let Change { path, now } = change;
     let index = match place_near(base, near, &path) {
-        Place::At(index) => index,
-        Place::Before(index) => return Ok(index),
+        RowPlace::At(index) => index,
+        RowPlace::Before(index) => return Ok(index),
     };
     match now {
         Some(bytes) => {
@@ -132,7 +134,8 @@ pub(crate) fn apply_to_states(
 ) -> Result<(), OutOfMemory>
     requires rising { IsRising base.now }
     requires states { AreStatesOf base.now states.old.items }
-    ensures applied { OnOk result (live_rows base.now states.new.items ≡ apply_changes changes.items (live_rows base.now states.old.items)) }
+    ensures applied { OnOk result (live_rows base.now states.new.items
+        ≡ apply_changes changes.items (live_rows base.now states.old.items)) }
     ensures states { OnOk result (AreStatesOf base.now states.new.items) }
 {
     let mut near = 0;

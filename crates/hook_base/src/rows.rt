@@ -3,7 +3,7 @@
 ghost use Rattle.std.specs.Prelude.{◌≡◌, is_some, IfOk, OnOk, OnErr};
 ghost use Rattle.hook_base.specs.Trees.{IsRising, entry_of, put_row, remove_file};
 
-use crate::place::{Place, place_for, place_of};
+use crate::row_place::{RowPlace, place_for, place_of};
 use crate::{OutOfMemory, RepoPath, SharedFile};
 
 /// Replaces the row of the same path, or adds the row. A refusal leaves the rows as they were.
@@ -14,8 +14,8 @@ pub(crate) fn put_row(rows: &mut Vec<SharedFile>, row: SharedFile) -> Result<(),
     ensures rising { IsRising rows.new.items }
 {
     match place_for(rows.as_slice(), &row.as_file().path) {
-        Place::At(index) => rows[index] = row,
-        Place::Before(index) => rows.insert(index, row)?,
+        RowPlace::At(index) => rows[index] = row,
+        RowPlace::Before(index) => rows.insert(index, row)?,
     }
     Ok(())
 }
@@ -28,11 +28,11 @@ pub(crate) fn remove_row(rows: &mut Vec<SharedFile>, path: &RepoPath) -> bool
     ensures rising { IsRising rows.new.items }
 {
     match place_of(rows.as_slice(), path) {
-        Place::At(index) => {
+        RowPlace::At(index) => {
             rows.remove(index);
             true
         }
-        Place::Before(_) => false,
+        RowPlace::Before(_) => false,
     }
 }
 

@@ -7,7 +7,7 @@ ghost use Rattle.hook_base.specs.Trees.{IsRising, entry_of, put_file, put_found,
 
 use crate::live_rows::LiveRows;
 use crate::merged::merged_row;
-use crate::place::{Place, place_among, place_of};
+use crate::row_place::{RowPlace, place_among, place_of};
 use crate::rows::{copy_rows, put_row, remove_row};
 use crate::{Change, Changes, File, FileEntry, OutOfMemory, RepoPath, SharedFile};
 use std::alloc::{AllocError, Global};
@@ -85,12 +85,12 @@ impl Tree {
     fn find(&self, path: &RepoPath) -> Option<&SharedFile>
         ensures { option_copied result ≡ row_found path.now (entry_of path.now self.now) }
     {
-        if let Place::At(index) = place_of(self.added.as_slice(), path) {
+        if let RowPlace::At(index) = place_of(self.added.as_slice(), path) {
             return Some(&self.added[index]);
         }
         match place_among(&self.base, path) {
-            Place::At(index) => Some(self.base.row(index)),
-            Place::Before(_) => None,
+            RowPlace::At(index) => Some(self.base.row(index)),
+            RowPlace::Before(_) => None,
         }
     }
 
@@ -123,11 +123,11 @@ impl Tree {
         ensures rising { IsRising self.new }
     {
         match place_among(&self.base, &file.as_file().path) {
-            Place::At(index) => {
+            RowPlace::At(index) => {
                 self.base.replace(index, file);
                 Ok(())
             }
-            Place::Before(_) => put_row(&mut self.added, file),
+            RowPlace::Before(_) => put_row(&mut self.added, file),
         }
     }
 
@@ -154,11 +154,11 @@ impl Tree {
         ensures rising { IsRising self.new }
     {
         match place_among(&self.base, path) {
-            Place::At(index) => {
+            RowPlace::At(index) => {
                 self.base.remove(index);
                 true
             }
-            Place::Before(_) => remove_row(&mut self.added, path),
+            RowPlace::Before(_) => remove_row(&mut self.added, path),
         }
     }
 

@@ -22,7 +22,7 @@ use Rattle.hook_cli.specs.CommandOver.{IsAcceptOver, IsAnswer, IsLimitOver, IsLo
 use Rattle.hook_cli.specs.MemoryText.{remembered_text}
 use Rattle.repository_text.specs.FixesText.{accepted_text}
 use Rattle.text_output.specs.Outputs.{IsSilent, Output}
-use Rattle.hook_cli.specs.Printing.{IsSaid, IsTold, untaken_line}
+use Rattle.hook_cli.specs.Printing.{IsSaid, IsPrintedOnStandardError, untaken_line}
 use Rattle.hook_cli.specs.RefusalText.{refusal_text}
 use Rattle.text_output.specs.OutputLemmas.{keeps-itself}
 
@@ -33,7 +33,7 @@ pub looked-up : (kept : Kept) (look_up : LookUp) (out err : Output) (ending : Co
 looked-up kept look_up out err ending text answer said = inl (record { text = text; answer = answer; said = said })
 
 pub look-up-refused : (kept : Kept) (look_up : LookUp) (out err : Output) (ending : CommandEnding) (text : List ℕ) → IsRefusalText kept.repo look_up text
-    → IsTold ends.Refused err text ending → IsSilent out → IsLookUp kept look_up out err ending
+    → IsPrintedOnStandardError ends.Refused err text ending → IsSilent out → IsLookUp kept look_up out err ending
 look-up-refused kept look_up out err ending text refusal told silent = inr (record { text = text; refusal = refusal; told = told; silent = silent })
 
 pub none-mapped : {A B : Type 0} (f : A → B) (found : Option A) → None ≡ option_map f found → found ≡ None
@@ -64,7 +64,7 @@ pub accept-refused : {S : Type 0} (g : Ghosts S) (old new : Host S) (out err : O
     → Step old.store.kept.repo command.Accept (Refused refusal) [] new.store.kept.repo
     → IsAllOrNothing {A = ℕ} old.store.kept new.store.kept (Err refusal) (accepting old.store.kept)
     → IsOneCommand g old.store new.store command.Accept (Refused refusal)
-    → IsTold ends.Refused err (refusal_text refusal) ending → IsSilent out → IsAcceptOver g old new out err ending
+    → IsPrintedOnStandardError ends.Refused err (refusal_text refusal) ending → IsSilent out → IsAcceptOver g old new out err ending
 accept-refused g old new out err ending refusal step change one told silent = record {
   answer = Err refusal;
   step = step;
@@ -92,7 +92,7 @@ module _ {S : Type 0} (g : Ghosts S) (old new : Host S) (out err : Output) (endi
 
   pub limit-refused : (refusal : HostRefusal) → IsAllOrNothing {A = ℕ} old.store.kept new.store.kept (Err refusal) (limiting taken old.store.kept)
       → IsOneTransaction {A = ℕ} g old.store new.store (Err refusal) (limiting taken old.store.kept)
-      → IsLimitRefusal refusal → IsTold ends.Refused err (refusal_text refusal) ending → IsSilent out → IsLimitOver g old new limit out err ending
+      → IsLimitRefusal refusal → IsPrintedOnStandardError ends.Refused err (refusal_text refusal) ending → IsSilent out → IsLimitOver g old new limit out err ending
   limit-refused refusal change one why told silent =
       subst (λ (n : ℕ). IsLimitOver g old new n out err ending) is
       (record { answer = Err refusal; change = change; transaction = one; left = tt; refused = why; said = (silent, told) })

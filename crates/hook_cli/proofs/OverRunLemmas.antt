@@ -29,7 +29,7 @@ use Rattle.hook_cli.specs.declared.command_ending.CommandEnding.{CommandEnding}
 use Rattle.hook_cli.specs.declared.command_ending.CommandEnding.TheVariants as ends
 use Rattle.hook_cli.specs.CommandOver.{Counts, IsCommitOverHost, IsReplied, IsRunOverHost, moment_after, moment_before}
 use Rattle.text_output.specs.Outputs.{IsSilent, Output}
-use Rattle.hook_cli.specs.Printing.{IsSaid, IsTold, ending_of, untaken_line}
+use Rattle.hook_cli.specs.Printing.{IsSaid, IsPrintedOnStandardError, ending_of, untaken_line}
 use Rattle.hook_cli.specs.RefusalText.{refusal_text}
 use Rattle.hook_cli.specs.RunText.{run_text}
 
@@ -56,7 +56,7 @@ module _ {S : Type 0} (g : Ghosts S) (tells : List (List ℕ) → List File → 
       → IsStoppedStep tells (moment_before counts old) (moment_after counts new) old.store.kept.repo ask new.store.kept refusal
       → KeepsForRun old.store.kept new.store.kept (Err refusal)
       → IsPlayedSafely g tells (moment_before counts old) (moment_after counts new) old.store new.store (command.Run ask) (Refused refusal)
-      → IsTold ends.Refused err (refusal_text refusal) ending → IsSilent out
+      → IsPrintedOnStandardError ends.Refused err (refusal_text refusal) ending → IsSilent out
       → IsRunOverHost g tells counts old new ask out err ending
   run-refused refusal stopped change safe told silent = record {
     answer = Err refusal;
@@ -69,7 +69,7 @@ module _ {S : Type 0} (g : Ghosts S) (tells : List (List ℕ) → List File → 
 
 -- memory is refused before the host is asked
 pub run-unasked : {S : Type 0} (g : Ghosts S) (tells : List (List ℕ) → List File → Outcome → Type 0) (calls faults : ℕ) (host : Host S) (ask : HostAsk) (out err : Output) (ending : CommandEnding)
-    → IsTold ends.Refused err (refusal_text OutOfMemory) ending → IsSilent out
+    → IsPrintedOnStandardError ends.Refused err (refusal_text OutOfMemory) ending → IsSilent out
     → IsRunOverHost g tells (record { calls = calls; calls_after = calls; faults = faults; faults_after = faults }) host host ask out err ending
 run-unasked g tells calls faults host ask out err ending told silent =
     let at = moment calls faults (remembered_by host.store.kept) in
@@ -87,12 +87,14 @@ run-unasked g tells calls faults host ask out err ending told silent =
       step = tt;
       stopped = stopped;
       change = refl;
-      safe = halted_safely g tells at at host.store host.store refl refl ask OutOfMemory stopped (rests_itself g host.store) (left_same tells (remembered_by host.store.kept) (MayRemember g host.store));
+      safe =
+          halted_safely g tells at at host.store host.store refl refl ask OutOfMemory stopped (rests_itself g host.store) (left_same tells (remembered_by host.store.kept) (MayRemember g host.store));
       said = (silent, told);
     }
 
 -- a commit whose answer is printed: the bytes that the host got are the message
-pub commit-answered : {S : Type 0} (g : Ghosts S) (tells : List (List ℕ) → List File → Outcome → Type 0) (counts : Counts) (old new : Host S) (bytes message : List ℕ) (no_verify : Bool) (skip : List (List ℕ)) (out err : Output) (ending : CommandEnding)
+pub commit-answered : {S : Type 0} (g : Ghosts S) (tells : List (List ℕ) → List File → Outcome → Type 0) (counts : Counts) (old new : Host S) (bytes message : List ℕ) (no_verify : Bool)
+    (skip : List (List ℕ)) (out err : Output) (ending : CommandEnding)
     (answer : Result CommitEnding HostRefusal) → bytes ≡ message
     → IsCommitStep tells (moment_before counts old) (moment_after counts new) old.store.kept.repo bytes no_verify skip (reply_of reply_of_ending answer) new.store.kept
     → KeepsForCommit old.store.kept new.store.kept answer

@@ -27,7 +27,8 @@ none_isnt rest none is = cc
 never_wanting : (path : List ℕ) → path_fault path ≢ Some OutOfMemory
 unfolding path_fault
 never_wanting path =
-    other_than _ Empty _ (λ h. cc) (other_than _ TooLong _ (λ h. cc) (other_than _ ControlByte _ (λ h. cc) (other_than _ Absolute _ (λ h. cc) (other_than _ EmptyPart _ (λ h. cc) (other_than _ DotPart _ (λ h. cc) (other_than _ UnderGit None (λ h. cc) (none_isnt None refl)))))))
+    other_than _ Empty _ (λ h. cc) (other_than _ TooLong _ (λ h. cc) (other_than _ ControlByte _ (λ h. cc)
+    (other_than _ Absolute _ (λ h. cc) (other_than _ EmptyPart _ (λ h. cc) (other_than _ DotPart _ (λ h. cc) (other_than _ UnderGit None (λ h. cc) (none_isnt None refl)))))))
 
 -- the reading of a text was refused so
 abbrev pub IsReadFault : List ℕ → PathFault → Type 0

@@ -44,8 +44,8 @@ use Rattle.command_line.specs.declared.line.FileChoice.TheVariants.{Changed, All
 use Rattle.command_line.specs.declared.line.FileVersion.{FileVersion}
 use Rattle.command_line.specs.declared.line.FileVersion.TheVariants.{Staged, Fixed}
 use Rattle.command_line.specs.declared.line.FileVersion.TheVariants as versions
-use Rattle.command_line.specs.declared.line.Line.{Line}
-use Rattle.command_line.specs.declared.line.Line.TheVariants as line
+use Rattle.command_line.specs.declared.line.CommandLine.{CommandLine}
+use Rattle.command_line.specs.declared.line.CommandLine.TheVariants as line
 use Rattle.command_line.specs.declared.line.LookUp.{LookUp}
 use Rattle.command_line.specs.declared.line.LookUp.TheVariants.{Status, Fixes, Cat, Log, Show, Memory}
 use Rattle.command_line.specs.declared.line.PathSource.{PathSource}
@@ -59,7 +59,7 @@ use Rattle.hook_cli.specs.declared.command_ending.CommandEnding.{CommandEnding}
 use Rattle.hook_cli.specs.declared.command_ending.CommandEnding.TheVariants as ends
 use Rattle.text_output.specs.Outputs.{IsSilent, Output}
 use Rattle.hook_cli.specs.MemoryText.{forgotten_text, remembered_text}
-use Rattle.hook_cli.specs.Printing.{IsSaid, IsTold, ending_of, status_of, untaken_line}
+use Rattle.hook_cli.specs.Printing.{IsSaid, IsPrintedOnStandardError, ending_of, status_of, untaken_line}
 use Rattle.repository_text.specs.FixesText.{accepted_text, fixes_text}
 use Rattle.repository_text.specs.LogText.{log_text}
 use Rattle.hook_cli.specs.RefusalText.{no_commit_text, no_file_text, no_fixed_text, refusal_text}
@@ -90,7 +90,7 @@ IsOneCall Forget = Unit {0}
 IsOneCall (Limit limit) = Unit {0}
 
 -- the line is a command over a repository that needs one call of the host
-abbrev pub IsOverHost : Line → Type 0
+abbrev pub IsOverHost : CommandLine → Type 0
 IsOverHost (line.Standalone asked) = ⊥
 IsOverHost (line.LookUp asked) = Unit {0}
 IsOverHost (line.Update update) = IsOneCall update
@@ -107,14 +107,17 @@ IsReplied out err Removed ending = IsSilent out × IsSilent err × (ending ≡ e
 IsReplied out err (Accepted number) ending = IsSaid ends.Done out (accepted_text number) err untaken_line ending
 IsReplied out err (Ran passed report changes unsteady) ending = ⊥
 IsReplied out err (Committed number reports post) ending = IsCommitSaid number reports post out err ending
-IsReplied out err (HooksFailed stage reports) ending = IsSaid ends.Failed out (failure_text reports) err untaken_line ending
+IsReplied out err (HooksFailed stage reports) ending =
+    IsSaid ends.Failed out (failure_text reports) err untaken_line ending
 IsReplied out err (Forgot number) ending = IsSaid ends.Done out (forgotten_text number) err untaken_line ending
-IsReplied out err (Refused refusal) ending = IsSilent out × IsTold ends.Refused err (refusal_text refusal) ending
+IsReplied out err (Refused refusal) ending =
+    IsSilent out × IsPrintedOnStandardError ends.Refused err (refusal_text refusal) ending
 
 -- One call of the host that runs no hooks, and whose answer is printed. If it is done, its reply is `reply`,
 -- the host keeps `after`, and it may bring contents that collide. The repository takes a step of the host's
 -- machine, as a whole or not at all, even if a crash stops it. A writer's error undoes none of it.
-pub record IsChanged {S : Type 0} (g : Ghosts S) (old new : Host S) (command : Command) (reply : Reply) (after : Kept) (BringsCollision : Type 0) (out err : Output) (ending : CommandEnding) : Type 0 where
+pub record IsChanged {S : Type 0} (g : Ghosts S) (old new : Host S) (command : Command) (reply : Reply) (after : Kept)
+    (BringsCollision : Type 0) (out err : Output) (ending : CommandEnding) : Type 0 where
   pub answer : Result (Unit {0}) HostRefusal
   pub step : Step old.store.kept.repo command (reply_of (λ _. reply) answer) [] new.store.kept.repo
   pub change : IsAllOrNothing old.store.kept new.store.kept answer after
@@ -124,26 +127,31 @@ pub record IsChanged {S : Type 0} (g : Ghosts S) (old new : Host S) (command : C
   pub replied : IsReplied out err (reply_of (λ _. reply) answer) ending
 
 -- the bytes are staged at the path
-abbrev pub IsAddOver : {S : Type 0} → Ghosts S → Host S → Host S → List ℕ → List ℕ → Option Mode → Output → Output → CommandEnding → Type 0
+abbrev pub IsAddOver : {S : Type 0} → Ghosts S → Host S → Host S → List ℕ → List ℕ → Option Mode → Output → Output
+    → CommandEnding → Type 0
 IsAddOver g old new path bytes mode out err ending =
-    IsChanged g old new (command.Add path bytes mode) Added (staging path (entry_to_add old.store.kept.repo path bytes mode) old.store.kept)
+    IsChanged g old new (command.Add path bytes mode) Added
+    (staging path (entry_to_add old.store.kept.repo path bytes mode) old.store.kept)
     (Collides bytes old.store.kept.contents) out err ending
 
 -- the path is removed from the staged files
 abbrev pub IsRemoveOver : {S : Type 0} → Ghosts S → Host S → Host S → List ℕ → Output → Output → CommandEnding → Type 0
-IsRemoveOver g old new path out err ending = IsChanged g old new (command.Remove path) Removed (unstaging path old.store.kept) ⊥ out err ending
+IsRemoveOver g old new path out err ending =
+    IsChanged g old new (command.Remove path) Removed (unstaging path old.store.kept) ⊥ out err ending
 
 -- the fixes are accepted
 abbrev pub IsAcceptOver : {S : Type 0} → Ghosts S → Host S → Host S → Output → Output → CommandEnding → Type 0
 IsAcceptOver g old new out err ending =
-    IsChanged g old new command.Accept (Accepted (length old.store.kept.repo.fixes)) (accepting old.store.kept) ⊥ out err ending
+    IsChanged g old new command.Accept (Accepted (length old.store.kept.repo.fixes)) (accepting old.store.kept) ⊥ out
+    err ending
 
 -- ---- the cached results
 
 -- One call of the host removes all cached results, and prints how many there were. If it is refused, all of
 -- them stay. The repository and the contents that the host keeps don't change in either case. A writer's
 -- error undoes none of it.
-pub record IsForgetOver {S : Type 0} (g : Ghosts S) (old new : Host S) (out err : Output) (ending : CommandEnding) : Type 0 where
+pub record IsForgetOver {S : Type 0} (g : Ghosts S) (old new : Host S) (out err : Output)
+    (ending : CommandEnding) : Type 0 where
   pub answer : Result ℕ HostRefusal
   pub step : Step old.store.kept.repo command.Forget (reply_of Forgot answer) [] new.store.kept.repo
   pub change : IsAllOrNothing old.store.kept new.store.kept answer (forgetting old.store.kept)
@@ -154,12 +162,14 @@ pub record IsForgetOver {S : Type 0} (g : Ghosts S) (old new : Host S) (out err 
 -- prints how many cached results are left, or why the call is refused
 abbrev pub IsLeftSaid : Output → Output → Result ℕ HostRefusal → CommandEnding → Type 0
 IsLeftSaid out err (Ok number) ending = IsSaid ends.Done out (remembered_text number) err untaken_line ending
-IsLeftSaid out err (Err refusal) ending = IsSilent out × IsTold ends.Refused err (refusal_text refusal) ending
+IsLeftSaid out err (Err refusal) ending =
+    IsSilent out × IsPrintedOnStandardError ends.Refused err (refusal_text refusal) ending
 
 -- One call of the host sets how many results are cached at most, in one transaction, and prints how many are
 -- left: those that were used last. If it is refused, all results stay, and so does the limit. The repository
 -- and the contents that the host keeps don't change in either case. A writer's error undoes none of it.
-pub record IsLimitOver {S : Type 0} (g : Ghosts S) (old new : Host S) (limit : ℕ) (out err : Output) (ending : CommandEnding) : Type 0 where
+pub record IsLimitOver {S : Type 0} (g : Ghosts S) (old new : Host S) (limit : ℕ) (out err : Output)
+    (ending : CommandEnding) : Type 0 where
   pub answer : Result ℕ HostRefusal
   pub change : IsAllOrNothing old.store.kept new.store.kept answer (limiting limit old.store.kept)
   pub transaction : IsOneTransaction g old.store new.store answer (limiting limit old.store.kept)
@@ -191,9 +201,9 @@ which_of (Named paths) = which.Named paths
 -- the caller reads the names first, so this case is never used
 which_of (Listed from) = which.Named []
 
-abbrev pub stage_of : StageChoice → AskStage
-stage_of PreCommit = ask_stage.PreCommit
-stage_of Manual = ask_stage.Manual
+abbrev pub ask_stage_of_choice : StageChoice → AskStage
+ask_stage_of_choice PreCommit = ask_stage.PreCommit
+ask_stage_of_choice Manual = ask_stage.Manual
 
 abbrev pub options_of : RunChoice → RunOptions
 options_of choice = record { cautious = choice.cautious; verbose = choice.verbose }
@@ -203,7 +213,7 @@ abbrev pub ask_of : FileChoice → Option (List ℕ) → StageChoice → Bool �
 ask_of files only stage fresh choice skip = record {
   which = which_of files;
   only = only;
-  stage = stage_of stage;
+  stage = ask_stage_of_choice stage;
   skip = skip;
   fresh = fresh;
   options = options_of choice;
@@ -212,27 +222,37 @@ ask_of files only stage fresh choice skip = record {
 -- What a run prints: what is reported of its hooks, which of them are unsteady, and if it is verbose how many
 -- commands were answered from the cache. A refused run prints why.
 abbrev pub IsRunSaid : Output → Output → Bool → Result StagedRun HostRefusal → CommandEnding → Type 0
-IsRunSaid out err verbose (Ok ran) ending = IsSaid (ending_of ran.passed) out (run_text verbose ran) err untaken_line ending
-IsRunSaid out err verbose (Err refusal) ending = IsSilent out × IsTold ends.Refused err (refusal_text refusal) ending
+IsRunSaid out err verbose (Ok ran) ending =
+    IsSaid (ending_of ran.passed) out (run_text verbose ran) err untaken_line ending
+IsRunSaid out err verbose (Err refusal) ending =
+    IsSilent out × IsPrintedOnStandardError ends.Refused err (refusal_text refusal) ending
 
 -- One call of the host runs hooks on the staged files, and its answer is printed. The repository takes a step
 -- of the host's machine over the children, or stays as it was. A writer's error undoes none of it.
-pub record IsRunOverHost {S : Type 0} (g : Ghosts S) (tells : List (List ℕ) → List File → Outcome → Type 0) (counts : Counts) (old new : Host S) (ask : HostAsk) (out err : Output) (ending : CommandEnding) : Type 0 where
+pub record IsRunOverHost {S : Type 0} (g : Ghosts S) (tells : List (List ℕ) → List File → Outcome → Type 0)
+    (counts : Counts) (old new : Host S) (ask : HostAsk) (out err : Output) (ending : CommandEnding) : Type 0 where
   pub answer : Result StagedRun HostRefusal
-  pub step : IfOk answer (λ ran. IsRunStep tells (moment_before counts old) (moment_after counts new) old.store.kept.repo ask ran new.store.kept.repo)
-  pub stopped : IfErr answer (IsStoppedStep tells (moment_before counts old) (moment_after counts new) old.store.kept.repo ask new.store.kept)
+  pub step : IfOk answer (λ ran. IsRunStep tells (moment_before counts old) (moment_after counts new)
+      old.store.kept.repo ask ran new.store.kept.repo)
+  pub stopped : IfErr answer (IsStoppedStep tells (moment_before counts old) (moment_after counts new)
+      old.store.kept.repo ask new.store.kept)
   pub change : KeepsForRun old.store.kept new.store.kept answer
-  pub safe : IsPlayedSafely g tells (moment_before counts old) (moment_after counts new) old.store new.store (command.Run ask) (reply_of reply_of_run answer)
+  pub safe : IsPlayedSafely g tells (moment_before counts old) (moment_after counts new) old.store new.store
+      (command.Run ask) (reply_of reply_of_run answer)
   pub said : IsRunSaid out err ask.options.verbose answer ending
 
 -- One call of the host commits the staged files through their hooks, and its answer is printed. The
 -- repository takes a step of the host's machine over the children, or stays as it was. A writer's error
 -- undoes none of it.
-pub record IsCommitOverHost {S : Type 0} (g : Ghosts S) (tells : List (List ℕ) → List File → Outcome → Type 0) (counts : Counts) (old new : Host S) (message : List ℕ) (no_verify : Bool) (skip : List (List ℕ)) (out err : Output) (ending : CommandEnding) : Type 0 where
+pub record IsCommitOverHost {S : Type 0} (g : Ghosts S) (tells : List (List ℕ) → List File → Outcome → Type 0)
+    (counts : Counts) (old new : Host S) (message : List ℕ) (no_verify : Bool) (skip : List (List ℕ)) (out err : Output)
+    (ending : CommandEnding) : Type 0 where
   pub answer : Result CommitEnding HostRefusal
-  pub step : IsCommitStep tells (moment_before counts old) (moment_after counts new) old.store.kept.repo message no_verify skip (reply_of reply_of_ending answer) new.store.kept
+  pub step : IsCommitStep tells (moment_before counts old) (moment_after counts new) old.store.kept.repo message
+      no_verify skip (reply_of reply_of_ending answer) new.store.kept
   pub change : KeepsForCommit old.store.kept new.store.kept answer
-  pub safe : IsPlayedSafely g tells (moment_before counts old) (moment_after counts new) old.store new.store (command.Commit message no_verify skip) (reply_of reply_of_ending answer)
+  pub safe : IsPlayedSafely g tells (moment_before counts old) (moment_after counts new) old.store new.store
+      (command.Commit message no_verify skip) (reply_of reply_of_ending answer)
   pub replied : IsReplied out err (reply_of reply_of_ending answer) ending
 
 -- ---- the commands that look something up
@@ -241,7 +261,8 @@ pub record IsCommitOverHost {S : Type 0} (g : Ghosts S) (tells : List (List ℕ)
 abbrev pub bytes_in : Repository → FileVersion → List ℕ → Option (List ℕ)
 bytes_in repo Staged path = option_map (λ (entry : FileEntry). entry.bytes) (entry_of path repo.staged)
 bytes_in repo Fixed path = fixed_bytes path repo.fixes
-bytes_in repo (versions.Committed number) path = option_map (λ (entry : FileEntry). entry.bytes) (entry_of path (tree_at number repo.history))
+bytes_in repo (versions.Committed number) path =
+    option_map (λ (entry : FileEntry). entry.bytes) (entry_of path (tree_at number repo.history))
 
 -- the text that a look-up prints: for `memory` without a limit how many results are cached, for others
 -- something of the repository
@@ -295,7 +316,7 @@ pub record Answers (kept : Kept) (look_up : LookUp) (out err : Output) (ending :
 pub record Refuses (kept : Kept) (look_up : LookUp) (out err : Output) (ending : CommandEnding) : Type 0 where
   pub text : List ℕ
   pub refusal : IsRefusalText kept.repo look_up text
-  pub told : IsTold ends.Refused err text ending
+  pub told : IsPrintedOnStandardError ends.Refused err text ending
   pub silent : IsSilent out
 
 abbrev pub IsLookUp : Kept → LookUp → Output → Output → CommandEnding → Type 0
@@ -304,15 +325,18 @@ IsLookUp kept look_up out err ending = Answers kept look_up out err ending ⊎ R
 -- ---- all of them
 
 -- the word that is the path, if there is one
-abbrev pub word_of : PathSource → List ℕ
-word_of (Words (path ∷ [])) = path
-word_of paths = []
+abbrev pub path_word_of : PathSource → List ℕ
+path_word_of (Words (path ∷ [])) = path
+path_word_of paths = []
 
 -- the update is made in this way; `bytes` are those of the file to add, and `skip` has the names of the hooks
 -- to skip
-abbrev pub IsUpdated : {S : Type 0} → Ghosts S → (List (List ℕ) → List File → Outcome → Type 0) → Counts → Host S → Host S → Update → List ℕ → List (List ℕ) → Output → Output → CommandEnding → Type 0
-IsUpdated g tells counts old new (Add paths mode) bytes skip out err ending = IsAddOver g old new (word_of paths) bytes mode out err ending
-IsUpdated g tells counts old new (Remove paths) bytes skip out err ending = IsRemoveOver g old new (word_of paths) out err ending
+abbrev pub IsUpdated : {S : Type 0} → Ghosts S → (List (List ℕ) → List File → Outcome → Type 0) → Counts → Host S
+    → Host S → Update → List ℕ → List (List ℕ) → Output → Output → CommandEnding → Type 0
+IsUpdated g tells counts old new (Add paths mode) bytes skip out err ending =
+    IsAddOver g old new (path_word_of paths) bytes mode out err ending
+IsUpdated g tells counts old new (Remove paths) bytes skip out err ending =
+    IsRemoveOver g old new (path_word_of paths) out err ending
 IsUpdated g tells counts old new (Run files only stage fresh choice) bytes skip out err ending =
     IsRunOverHost g tells counts old new (ask_of files only stage fresh choice skip) out err ending
 IsUpdated g tells counts old new Accept bytes skip out err ending = IsAcceptOver g old new out err ending
@@ -322,10 +346,13 @@ IsUpdated g tells counts old new Forget bytes skip out err ending = IsForgetOver
 IsUpdated g tells counts old new (Limit limit) bytes skip out err ending = IsLimitOver g old new limit out err ending
 
 -- the line is done in this way; a look-up leaves the host as it was
-abbrev pub IsEnded : {S : Type 0} → Ghosts S → (List (List ℕ) → List File → Outcome → Type 0) → Counts → Host S → Host S → Line → List ℕ → List (List ℕ) → Output → Output → CommandEnding → Type 0
+abbrev pub IsEnded : {S : Type 0} → Ghosts S → (List (List ℕ) → List File → Outcome → Type 0) → Counts → Host S → Host S
+    → CommandLine → List ℕ → List (List ℕ) → Output → Output → CommandEnding → Type 0
 IsEnded g tells counts old new (line.Standalone asked) bytes skip out err ending = ⊥
-IsEnded g tells counts old new (line.LookUp asked) bytes skip out err ending = (new ≡ old) × IsLookUp old.store.kept asked out err ending
-IsEnded g tells counts old new (line.Update update) bytes skip out err ending = IsUpdated g tells counts old new update bytes skip out err ending
+IsEnded g tells counts old new (line.LookUp asked) bytes skip out err ending =
+    (new ≡ old) × IsLookUp old.store.kept asked out err ending
+IsEnded g tells counts old new (line.Update update) bytes skip out err ending =
+    IsUpdated g tells counts old new update bytes skip out err ending
 
 -- the update runs no hooks
 abbrev pub IsHookless : Update → Type 0
@@ -334,16 +361,19 @@ IsHookless (Commit message no_verify color) = ⊥
 IsHookless update = Unit {0}
 
 -- the line runs no hooks
-abbrev pub IsRunless : Line → Type 0
-IsRunless (line.Update update) = IsHookless update
-IsRunless line = Unit {0}
+abbrev pub IsHooklessLine : CommandLine → Type 0
+IsHooklessLine (line.Update update) = IsHookless update
+IsHooklessLine line = Unit {0}
 
 -- children are started only by a line that runs hooks
-abbrev pub IsCalledBy : Line → Counts → Type 0
-IsCalledBy line counts = IsRunless line → NoneCalled counts.calls counts.calls_after counts.faults counts.faults_after
+abbrev pub IsCalledBy : CommandLine → Counts → Type 0
+IsCalledBy line counts =
+    IsHooklessLine line → NoneCalled counts.calls counts.calls_after counts.faults counts.faults_after
 
 -- the line ends in one of these ways, and has the exit status of that ending
-pub record IsCommandOver {S : Type 0} (g : Ghosts S) (tells : List (List ℕ) → List File → Outcome → Type 0) (counts : Counts) (old new : Host S) (line : Line) (bytes : List ℕ) (skip : List (List ℕ)) (out err : Output) (status : ℕ) : Type 0 where
+pub record IsCommandOver {S : Type 0} (g : Ghosts S) (tells : List (List ℕ) → List File → Outcome → Type 0)
+    (counts : Counts) (old new : Host S) (line : CommandLine) (bytes : List ℕ) (skip : List (List ℕ)) (out err : Output)
+    (status : ℕ) : Type 0 where
   pub ending : CommandEnding
   pub ended : IsEnded g tells counts old new line bytes skip out err ending
   pub called : IsCalledBy line counts

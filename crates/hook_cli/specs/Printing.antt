@@ -11,19 +11,22 @@ untaken_line = line (codes "hookhost: standard output was not taken")
 
 -- The text is on standard error, and the command ends as wanted. If standard error gave an error, a beginning
 -- of it is there.
-abbrev pub IsTold : CommandEnding → Output → List ℕ → CommandEnding → Type 0
-IsTold wanted err text ending = (Has err text × (ending ≡ wanted)) ⊎ (HasBeginning err text × (ending ≡ Untold))
+abbrev pub IsPrintedOnStandardError : CommandEnding → Output → List ℕ → CommandEnding → Type 0
+IsPrintedOnStandardError wanted err text ending =
+    (Has err text × (ending ≡ wanted)) ⊎ (HasBeginning err text × (ending ≡ Untold))
 
 -- The text is on standard output and nothing on standard error, and the command ends as wanted. If standard
 -- output gave an error, a beginning of the text is there, and the other text is on standard error.
 abbrev pub IsSaid : CommandEnding → Output → List ℕ → Output → List ℕ → CommandEnding → Type 0
 IsSaid wanted out text err otherwise ending =
-    (Has out text × IsSilent err × (ending ≡ wanted)) ⊎ (HasBeginning out text × IsTold CutOff err otherwise ending)
+    (Has out text × IsSilent err × (ending ≡ wanted))
+    ⊎ (HasBeginning out text × IsPrintedOnStandardError CutOff err otherwise ending)
 
 -- The same for a command that is done and also has a text for standard error.
 abbrev pub AreSaid : Output → List ℕ → Output → List ℕ → List ℕ → CommandEnding → Type 0
 AreSaid out text err beside otherwise ending =
-    (Has out text × IsTold Done err beside ending) ⊎ (HasBeginning out text × IsTold CutOff err otherwise ending)
+    (Has out text × IsPrintedOnStandardError Done err beside ending)
+    ⊎ (HasBeginning out text × IsPrintedOnStandardError CutOff err otherwise ending)
 
 -- a run of hooks is done if they passed
 abbrev pub ending_of : Bool → CommandEnding

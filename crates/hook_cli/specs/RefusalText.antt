@@ -3,7 +3,7 @@ use Rattle.std.specs.Prelude.{ℕ, List, [], ◌++◌, codes, Option, None, Some
 use Rattle.std.specs.Fmt.{decimal}
 use Rattle.report_text.specs.Report.{line}
 use Rattle.commit_flow.specs.declared.host_refusal.HostRefusal.{HostRefusal}
-use Rattle.commit_flow.specs.Refusals.{inner_number_of, name_of, number_of}
+use Rattle.commit_flow.specs.Refusals.{inner_number_of, host_refusal_name, host_refusal_number}
 
 -- a blank and the number of the inner fault, if the refusal has one
 abbrev pub inner_text : Option ℕ → List ℕ
@@ -12,7 +12,8 @@ inner_text (Some number) = codes " " ++ decimal number
 
 abbrev pub refusal_text : HostRefusal → List ℕ
 refusal_text refusal =
-    line (codes "hookhost: refused: " ++ decimal (number_of refusal) ++ codes " " ++ name_of refusal ++ inner_text (inner_number_of refusal))
+    line (codes "hookhost: refused: " ++ decimal (host_refusal_number refusal) ++ codes " " ++ host_refusal_name
+    refusal ++ inner_text (inner_number_of refusal))
 
 -- no commit has the number
 abbrev pub no_commit_text : ℕ → List ℕ

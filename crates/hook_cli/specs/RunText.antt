@@ -4,7 +4,7 @@ use Rattle.std.specs.List.{concat, flat_map}
 use Rattle.std.specs.Fmt.{decimal}
 use Rattle.report_text.specs.Report.{line}
 use Rattle.hook_run.specs.declared.run_refusal.RunRefusal.{RunRefusal}
-use Rattle.hook_run.specs.Refusals.{name_of, number_of}
+use Rattle.hook_run.specs.Refusals.{run_refusal_name, run_refusal_number}
 use Rattle.commit_flow.specs.declared.reply.PostCommit.{PostCommit}
 use Rattle.commit_flow.specs.declared.reply.PostCommit.TheVariants.{Told, Stopped}
 use Rattle.commit_flow.specs.declared.staged_run.StagedRun.{StagedRun}
@@ -48,7 +48,8 @@ made_line number = line (codes "hookhost: commit " ++ decimal number ++ codes " 
 
 -- why the post-commit hooks were stopped
 abbrev pub stopped_text : RunRefusal → List ℕ
-stopped_text refusal = line (codes "hookhost: refused: " ++ decimal (number_of refusal) ++ codes " " ++ name_of refusal)
+stopped_text refusal =
+    line (codes "hookhost: refused: " ++ decimal (run_refusal_number refusal) ++ codes " " ++ run_refusal_name refusal)
 
 -- ---- how it is printed
 

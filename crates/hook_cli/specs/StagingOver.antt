@@ -15,7 +15,7 @@ use Rattle.text_output.specs.Outputs.{IsSilent, Output}
 use Rattle.text_output.specs.QuotedPaths.{told_path}
 use Rattle.hook_cli.specs.declared.command_ending.CommandEnding.{CommandEnding}
 use Rattle.hook_cli.specs.declared.command_ending.CommandEnding.TheVariants.{Done, Refused}
-use Rattle.hook_cli.specs.Printing.{IsTold, status_of}
+use Rattle.hook_cli.specs.Printing.{IsPrintedOnStandardError, status_of}
 use Rattle.hook_cli.specs.RefusalText.{refusal_text}
 
 -- the path of a change
@@ -42,23 +42,27 @@ stop_text edits stop = refusal_text stop.refusal ++ at_text (path_at edits stop.
 -- changes that are made print nothing
 abbrev pub IsStagingTold : List StagingEdit → Result (Unit {0}) StagingStop → Output → CommandEnding → Type 0
 IsStagingTold edits result err ending =
-    MatchResult result (λ _. IsSilent err × (ending ≡ Done)) (λ stop. IsTold Refused err (stop_text edits stop) ending)
+    MatchResult result (λ _. IsSilent err × (ending ≡ Done))
+    (λ stop. IsPrintedOnStandardError Refused err (stop_text edits stop) ending)
 
 -- One call of the host makes the changes, all or none, and its answer is printed. If they are made, each is a
 -- step of the host's machine from where the one before it led. If not, the first refused one is reported. A
 -- crash leaves none of them, or all.
-pub record AreStaged {S : Type 0} (g : Ghosts S) (old new : Host S) (edits : List StagingEdit) (err : Output) (ending : CommandEnding) : Type 0 where
+pub record AreStaged {S : Type 0} (g : Ghosts S) (old new : Host S) (edits : List StagingEdit) (err : Output)
+    (ending : CommandEnding) : Type 0 where
   pub answer : Result (Unit {0}) StagingStop
   pub change : IsAllOrNothing old.store.kept new.store.kept answer (all_edited edits old.store.kept)
   pub steps : OnOk answer (AreSteps edits old.store.kept.repo new.store.kept.repo)
   pub refused : IfErr answer (IsStagingStop edits old.store.kept.repo)
   pub one : AreOneCommand g old.store new.store edits answer
   pub apart : OnOk answer (NoEditCollides edits old.store.kept)
-  pub collides : IfErr answer (λ stop. stop.refusal ≡ Collision → MatchOption stop.at ⊥ (CollidesAt edits old.store.kept))
+  pub collides : IfErr answer (λ stop. stop.refusal ≡ Collision
+      → MatchOption stop.at ⊥ (CollidesAt edits old.store.kept))
   pub told : IsStagingTold edits answer err ending
 
 -- the exit status is that of the ending
-pub record IsStagingOver {S : Type 0} (g : Ghosts S) (old new : Host S) (edits : List StagingEdit) (err : Output) (status : ℕ) : Type 0 where
+pub record IsStagingOver {S : Type 0} (g : Ghosts S) (old new : Host S) (edits : List StagingEdit) (err : Output)
+    (status : ℕ) : Type 0 where
   pub ending : CommandEnding
   pub staged : AreStaged g old new edits err ending
   pub exits : status ≡ status_of ending

@@ -22,7 +22,7 @@ mod run_printing;
 
 pub use command_ending::CommandEnding;
 pub use command_line::{
-    AnswerLimit, ColorChoice, FileChoice, FileVersion, Line, LookUp, PathSource, RunChoice,
+    AnswerLimit, ColorChoice, CommandLine, FileChoice, FileVersion, LookUp, PathSource, RunChoice,
     StageChoice, Standalone, Update, line_of,
 };
 pub use configuration_run::{

@@ -8,7 +8,8 @@ ghost use Rattle.commit_flow.specs.StagedPaths.{IsLegal};
 ghost use Rattle.command_line.specs.declared.line.LookUp.TheVariants.{Status, Fixes, Cat, Log, Show, Memory};
 ghost use Rattle.hook_cli.specs.declared.command_ending.CommandEnding.TheVariants as ends;
 ghost use Rattle.hook_cli.specs.CommandOver.{IsLookUp, IsMissingText, IsPathRefusal, bytes_in};
-ghost use Rattle.hook_cli.specs.Printing.{IsTold};
+ghost use Rattle.hook_cli.specs.Printing.{IsPrintedOnStandardError};
+ghost use Rattle.text_output.specs.Outputs.{output_of};
 
 use crate::CommandEnding;
 use crate::printing::{say, say_remembered, tell, tell_no_commit, tell_no_file, tell_no_fixed};
@@ -29,7 +30,8 @@ pub(crate) fn looked_up<S: Alter, O: Write, E: Write>(
     out: &mut O,
     err: &mut E,
 ) -> CommandEnding
-    ensures { IsLookUp host.now.store.kept look_up.now (record { held = O.contents out.old; holds = O.contents out.new }) (record { held = E.contents err.old; holds = E.contents err.new }) result }
+    ensures { IsLookUp host.now.store.kept look_up.now (output_of (O.contents out.old) (O.contents out.new))
+        (output_of (E.contents err.old) (E.contents err.new)) result }
 {
     match look_up {
         LookUp::Status => status(alloc, host.store(), out, err),
@@ -50,7 +52,8 @@ fn status<S: Alter, O: Write, E: Write>(
     out: &mut O,
     err: &mut E,
 ) -> CommandEnding
-    ensures { IsLookUp store.now.kept Status (record { held = O.contents out.old; holds = O.contents out.new }) (record { held = E.contents err.old; holds = E.contents err.new }) result }
+    ensures { IsLookUp store.now.kept Status (output_of (O.contents out.old) (O.contents out.new))
+        (output_of (E.contents err.old) (E.contents err.new)) result }
 {
     match status_text(alloc, store) {
         Ok(text) => say(out, err, text.as_slice()),
@@ -65,7 +68,8 @@ fn fixes<S: Alter, O: Write, E: Write>(
     out: &mut O,
     err: &mut E,
 ) -> CommandEnding
-    ensures { IsLookUp store.now.kept Fixes (record { held = O.contents out.old; holds = O.contents out.new }) (record { held = E.contents err.old; holds = E.contents err.new }) result }
+    ensures { IsLookUp store.now.kept Fixes (output_of (O.contents out.old) (O.contents out.new))
+        (output_of (E.contents err.old) (E.contents err.new)) result }
 {
     match fixes_text(alloc, store) {
         Ok(text) => say(out, err, text.as_slice()),
@@ -82,7 +86,8 @@ fn cat<S: Alter, O: Write, E: Write>(
     out: &mut O,
     err: &mut E,
 ) -> CommandEnding
-    ensures { IsLookUp store.now.kept (Cat path.now version) (record { held = O.contents out.old; holds = O.contents out.new }) (record { held = E.contents err.old; holds = E.contents err.new }) result }
+    ensures { IsLookUp store.now.kept (Cat path.now version) (output_of (O.contents out.old) (O.contents out.new))
+        (output_of (E.contents err.old) (E.contents err.new)) result }
 {
     match legal_path(alloc, path) {
         Ok(path) => cat_at(&path, version, store, out, err),
@@ -97,7 +102,8 @@ fn log<S: Alter, O: Write, E: Write>(
     out: &mut O,
     err: &mut E,
 ) -> CommandEnding
-    ensures { IsLookUp store.now.kept Log (record { held = O.contents out.old; holds = O.contents out.new }) (record { held = E.contents err.old; holds = E.contents err.new }) result }
+    ensures { IsLookUp store.now.kept Log (output_of (O.contents out.old) (O.contents out.new))
+        (output_of (E.contents err.old) (E.contents err.new)) result }
 {
     match log_text(alloc, store) {
         Ok(text) => say(out, err, text.as_slice()),
@@ -113,7 +119,8 @@ fn show<S: Alter, O: Write, E: Write>(
     out: &mut O,
     err: &mut E,
 ) -> CommandEnding
-    ensures { IsLookUp store.now.kept (Show number) (record { held = O.contents out.old; holds = O.contents out.new }) (record { held = E.contents err.old; holds = E.contents err.new }) result }
+    ensures { IsLookUp store.now.kept (Show number) (output_of (O.contents out.old) (O.contents out.new))
+        (output_of (E.contents err.old) (E.contents err.new)) result }
 {
     match show_text(alloc, store, number) {
         Ok(Some(text)) => say(out, err, text.as_slice()),
@@ -124,7 +131,8 @@ fn show<S: Alter, O: Write, E: Write>(
 
 // `memory`: how many results are cached.
 fn memory<S: Alter, O: Write, E: Write>(host: &Host<S>, out: &mut O, err: &mut E) -> CommandEnding
-    ensures { IsLookUp host.now.store.kept Memory (record { held = O.contents out.old; holds = O.contents out.new }) (record { held = E.contents err.old; holds = E.contents err.new }) result }
+    ensures { IsLookUp host.now.store.kept Memory (output_of (O.contents out.old) (O.contents out.new))
+        (output_of (E.contents err.old) (E.contents err.new)) result }
 {
     say_remembered(out, err, host.remembered())
 }
@@ -148,7 +156,8 @@ fn cat_at<S: Alter, O: Write, E: Write>(
     err: &mut E,
 ) -> CommandEnding
     requires { IsLegal path.now }
-    ensures { IsLookUp store.now.kept (Cat path.now version) (record { held = O.contents out.old; holds = O.contents out.new }) (record { held = E.contents err.old; holds = E.contents err.new }) result }
+    ensures { IsLookUp store.now.kept (Cat path.now version) (output_of (O.contents out.old) (O.contents out.new))
+        (output_of (E.contents err.old) (E.contents err.new)) result }
 {
     match bytes_of(path, version, store) {
         Some(bytes) => say(out, err, bytes),
@@ -177,7 +186,8 @@ fn tell_missing<S: Alter, E: Write>(
     store: &Store<S>,
     err: &mut E,
 ) -> CommandEnding
-    ensures { (text : List ℕ) × IsMissingText store.now.kept.repo version path.now text × IsTold ends.Refused (record { held = E.contents err.old; holds = E.contents err.new }) text result }
+    ensures { (text : List ℕ) × IsMissingText store.now.kept.repo version path.now text
+        × IsPrintedOnStandardError ends.Refused (output_of (E.contents err.old) (E.contents err.new)) text result }
 {
     match version {
         FileVersion::Staged => tell(err, &HostRefusal::NotStaged),

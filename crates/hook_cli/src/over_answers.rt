@@ -3,6 +3,7 @@
 //! The contracts cite `specs/CommandOver.antt`.
 
 ghost use Rattle.hook_cli.specs.CommandOver.{IsForgetOver, IsLimitOver};
+ghost use Rattle.text_output.specs.Outputs.{output_of};
 
 use crate::CommandEnding;
 use crate::printing::{say_forgotten, say_remembered, tell};
@@ -17,7 +18,8 @@ pub(crate) fn forget<S: Alter, O: Write, E: Write>(
     out: &mut O,
     err: &mut E,
 ) -> CommandEnding
-    ensures { IsForgetOver S.Store host.old host.new (record { held = O.contents out.old; holds = O.contents out.new }) (record { held = E.contents err.old; holds = E.contents err.new }) result }
+    ensures { IsForgetOver S.Store host.old host.new (output_of (O.contents out.old) (O.contents out.new))
+        (output_of (E.contents err.old) (E.contents err.new)) result }
 {
     match host.forget() {
         Ok(number) => say_forgotten(out, err, number),
@@ -32,7 +34,8 @@ pub(crate) fn set_limit<S: Alter, O: Write, E: Write>(
     out: &mut O,
     err: &mut E,
 ) -> CommandEnding
-    ensures { IsLimitOver S.Store host.old host.new limit.now (record { held = O.contents out.old; holds = O.contents out.new }) (record { held = E.contents err.old; holds = E.contents err.new }) result }
+    ensures { IsLimitOver S.Store host.old host.new limit.now (output_of (O.contents out.old) (O.contents out.new))
+        (output_of (E.contents err.old) (E.contents err.new)) result }
 {
     match host.set_limit(limit.number()) {
         Ok(number) => say_remembered(out, err, number),

@@ -4,16 +4,16 @@
 
 ghost use Rattle.std.specs.Prelude.{◌≡◌, ◌⊎◌};
 ghost use Rattle.child_port.specs.Telling.{SameTells};
-ghost use Rattle.command_line.specs.declared.line.Line.TheVariants as line;
-ghost use Rattle.hook_cli.specs.CommandOver.{IsAcceptOver, IsAddOver, IsCalledBy, IsCommandOver, IsEnded, IsOneCall, IsOneWord, IsOverHost, IsRemoveOver, IsUpdated, word_of};
-ghost use Rattle.text_output.specs.Outputs.{IsSilent, Output};
+ghost use Rattle.command_line.specs.declared.line.CommandLine.TheVariants as line;
+ghost use Rattle.hook_cli.specs.CommandOver.{IsAcceptOver, IsAddOver, IsCalledBy, IsCommandOver, IsEnded, IsOneCall, IsOneWord, IsOverHost, IsRemoveOver, IsUpdated, path_word_of};
+ghost use Rattle.text_output.specs.Outputs.{IsSilent, Output, output_of};
 
 use crate::command_ending::status_of;
 use crate::look_up::looked_up;
 use crate::over_answers::{forget, set_limit};
 use crate::over_runs::{ask_of, commit, run};
 use crate::printing::{say_accepted, tell};
-use crate::{CommandEnding, Line, PathSource, Update};
+use crate::{CommandEnding, CommandLine, PathSource, Update};
 use child_port::Children;
 use commit_flow::Host;
 use hook_base::{Mode, Text};
@@ -52,7 +52,7 @@ use std::io::Write;
 /// answered.
 pub fn command_over<S: Alter, C: Children, O: Write, E: Write>(
     alloc: Global,
-    line: &Line,
+    line: &CommandLine,
     bytes: &[u8],
     skip: &[Text],
     host: &mut Host<S>,
@@ -61,7 +61,16 @@ pub fn command_over<S: Alter, C: Children, O: Write, E: Write>(
     err: &mut E,
 ) -> u8
     requires { IsOverHost line.now }
-    ensures done { IsCommandOver S.Store (C.tells children.old) (record { calls = C.call_count children.old; calls_after = C.call_count children.new; faults = C.fault_count children.old; faults_after = C.fault_count children.new }) host.old host.new line.now bytes.now skip.now (record { held = O.contents out.old; holds = O.contents out.new }) (record { held = E.contents err.old; holds = E.contents err.new }) result }
+    ensures done { IsCommandOver S.Store (C.tells children.old)
+        (record {
+          calls = C.call_count children.old;
+          calls_after = C.call_count children.new;
+          faults = C.fault_count
+              children.old;
+          faults_after = C.fault_count children.new;
+        }) host.old host.new line.now bytes.now skip.now
+        (output_of (O.contents out.old) (O.contents out.new)) (output_of (E.contents err.old) (E.contents err.new))
+        result }
     ensures same { SameTells (C.tells children.old) (C.tells children.new) }
     ensures one_of { (result ≡ 0) ⊎ (result ≡ 1) ⊎ (result ≡ 3) }
 {
@@ -70,7 +79,7 @@ pub fn command_over<S: Alter, C: Children, O: Write, E: Write>(
 
 fn end_of<S: Alter, C: Children, O: Write, E: Write>(
     alloc: Global,
-    line: &Line,
+    line: &CommandLine,
     bytes: &[u8],
     skip: &[Text],
     host: &mut Host<S>,
@@ -79,15 +88,32 @@ fn end_of<S: Alter, C: Children, O: Write, E: Write>(
     err: &mut E,
 ) -> CommandEnding
     requires { IsOverHost line.now }
-    ensures ended { IsEnded S.Store (C.tells children.old) (record { calls = C.call_count children.old; calls_after = C.call_count children.new; faults = C.fault_count children.old; faults_after = C.fault_count children.new }) host.old host.new line.now bytes.now skip.now (record { held = O.contents out.old; holds = O.contents out.new }) (record { held = E.contents err.old; holds = E.contents err.new }) result }
-    ensures called { IsCalledBy line.now (record { calls = C.call_count children.old; calls_after = C.call_count children.new; faults = C.fault_count children.old; faults_after = C.fault_count children.new }) }
+    ensures ended { IsEnded S.Store (C.tells children.old)
+        (record {
+          calls = C.call_count children.old;
+          calls_after = C.call_count children.new;
+          faults = C.fault_count
+              children.old;
+          faults_after = C.fault_count children.new;
+        }) host.old host.new line.now bytes.now skip.now
+        (output_of (O.contents out.old) (O.contents out.new)) (output_of (E.contents err.old) (E.contents err.new))
+        result }
+    ensures called { IsCalledBy line.now (record {
+      calls = C.call_count children.old;
+      calls_after = C.call_count children.new;
+      faults = C.fault_count
+          children.old;
+      faults_after = C.fault_count children.new;
+    }) }
     ensures same { SameTells (C.tells children.old) (C.tells children.new) }
 {
     match line {
-        Line::LookUp(asked) => looked_up(alloc, asked, host, out, err),
-        Line::Update(update) => updated(alloc, update, bytes, skip, host, children, out, err),
+        CommandLine::LookUp(asked) => looked_up(alloc, asked, host, out, err),
+        CommandLine::Update(update) => updated(
+            alloc, update, bytes, skip, host, children, out, err,
+        ),
         // The caller does these commands elsewhere.
-        Line::Standalone(_) => unreachable!(),
+        CommandLine::Standalone(_) => unreachable!(),
     }
 }
 
@@ -102,8 +128,24 @@ fn updated<S: Alter, C: Children, O: Write, E: Write>(
     err: &mut E,
 ) -> CommandEnding
     requires { IsOneCall update.now }
-    ensures ended { IsUpdated S.Store (C.tells children.old) (record { calls = C.call_count children.old; calls_after = C.call_count children.new; faults = C.fault_count children.old; faults_after = C.fault_count children.new }) host.old host.new update.now bytes.now skip.now (record { held = O.contents out.old; holds = O.contents out.new }) (record { held = E.contents err.old; holds = E.contents err.new }) result }
-    ensures called { IsCalledBy (line.Update update.now) (record { calls = C.call_count children.old; calls_after = C.call_count children.new; faults = C.fault_count children.old; faults_after = C.fault_count children.new }) }
+    ensures ended { IsUpdated S.Store (C.tells children.old)
+        (record {
+          calls = C.call_count children.old;
+          calls_after = C.call_count children.new;
+          faults = C.fault_count
+              children.old;
+          faults_after = C.fault_count children.new;
+        }) host.old host.new update.now bytes.now skip.now
+        (output_of (O.contents out.old) (O.contents out.new)) (output_of (E.contents err.old) (E.contents err.new))
+        result }
+    ensures called { IsCalledBy (line.Update update.now)
+        (record {
+          calls = C.call_count children.old;
+          calls_after = C.call_count children.new;
+          faults = C.fault_count
+              children.old;
+          faults_after = C.fault_count children.new;
+        }) }
     ensures same { SameTells (C.tells children.old) (C.tells children.new) }
 {
     match update {
@@ -142,7 +184,7 @@ fn updated<S: Alter, C: Children, O: Write, E: Write>(
 // The word that is the path.
 fn word_of(paths: &PathSource) -> &str
     requires { IsOneWord paths.now }
-    ensures { result.now ≡ word_of paths.now }
+    ensures { result.now ≡ path_word_of paths.now }
 {
     match paths {
         PathSource::Words(words) => match words.as_slice() {
@@ -162,7 +204,9 @@ fn add<S: Alter, E: Write>(
     host: &mut Host<S>,
     err: &mut E,
 ) -> CommandEnding
-    ensures { (out : Output) → IsSilent out → IsAddOver S.Store host.old host.new path.now bytes.now mode out (record { held = E.contents err.old; holds = E.contents err.new }) result }
+    ensures { (out : Output) → IsSilent out
+        → IsAddOver S.Store host.old host.new path.now bytes.now mode out
+        (output_of (E.contents err.old) (E.contents err.new)) result }
 {
     match host.add(alloc, path, bytes, mode) {
         Ok(()) => CommandEnding::Done,
@@ -177,7 +221,9 @@ fn remove<S: Alter, E: Write>(
     host: &mut Host<S>,
     err: &mut E,
 ) -> CommandEnding
-    ensures { (out : Output) → IsSilent out → IsRemoveOver S.Store host.old host.new path.now out (record { held = E.contents err.old; holds = E.contents err.new }) result }
+    ensures { (out : Output) → IsSilent out
+        → IsRemoveOver S.Store host.old host.new path.now out (output_of (E.contents err.old) (E.contents err.new))
+        result }
 {
     match host.remove(alloc, path) {
         Ok(()) => CommandEnding::Done,
@@ -191,7 +237,8 @@ fn accept<S: Alter, O: Write, E: Write>(
     out: &mut O,
     err: &mut E,
 ) -> CommandEnding
-    ensures { IsAcceptOver S.Store host.old host.new (record { held = O.contents out.old; holds = O.contents out.new }) (record { held = E.contents err.old; holds = E.contents err.new }) result }
+    ensures { IsAcceptOver S.Store host.old host.new (output_of (O.contents out.old) (O.contents out.new))
+        (output_of (E.contents err.old) (E.contents err.new)) result }
 {
     match host.accept() {
         Ok(number) => say_accepted(out, err, number),

@@ -5,7 +5,8 @@
 ghost use Rattle.std.specs.Prelude.{◌≡◌, IfOk};
 ghost use Rattle.child_port.specs.Telling.{SameTells};
 ghost use Rattle.commit_flow.specs.Commands.{reply_of_ending};
-ghost use Rattle.hook_cli.specs.CommandOver.{IsCommitOverHost, IsNamed, IsReplied, IsRunOverHost, ask_of, options_of, stage_of, which_of};
+ghost use Rattle.hook_cli.specs.CommandOver.{IsCommitOverHost, IsNamed, IsReplied, IsRunOverHost, ask_of, options_of, ask_stage_of_choice, which_of};
+ghost use Rattle.text_output.specs.Outputs.{output_of};
 
 use crate::printing::tell;
 use crate::run_printing::{say_commit, say_failure, say_run};
@@ -29,7 +30,17 @@ pub(crate) fn run<S: Alter, C: Children, O: Write, E: Write>(
     out: &mut O,
     err: &mut E,
 ) -> CommandEnding
-    ensures run { (asked : _) → IfOk ask (λ ask. ask ≡ asked) → IsRunOverHost S.Store (C.tells children.old) (record { calls = C.call_count children.old; calls_after = C.call_count children.new; faults = C.fault_count children.old; faults_after = C.fault_count children.new }) host.old host.new asked (record { held = O.contents out.old; holds = O.contents out.new }) (record { held = E.contents err.old; holds = E.contents err.new }) result }
+    ensures run { (asked : _) → IfOk ask (λ ask. ask ≡ asked)
+        → IsRunOverHost S.Store (C.tells children.old)
+        (record {
+          calls = C.call_count children.old;
+          calls_after = C.call_count children.new;
+          faults = C.fault_count
+              children.old;
+          faults_after = C.fault_count children.new;
+        }) host.old host.new asked
+        (output_of (O.contents out.old) (O.contents out.new)) (output_of (E.contents err.old) (E.contents err.new))
+        result }
     ensures same { SameTells (C.tells children.old) (C.tells children.new) }
 {
     match ask {
@@ -46,7 +57,16 @@ fn run_asked<S: Alter, C: Children, O: Write, E: Write>(
     out: &mut O,
     err: &mut E,
 ) -> CommandEnding
-    ensures run { IsRunOverHost S.Store (C.tells children.old) (record { calls = C.call_count children.old; calls_after = C.call_count children.new; faults = C.fault_count children.old; faults_after = C.fault_count children.new }) host.old host.new ask.now (record { held = O.contents out.old; holds = O.contents out.new }) (record { held = E.contents err.old; holds = E.contents err.new }) result }
+    ensures run { IsRunOverHost S.Store (C.tells children.old)
+        (record {
+          calls = C.call_count children.old;
+          calls_after = C.call_count children.new;
+          faults = C.fault_count
+              children.old;
+          faults_after = C.fault_count children.new;
+        }) host.old host.new ask.now
+        (output_of (O.contents out.old) (O.contents out.new)) (output_of (E.contents err.old) (E.contents err.new))
+        result }
     ensures same { SameTells (C.tells children.old) (C.tells children.new) }
 {
     match host.run(alloc, children, ask) {
@@ -67,7 +87,16 @@ pub(crate) fn commit<S: Alter, C: Children, O: Write, E: Write>(
     out: &mut O,
     err: &mut E,
 ) -> CommandEnding
-    ensures commit { IsCommitOverHost S.Store (C.tells children.old) (record { calls = C.call_count children.old; calls_after = C.call_count children.new; faults = C.fault_count children.old; faults_after = C.fault_count children.new }) host.old host.new message.now no_verify skip.now (record { held = O.contents out.old; holds = O.contents out.new }) (record { held = E.contents err.old; holds = E.contents err.new }) result }
+    ensures commit { IsCommitOverHost S.Store (C.tells children.old)
+        (record {
+          calls = C.call_count children.old;
+          calls_after = C.call_count children.new;
+          faults = C.fault_count
+              children.old;
+          faults_after = C.fault_count children.new;
+        }) host.old host.new message.now no_verify skip.now
+        (output_of (O.contents out.old) (O.contents out.new)) (output_of (E.contents err.old) (E.contents err.new))
+        result }
     ensures same { SameTells (C.tells children.old) (C.tells children.new) }
 {
     match host.commit(alloc, children, message.as_bytes(), no_verify, skip) {
@@ -77,7 +106,8 @@ pub(crate) fn commit<S: Alter, C: Children, O: Write, E: Write>(
 }
 
 fn say_ending<O: Write, E: Write>(out: &mut O, err: &mut E, ending: &CommitEnding) -> CommandEnding
-    ensures { IsReplied (record { held = O.contents out.old; holds = O.contents out.new }) (record { held = E.contents err.old; holds = E.contents err.new }) (reply_of_ending ending.now) result }
+    ensures { IsReplied (output_of (O.contents out.old) (O.contents out.new))
+        (output_of (E.contents err.old) (E.contents err.new)) (reply_of_ending ending.now) result }
 {
     match ending {
         CommitEnding::Committed {
@@ -133,7 +163,7 @@ fn which_of(alloc: Global, files: &FileChoice) -> Result<Which, OutOfMemory>
 }
 
 fn stage_of(stage: StageChoice) -> AskStage
-    ensures { result ≡ stage_of stage }
+    ensures { result ≡ ask_stage_of_choice stage }
 {
     match stage {
         StageChoice::PreCommit => AskStage::PreCommit,

@@ -4,10 +4,10 @@
 
 ghost use Rattle.std.specs.Prelude.{◌≡◌, ◌≢◌, ◌⊎◌, [], OnErr, OnOk, option_map};
 ghost use Rattle.report_text.specs.Report.{line};
-ghost use Rattle.text_output.specs.Outputs.{Has, HasBeginning};
+ghost use Rattle.text_output.specs.Outputs.{Has, HasBeginning, output_of};
 ghost use Rattle.text_output.specs.QuotedPaths.{told_path};
 ghost use Rattle.hook_cli.specs.declared.command_ending.CommandEnding.TheVariants as ends;
-ghost use Rattle.hook_cli.specs.Printing.{IsTold};
+ghost use Rattle.hook_cli.specs.Printing.{IsPrintedOnStandardError};
 ghost use Rattle.hook_cli.specs.StagingOver.{AreStaged, IsStagingOver, at_path_text, at_text, path_at, path_of_edit, stop_text};
 
 use crate::CommandEnding;
@@ -29,7 +29,8 @@ use text_output::{Unwritten, write_path, write_pieces};
 /// error: what it took before is out.
 pub fn stage_over<S: Alter, E: Write>(edits: &[StagingEdit], host: &mut Host<S>, err: &mut E) -> u8
     requires { edits.now ≢ [] }
-    ensures done { IsStagingOver S.Store host.old host.new edits.now (record { held = E.contents err.old; holds = E.contents err.new }) result }
+    ensures done { IsStagingOver S.Store host.old host.new edits.now
+        (output_of (E.contents err.old) (E.contents err.new)) result }
     ensures one_of { (result ≡ 0) ⊎ (result ≡ 3) }
 {
     status_of(staged(edits, host, err))
@@ -41,7 +42,8 @@ fn staged<S: Alter, E: Write>(
     err: &mut E,
 ) -> CommandEnding
     requires { edits.now ≢ [] }
-    ensures staged { AreStaged S.Store host.old host.new edits.now (record { held = E.contents err.old; holds = E.contents err.new }) result }
+    ensures staged { AreStaged S.Store host.old host.new edits.now (output_of (E.contents err.old) (E.contents err.new))
+        result }
     ensures one_of { (result ≡ ends.Done) ⊎ (result ≡ ends.Refused) ⊎ (result ≡ ends.Untold) }
 {
     match host.stage_all(edits) {
@@ -52,7 +54,8 @@ fn staged<S: Alter, E: Write>(
 
 // Reports why the changes are refused, and at which path.
 fn tell_stop<E: Write>(edits: &[StagingEdit], stop: &StagingStop, err: &mut E) -> CommandEnding
-    ensures told { IsTold ends.Refused (record { held = E.contents err.old; holds = E.contents err.new }) (stop_text edits.now stop.now) result }
+    ensures told { IsPrintedOnStandardError ends.Refused (output_of (E.contents err.old) (E.contents err.new))
+        (stop_text edits.now stop.now) result }
     ensures one_of { (result ≡ ends.Refused) ⊎ (result ≡ ends.Untold) }
 {
     match tell(err, &stop.refusal) {
@@ -63,7 +66,8 @@ fn tell_stop<E: Write>(edits: &[StagingEdit], stop: &StagingStop, err: &mut E) -
 
 // Reports the path of the change at an index, if there is one.
 fn tell_at<E: Write>(edits: &[StagingEdit], at: Option<usize>, err: &mut E) -> CommandEnding
-    ensures told { IsTold ends.Refused (record { held = E.contents err.old; holds = E.contents err.new }) (at_text (path_at edits.now at)) result }
+    ensures told { IsPrintedOnStandardError ends.Refused (output_of (E.contents err.old) (E.contents err.new))
+        (at_text (path_at edits.now at)) result }
     ensures one_of { (result ≡ ends.Refused) ⊎ (result ≡ ends.Untold) }
 {
     match path_at(edits, at) {
@@ -73,7 +77,8 @@ fn tell_at<E: Write>(edits: &[StagingEdit], at: Option<usize>, err: &mut E) -> C
 }
 
 fn tell_at_path<E: Write>(path: &str, err: &mut E) -> CommandEnding
-    ensures told { IsTold ends.Refused (record { held = E.contents err.old; holds = E.contents err.new }) (at_path_text path.now) result }
+    ensures told { IsPrintedOnStandardError ends.Refused (output_of (E.contents err.old) (E.contents err.new))
+        (at_path_text path.now) result }
     ensures one_of { (result ≡ ends.Refused) ⊎ (result ≡ ends.Untold) }
 {
     match write_at_path(path, err) {
@@ -83,16 +88,18 @@ fn tell_at_path<E: Write>(path: &str, err: &mut E) -> CommandEnding
 }
 
 fn write_at_path<E: Write>(path: &str, err: &mut E) -> Result<(), Unwritten>
-    ensures ok { OnOk result (Has (record { held = E.contents err.old; holds = E.contents err.new }) (at_path_text path.now)) }
-    ensures err { OnErr result (HasBeginning (record { held = E.contents err.old; holds = E.contents err.new }) (at_path_text path.now)) }
+    ensures ok { OnOk result (Has (output_of (E.contents err.old) (E.contents err.new)) (at_path_text path.now)) }
+    ensures err { OnErr result (HasBeginning (output_of (E.contents err.old) (E.contents err.new))
+        (at_path_text path.now)) }
 {
     write_pieces(err, &["hookhost: at "])?;
     write_path_line(path, err)
 }
 
 fn write_path_line<E: Write>(path: &str, err: &mut E) -> Result<(), Unwritten>
-    ensures ok { OnOk result (Has (record { held = E.contents err.old; holds = E.contents err.new }) (line (told_path path.now))) }
-    ensures err { OnErr result (HasBeginning (record { held = E.contents err.old; holds = E.contents err.new }) (line (told_path path.now))) }
+    ensures ok { OnOk result (Has (output_of (E.contents err.old) (E.contents err.new)) (line (told_path path.now))) }
+    ensures err { OnErr result (HasBeginning (output_of (E.contents err.old) (E.contents err.new))
+        (line (told_path path.now))) }
 {
     write_path(err, path)?;
     write_pieces(err, &["\n"])

@@ -9,10 +9,10 @@ ghost use Rattle.std.specs.Fmt.{decimal};
 ghost use Rattle.std.specs.List.{concat};
 ghost use Rattle.report_text.specs.Report.{line};
 ghost use Rattle.repository_text.specs.FixesText.{accepted_text};
-ghost use Rattle.text_output.specs.Outputs.{IsSilent};
+ghost use Rattle.text_output.specs.Outputs.{IsSilent, output_of};
 ghost use Rattle.hook_cli.specs.declared.command_ending.CommandEnding.TheVariants as ends;
 ghost use Rattle.hook_cli.specs.MemoryText.{forgotten_text, remembered_text};
-ghost use Rattle.hook_cli.specs.Printing.{IsSaid, IsTold, untaken_line};
+ghost use Rattle.hook_cli.specs.Printing.{IsSaid, IsPrintedOnStandardError, untaken_line};
 ghost use Rattle.hook_cli.specs.RefusalText.{inner_text, no_commit_text, no_file_text, no_fixed_text, refusal_text};
 
 use crate::CommandEnding;
@@ -26,7 +26,8 @@ pub(crate) const UNTAKEN_LINE: &str = "hookhost: standard output was not taken\n
 
 /// Prints the text of a command that is done.
 pub(crate) fn say<O: Write, E: Write>(out: &mut O, err: &mut E, text: &[u8]) -> CommandEnding
-    ensures { IsSaid ends.Done (record { held = O.contents out.old; holds = O.contents out.new }) text.now (record { held = E.contents err.old; holds = E.contents err.new }) untaken_line result }
+    ensures { IsSaid ends.Done (output_of (O.contents out.old) (O.contents out.new)) text.now
+        (output_of (E.contents err.old) (E.contents err.new)) untaken_line result }
 {
     ending_of(write_out(out, text), CommandEnding::Done, err)
 }
@@ -37,7 +38,8 @@ pub(crate) fn say_accepted<O: Write, E: Write>(
     err: &mut E,
     number: u32,
 ) -> CommandEnding
-    ensures { IsSaid ends.Done (record { held = O.contents out.old; holds = O.contents out.new }) (accepted_text number) (record { held = E.contents err.old; holds = E.contents err.new }) untaken_line result }
+    ensures { IsSaid ends.Done (output_of (O.contents out.old) (O.contents out.new)) (accepted_text number)
+        (output_of (E.contents err.old) (E.contents err.new)) untaken_line result }
 {
     say_number(out, err, "accepted: ", u64::from(number))
 }
@@ -48,7 +50,8 @@ pub(crate) fn say_remembered<O: Write, E: Write>(
     err: &mut E,
     number: u64,
 ) -> CommandEnding
-    ensures { IsSaid ends.Done (record { held = O.contents out.old; holds = O.contents out.new }) (remembered_text number) (record { held = E.contents err.old; holds = E.contents err.new }) untaken_line result }
+    ensures { IsSaid ends.Done (output_of (O.contents out.old) (O.contents out.new)) (remembered_text number)
+        (output_of (E.contents err.old) (E.contents err.new)) untaken_line result }
 {
     say_number(out, err, "remembered: ", number)
 }
@@ -59,7 +62,8 @@ pub(crate) fn say_forgotten<O: Write, E: Write>(
     err: &mut E,
     number: u64,
 ) -> CommandEnding
-    ensures { IsSaid ends.Done (record { held = O.contents out.old; holds = O.contents out.new }) (forgotten_text number) (record { held = E.contents err.old; holds = E.contents err.new }) untaken_line result }
+    ensures { IsSaid ends.Done (output_of (O.contents out.old) (O.contents out.new)) (forgotten_text number)
+        (output_of (E.contents err.old) (E.contents err.new)) untaken_line result }
 {
     say_number(out, err, "forgotten: ", number)
 }
@@ -71,7 +75,8 @@ fn say_number<O: Write, E: Write>(
     word: &str,
     number: u64,
 ) -> CommandEnding
-    ensures { IsSaid ends.Done (record { held = O.contents out.old; holds = O.contents out.new }) (line (word.now ++ decimal number)) (record { held = E.contents err.old; holds = E.contents err.new }) untaken_line result }
+    ensures { IsSaid ends.Done (output_of (O.contents out.old) (O.contents out.new)) (line (word.now ++ decimal number))
+        (output_of (E.contents err.old) (E.contents err.new)) untaken_line result }
 {
     let mut digits = Buffer::new();
     let written = write_pieces(out, &[word, digits.format(number), "\n"]);
@@ -85,8 +90,9 @@ pub(crate) fn ending_of<E: Write>(
     ending: CommandEnding,
     err: &mut E,
 ) -> CommandEnding
-    ensures taken { OnOk written (IsSilent (record { held = E.contents err.old; holds = E.contents err.new }) × (result ≡ ending)) }
-    ensures untaken { OnErr written (IsTold ends.CutOff (record { held = E.contents err.old; holds = E.contents err.new }) untaken_line result) }
+    ensures taken { OnOk written (IsSilent (output_of (E.contents err.old) (E.contents err.new)) × (result ≡ ending)) }
+    ensures untaken { OnErr written (IsPrintedOnStandardError ends.CutOff
+        (output_of (E.contents err.old) (E.contents err.new)) untaken_line result) }
 {
     match written {
         Ok(()) => ending,
@@ -96,7 +102,8 @@ pub(crate) fn ending_of<E: Write>(
 
 /// Reports why a command is refused.
 pub(crate) fn tell<E: Write>(err: &mut E, refusal: &HostRefusal) -> CommandEnding
-    ensures { IsTold ends.Refused (record { held = E.contents err.old; holds = E.contents err.new }) (refusal_text refusal.now) result }
+    ensures { IsPrintedOnStandardError ends.Refused (output_of (E.contents err.old) (E.contents err.new))
+        (refusal_text refusal.now) result }
 {
     let mut digits = Buffer::new();
     let number = digits.format(refusal.number());
@@ -112,7 +119,8 @@ pub(crate) fn tell<E: Write>(err: &mut E, refusal: &HostRefusal) -> CommandEndin
 
 // Reports a refusal that carries the number of an inner fault.
 fn tell_refusal_of<E: Write>(err: &mut E, number: &str, name: &str, inner: u8) -> CommandEnding
-    ensures { IsTold ends.Refused (record { held = E.contents err.old; holds = E.contents err.new }) (line (codes "hookhost: refused: " ++ number.now ++ codes " " ++ name.now ++ inner_text (Some inner))) result }
+    ensures { IsPrintedOnStandardError ends.Refused (output_of (E.contents err.old) (E.contents err.new))
+        (line (codes "hookhost: refused: " ++ number.now ++ codes " " ++ name.now ++ inner_text (Some inner))) result }
 {
     let mut digits = Buffer::new();
     let inner = digits.format(inner);
@@ -125,7 +133,8 @@ fn tell_refusal_of<E: Write>(err: &mut E, number: &str, name: &str, inner: u8) -
 
 /// Reports that no commit has the number.
 pub(crate) fn tell_no_commit<E: Write>(err: &mut E, number: u32) -> CommandEnding
-    ensures { IsTold ends.Refused (record { held = E.contents err.old; holds = E.contents err.new }) (no_commit_text number) result }
+    ensures { IsPrintedOnStandardError ends.Refused (output_of (E.contents err.old) (E.contents err.new))
+        (no_commit_text number) result }
 {
     let mut digits = Buffer::new();
     tell_pieces(
@@ -137,7 +146,8 @@ pub(crate) fn tell_no_commit<E: Write>(err: &mut E, number: u32) -> CommandEndin
 
 /// Reports that no fix gives bytes to the path.
 pub(crate) fn tell_no_fixed<E: Write>(err: &mut E, path: &str) -> CommandEnding
-    ensures { IsTold ends.Refused (record { held = E.contents err.old; holds = E.contents err.new }) (no_fixed_text path.now) result }
+    ensures { IsPrintedOnStandardError ends.Refused (output_of (E.contents err.old) (E.contents err.new))
+        (no_fixed_text path.now) result }
 {
     tell_pieces(
         err,
@@ -148,7 +158,8 @@ pub(crate) fn tell_no_fixed<E: Write>(err: &mut E, path: &str) -> CommandEnding
 
 /// Reports that the commit has no file at the path.
 pub(crate) fn tell_no_file<E: Write>(err: &mut E, number: u32, path: &str) -> CommandEnding
-    ensures { IsTold ends.Refused (record { held = E.contents err.old; holds = E.contents err.new }) (no_file_text number path.now) result }
+    ensures { IsPrintedOnStandardError ends.Refused (output_of (E.contents err.old) (E.contents err.new))
+        (no_file_text number path.now) result }
 {
     let mut digits = Buffer::new();
     tell_pieces(
@@ -170,7 +181,8 @@ pub(crate) fn tell_pieces<'a, E: Write>(
     pieces: &'a [&'a str],
     ending: CommandEnding,
 ) -> CommandEnding
-    ensures { IsTold ending (record { held = E.contents err.old; holds = E.contents err.new }) (concat (map (λ s. s.now) pieces.entry.now)) result }
+    ensures { IsPrintedOnStandardError ending (output_of (E.contents err.old) (E.contents err.new))
+        (concat (map (λ s. s.now) pieces.entry.now)) result }
 {
     match write_pieces(err, pieces) {
         Ok(()) => ending,

@@ -7,9 +7,9 @@ ghost use Rattle.std.specs.Prelude.{◌≡◌, ◌++◌, OnOk, OnErr, codes};
 ghost use Rattle.std.specs.Fmt.{decimal};
 ghost use Rattle.std.specs.List.{concat, flat_map};
 ghost use Rattle.report_text.specs.Report.{line};
-ghost use Rattle.text_output.specs.Outputs.{Has, HasBeginning};
+ghost use Rattle.text_output.specs.Outputs.{Has, HasBeginning, output_of};
 ghost use Rattle.hook_cli.specs.declared.command_ending.CommandEnding.TheVariants as ends;
-ghost use Rattle.hook_cli.specs.Printing.{IsSaid, IsTold, ending_of, untaken_line};
+ghost use Rattle.hook_cli.specs.Printing.{IsSaid, IsPrintedOnStandardError, ending_of, untaken_line};
 ghost use Rattle.hook_cli.specs.RunText.{IsCommitSaid, made_line, reported_text, reused_text, run_text, stopped_text, unsteady_line};
 
 use crate::CommandEnding;
@@ -29,7 +29,8 @@ pub(crate) fn say_run<O: Write, E: Write>(
     ran: &StagedRun,
     verbose: bool,
 ) -> CommandEnding
-    ensures { IsSaid (ending_of ran.now.passed) (record { held = O.contents out.old; holds = O.contents out.new }) (run_text verbose ran.now) (record { held = E.contents err.old; holds = E.contents err.new }) untaken_line result }
+    ensures { IsSaid (ending_of ran.now.passed) (output_of (O.contents out.old) (O.contents out.new))
+        (run_text verbose ran.now) (output_of (E.contents err.old) (E.contents err.new)) untaken_line result }
 {
     let ending = ending_of_run(ran.passed);
     ending_of(write_run(out, ran, verbose), ending, err)
@@ -51,7 +52,8 @@ pub(crate) fn say_failure<O: Write, E: Write>(
     err: &mut E,
     reports: &[Bytes],
 ) -> CommandEnding
-    ensures { IsSaid ends.Failed (record { held = O.contents out.old; holds = O.contents out.new }) (concat reports.now) (record { held = E.contents err.old; holds = E.contents err.new }) untaken_line result }
+    ensures { IsSaid ends.Failed (output_of (O.contents out.old) (O.contents out.new)) (concat reports.now)
+        (output_of (E.contents err.old) (E.contents err.new)) untaken_line result }
 {
     ending_of(write_reports(out, reports), CommandEnding::Failed, err)
 }
@@ -66,7 +68,8 @@ pub(crate) fn say_commit<O: Write, E: Write>(
     reports: &[Bytes],
     post: &PostCommit,
 ) -> CommandEnding
-    ensures { IsCommitSaid number reports.now post.now (record { held = O.contents out.old; holds = O.contents out.new }) (record { held = E.contents err.old; holds = E.contents err.new }) result }
+    ensures { IsCommitSaid number reports.now post.now (output_of (O.contents out.old) (O.contents out.new))
+        (output_of (E.contents err.old) (E.contents err.new)) result }
 {
     match post {
         PostCommit::Told(report) => match write_commit(out, number, reports, report.as_slice()) {
@@ -82,7 +85,8 @@ pub(crate) fn say_commit<O: Write, E: Write>(
 
 // Reports why the post-commit hooks were stopped. The commit stays made (githooks(5), "post-commit").
 fn tell_stopped<E: Write>(err: &mut E, refusal: &RunRefusal) -> CommandEnding
-    ensures { IsTold ends.Done (record { held = E.contents err.old; holds = E.contents err.new }) (stopped_text refusal.now) result }
+    ensures { IsPrintedOnStandardError ends.Done (output_of (E.contents err.old) (E.contents err.new))
+        (stopped_text refusal.now) result }
 {
     let mut digits = Buffer::new();
     let number = digits.format(refusal.number());
@@ -95,7 +99,8 @@ fn tell_stopped<E: Write>(err: &mut E, refusal: &RunRefusal) -> CommandEnding
 
 // Reports that a commit was made whose text standard output didn't take.
 fn tell_made<E: Write>(err: &mut E, number: u32) -> CommandEnding
-    ensures { IsTold ends.CutOff (record { held = E.contents err.old; holds = E.contents err.new }) (untaken_line ++ made_line number) result }
+    ensures { IsPrintedOnStandardError ends.CutOff (output_of (E.contents err.old) (E.contents err.new))
+        (untaken_line ++ made_line number) result }
 {
     let mut digits = Buffer::new();
     tell_pieces(
@@ -112,7 +117,8 @@ fn tell_made<E: Write>(err: &mut E, number: u32) -> CommandEnding
 
 // Reports this, and why the post-commit hooks were stopped.
 fn tell_made_and_stopped<E: Write>(err: &mut E, number: u32, refusal: &RunRefusal) -> CommandEnding
-    ensures { IsTold ends.CutOff (record { held = E.contents err.old; holds = E.contents err.new }) (untaken_line ++ (made_line number ++ stopped_text refusal.now)) result }
+    ensures { IsPrintedOnStandardError ends.CutOff (output_of (E.contents err.old) (E.contents err.new))
+        (untaken_line ++ (made_line number ++ stopped_text refusal.now)) result }
 {
     let (mut digits, mut refused) = (Buffer::new(), Buffer::new());
     let made = digits.format(number);
@@ -134,16 +140,19 @@ fn tell_made_and_stopped<E: Write>(err: &mut E, number: u32, refusal: &RunRefusa
 }
 
 fn write_run<O: Write>(out: &mut O, ran: &StagedRun, verbose: bool) -> Result<(), Unwritten>
-    ensures ok { OnOk result (Has (record { held = O.contents out.old; holds = O.contents out.new }) (run_text verbose ran.now)) }
-    ensures err { OnErr result (HasBeginning (record { held = O.contents out.old; holds = O.contents out.new }) (run_text verbose ran.now)) }
+    ensures ok { OnOk result (Has (output_of (O.contents out.old) (O.contents out.new)) (run_text verbose ran.now)) }
+    ensures err { OnErr result (HasBeginning (output_of (O.contents out.old) (O.contents out.new))
+        (run_text verbose ran.now)) }
 {
     write_reported(out, ran.report.as_slice(), ran.unsteady.as_slice())?;
     write_reused(out, verbose, ran.reused)
 }
 
 fn write_reported<O: Write>(out: &mut O, report: &[u8], unsteady: &[Text]) -> Result<(), Unwritten>
-    ensures ok { OnOk result (Has (record { held = O.contents out.old; holds = O.contents out.new }) (reported_text report.now unsteady.now)) }
-    ensures err { OnErr result (HasBeginning (record { held = O.contents out.old; holds = O.contents out.new }) (reported_text report.now unsteady.now)) }
+    ensures ok { OnOk result (Has (output_of (O.contents out.old) (O.contents out.new))
+        (reported_text report.now unsteady.now)) }
+    ensures err { OnErr result (HasBeginning (output_of (O.contents out.old) (O.contents out.new))
+        (reported_text report.now unsteady.now)) }
 {
     write_out(out, report)?;
     write_unsteady(out, unsteady)
@@ -151,8 +160,9 @@ fn write_reported<O: Write>(out: &mut O, report: &[u8], unsteady: &[Text]) -> Re
 
 // Writes how many commands were answered from the cache, if that is asked for.
 fn write_reused<O: Write>(out: &mut O, verbose: bool, reused: u64) -> Result<(), Unwritten>
-    ensures ok { OnOk result (Has (record { held = O.contents out.old; holds = O.contents out.new }) (reused_text verbose reused)) }
-    ensures err { OnErr result (HasBeginning (record { held = O.contents out.old; holds = O.contents out.new }) (reused_text verbose reused)) }
+    ensures ok { OnOk result (Has (output_of (O.contents out.old) (O.contents out.new)) (reused_text verbose reused)) }
+    ensures err { OnErr result (HasBeginning (output_of (O.contents out.old) (O.contents out.new))
+        (reused_text verbose reused)) }
 {
     if verbose {
         write_reused_line(out, reused)
@@ -162,8 +172,10 @@ fn write_reused<O: Write>(out: &mut O, verbose: bool, reused: u64) -> Result<(),
 }
 
 fn write_reused_line<O: Write>(out: &mut O, reused: u64) -> Result<(), Unwritten>
-    ensures ok { OnOk result (Has (record { held = O.contents out.old; holds = O.contents out.new }) (line (codes "answered from the cache: " ++ decimal reused))) }
-    ensures err { OnErr result (HasBeginning (record { held = O.contents out.old; holds = O.contents out.new }) (line (codes "answered from the cache: " ++ decimal reused))) }
+    ensures ok { OnOk result (Has (output_of (O.contents out.old) (O.contents out.new))
+        (line (codes "answered from the cache: " ++ decimal reused))) }
+    ensures err { OnErr result (HasBeginning (output_of (O.contents out.old) (O.contents out.new))
+        (line (codes "answered from the cache: " ++ decimal reused))) }
 {
     let mut digits = Buffer::new();
     write_pieces(
@@ -173,8 +185,10 @@ fn write_reused_line<O: Write>(out: &mut O, reused: u64) -> Result<(), Unwritten
 }
 
 fn write_unsteady<O: Write>(out: &mut O, unsteady: &[Text]) -> Result<(), Unwritten>
-    ensures ok { OnOk result (Has (record { held = O.contents out.old; holds = O.contents out.new }) (flat_map unsteady_line unsteady.now)) }
-    ensures err { OnErr result (HasBeginning (record { held = O.contents out.old; holds = O.contents out.new }) (flat_map unsteady_line unsteady.now)) }
+    ensures ok { OnOk result (Has (output_of (O.contents out.old) (O.contents out.new))
+        (flat_map unsteady_line unsteady.now)) }
+    ensures err { OnErr result (HasBeginning (output_of (O.contents out.old) (O.contents out.new))
+        (flat_map unsteady_line unsteady.now)) }
 {
     'ids: for id in unsteady {
         write_unsteady_line(out, id.as_str())?;
@@ -183,8 +197,9 @@ fn write_unsteady<O: Write>(out: &mut O, unsteady: &[Text]) -> Result<(), Unwrit
 }
 
 fn write_unsteady_line<O: Write>(out: &mut O, id: &str) -> Result<(), Unwritten>
-    ensures ok { OnOk result (Has (record { held = O.contents out.old; holds = O.contents out.new }) (unsteady_line id.now)) }
-    ensures err { OnErr result (HasBeginning (record { held = O.contents out.old; holds = O.contents out.new }) (unsteady_line id.now)) }
+    ensures ok { OnOk result (Has (output_of (O.contents out.old) (O.contents out.new)) (unsteady_line id.now)) }
+    ensures err { OnErr result (HasBeginning (output_of (O.contents out.old) (O.contents out.new))
+        (unsteady_line id.now)) }
 {
     write_pieces(out, &["unsteady: ", id, "\n"])
 }
@@ -196,32 +211,38 @@ fn write_commit<O: Write>(
     reports: &[Bytes],
     post: &[u8],
 ) -> Result<(), Unwritten>
-    ensures ok { OnOk result (Has (record { held = O.contents out.old; holds = O.contents out.new }) (concat reports.now ++ (post.now ++ line (codes "commit " ++ decimal number)))) }
-    ensures err { OnErr result (HasBeginning (record { held = O.contents out.old; holds = O.contents out.new }) (concat reports.now ++ (post.now ++ line (codes "commit " ++ decimal number)))) }
+    ensures ok { OnOk result (Has (output_of (O.contents out.old) (O.contents out.new))
+        (concat reports.now ++ (post.now ++ line (codes "commit " ++ decimal number)))) }
+    ensures err { OnErr result (HasBeginning (output_of (O.contents out.old) (O.contents out.new))
+        (concat reports.now ++ (post.now ++ line (codes "commit " ++ decimal number)))) }
 {
     write_reports(out, reports)?;
     write_post(out, number, post)
 }
 
 fn write_post<O: Write>(out: &mut O, number: u32, post: &[u8]) -> Result<(), Unwritten>
-    ensures ok { OnOk result (Has (record { held = O.contents out.old; holds = O.contents out.new }) (post.now ++ line (codes "commit " ++ decimal number))) }
-    ensures err { OnErr result (HasBeginning (record { held = O.contents out.old; holds = O.contents out.new }) (post.now ++ line (codes "commit " ++ decimal number))) }
+    ensures ok { OnOk result (Has (output_of (O.contents out.old) (O.contents out.new))
+        (post.now ++ line (codes "commit " ++ decimal number))) }
+    ensures err { OnErr result (HasBeginning (output_of (O.contents out.old) (O.contents out.new))
+        (post.now ++ line (codes "commit " ++ decimal number))) }
 {
     write_out(out, post)?;
     write_number(out, number)
 }
 
 fn write_number<O: Write>(out: &mut O, number: u32) -> Result<(), Unwritten>
-    ensures ok { OnOk result (Has (record { held = O.contents out.old; holds = O.contents out.new }) (line (codes "commit " ++ decimal number))) }
-    ensures err { OnErr result (HasBeginning (record { held = O.contents out.old; holds = O.contents out.new }) (line (codes "commit " ++ decimal number))) }
+    ensures ok { OnOk result (Has (output_of (O.contents out.old) (O.contents out.new))
+        (line (codes "commit " ++ decimal number))) }
+    ensures err { OnErr result (HasBeginning (output_of (O.contents out.old) (O.contents out.new))
+        (line (codes "commit " ++ decimal number))) }
 {
     let mut digits = Buffer::new();
     write_pieces(out, &["commit ", digits.format(number), "\n"])
 }
 
 fn write_reports<O: Write>(out: &mut O, reports: &[Bytes]) -> Result<(), Unwritten>
-    ensures ok { OnOk result (Has (record { held = O.contents out.old; holds = O.contents out.new }) (concat reports.now)) }
-    ensures err { OnErr result (HasBeginning (record { held = O.contents out.old; holds = O.contents out.new }) (concat reports.now)) }
+    ensures ok { OnOk result (Has (output_of (O.contents out.old) (O.contents out.new)) (concat reports.now)) }
+    ensures err { OnErr result (HasBeginning (output_of (O.contents out.old) (O.contents out.new)) (concat reports.now)) }
 {
     'reports: for report in reports {
         write_out(out, report.as_slice())?;

@@ -6,23 +6,23 @@ use Rattle.std.specs.List.{All, AllByRecursion, flat_map}
 use Rattle.std.proofs.lemmas.Bool.{leb-true}
 use Rattle.std.proofs.lemmas.List.Elements.{All-from_recursion}
 use Rattle.builtin_hooks.specs.Search.{search_of}
-use Rattle.yaml_lines.specs.Meaning.{Meaning, text, list, table, empty, Meanings, no_meanings, meaning, Members, no_members, member, nodes, rows}
+use Rattle.yaml_lines.specs.Meaning.{Meaning, text, list, table, empty, Meanings, no_meanings, meaning, Members, no_members, member, nodes, rows_of_members}
 use Rattle.yaml_profile.specs.Text.{meaning_of}
 use Rattle.yaml_profile.specs.TextsWithin.{HasTextsWithin, ItemsHaveTextsWithin, RowsHaveTextsWithin}
 use Rattle.yaml_profile.proofs.Holds.{Holds, map_to, then_any, then_to, either, if_true, weaker}
 use Rattle.yaml_profile.proofs.TextsWithin.{texts_within, few_bytes}
 use Rattle.hook_config.specs.CommandWords.{command_words_of}
 use Rattle.hook_config.specs.Configuration.{configuration_of, configuration_of_meaning, configuration_of_rows}
-use Rattle.hook_config.specs.Gives.{Gives}
-use Rattle.hook_config.specs.Hooks.{joined, hook_alone, hooks_of_list, hooks_of_named, hooks_of_rows, hooks_of_repository, hooks_of_repositories, within_limit}
-use Rattle.hook_config.specs.HookTable.{unserved_of, names_of, command_of, selection_of, switches_of, reads_of, conditions_of, hook_of_groups, hook_with, hook_of_fields, hook_of}
-use Rattle.hook_config.specs.Kinds.{text_of, each, texts_of, only_empty, empty_text_of, empty_texts_of, given, kind_or}
-use Rattle.hook_config.specs.KnownKeys.{Key, at_key, is_key, file_word, local_word, hook_keys, repository_keys, top_keys}
+use Rattle.hook_config.specs.Gives.{GivesConfiguration}
+use Rattle.hook_config.specs.Hooks.{joined_lists, hook_alone, hooks_of_list, hooks_of_named, hooks_of_rows, hooks_of_repository, hooks_of_repositories, within_hook_limit}
+use Rattle.hook_config.specs.HookTable.{unserved_of, hook_names_of, command_keys_of, selection_of, switches_of, reads_of, conditions_of, hook_of_groups, hook_with, hook_of_fields, hook_of}
+use Rattle.hook_config.specs.Kinds.{text_of, each, texts_of_list, only_empty, empty_text_of, empty_texts_of, given, kind_or}
+use Rattle.hook_config.specs.KnownKeys.{ConfigurationKey, at_key, is_key, file_word, local_word, hook_keys, repository_keys, top_keys}
 use Rattle.hook_config.specs.KnownKeys as key
 use Rattle.hook_config.specs.Languages.{grep_of, language_of}
 use Rattle.hook_config.specs.Limits.{most_text_bytes, most_hooks, IsShort, AreTexts}
 use Rattle.hook_config.specs.Patterns.{pattern_of_text, pattern_of, every_path, no_path}
-use Rattle.hook_config.specs.Rows.{Row, value_at, table_of, list_of}
+use Rattle.hook_config.specs.Rows.{ConfigurationRow, value_of_key, table_of, list_of}
 use Rattle.hook_config.specs.ShortTexts.{HasShortSearch, HookHasShortTexts, HasShortTexts}
 use Rattle.hook_config.specs.UnknownKeys.{rows_in, items_in, unknown_key, unknown_of_hook, unknown_of_repository_row, unknown_of_repository, unknown_of_top_row, unknown_of_top}
 use Rattle.hook_config.specs.declared.config_fault.ConfigFault.{ConfigFault}
@@ -30,7 +30,7 @@ use Rattle.hook_config.specs.declared.configuration.Config.{Config}
 use Rattle.hook_config.specs.declared.configuration.Hook.{Hook}
 use Rattle.hook_config.specs.declared.configuration.Language.{Language}
 use Rattle.hook_config.specs.declared.configuration.Language.TheVariants.{Pygrep, System, Script}
-use Rattle.hook_config.specs.declared.hook_parts.Command.{Command}
+use Rattle.hook_config.specs.declared.hook_parts.CommandKeys.{CommandKeys}
 use Rattle.hook_config.specs.declared.hook_parts.Conditions.{Conditions}
 use Rattle.hook_config.specs.declared.hook_parts.Names.{Names}
 use Rattle.hook_config.specs.declared.hook_parts.Reads.{Reads}
@@ -55,7 +55,7 @@ short_each (item ∷ items) =
     then_to IsShort (AllByRecursion IsShort) _
     (λ first p. map_to (AllByRecursion IsShort) (AllByRecursion IsShort) _ (λ others q. (p, q)) (each text_of items) (short_each items)) (text_of item) (short_text item)
 
-short_texts : (m : Meaning) → Holds AreTexts (texts_of m)
+short_texts : (m : Meaning) → Holds AreTexts (texts_of_list m)
 short_texts m =
     then_any AreTexts (each text_of) (λ items. weaker (AllByRecursion IsShort) AreTexts (λ ts h. All-from_recursion IsShort ts h) (each text_of items) (short_each items)) (list_of m)
 
@@ -89,7 +89,7 @@ short_empty : (m : Meaning) → Holds IsShort (empty_text_of m)
 short_empty m = then_any IsShort only_empty (empty_short IsShort nothing_short) (text_of m)
 
 short_empties : (m : Meaning) → Holds AreTexts (empty_texts_of m)
-short_empties m = then_any AreTexts only_empty (empty_short AreTexts no_texts) (texts_of m)
+short_empties m = then_any AreTexts only_empty (empty_short AreTexts no_texts) (texts_of_list m)
 
 -- ---- values at keys
 
@@ -98,8 +98,8 @@ by_kind : {A : Type 0} (P : A → Type 0) (kind : Meaning → Option A) (absent 
 by_kind P kind absent h k None = k
 by_kind P kind absent h k (Some m) = h m
 
-at : {A : Type 0} (P : A → Type 0) (known : Key A) (rs : List Row) → ((m : Meaning) → Holds P (known.kind m)) → Holds P known.absent → Holds P (at_key known rs)
-at P known rs h k = by_kind P known.kind known.absent h k (value_at known.word rs)
+at : {A : Type 0} (P : A → Type 0) (known : ConfigurationKey A) (rs : List ConfigurationRow) → ((m : Meaning) → Holds P (known.kind m)) → Holds P known.absent → Holds P (at_key known rs)
+at P known rs h k = by_kind P known.kind known.absent h k (value_of_key known.word rs)
 
 -- ---- hooks
 
@@ -119,14 +119,15 @@ language_short name.System entry args h = any_words (λ words. System words) (λ
 language_short name.Script entry args h = any_words (λ words. Script words) (λ words. tt) (command_words_of entry args)
 
 -- what follows from what is read at a key, where that is short
-and_then : {A B : Type 0} (P : A → Type 0) (Q : B → Type 0) (known : Key A) (rs : List Row) (f : A → Option B) → ((m : Meaning) → Holds P (known.kind m)) → Holds P known.absent
+and_then : {A B : Type 0} (P : A → Type 0) (Q : B → Type 0) (known : ConfigurationKey A) (rs : List ConfigurationRow) (f : A → Option B) → ((m : Meaning) → Holds P (known.kind m))
+    → Holds P known.absent
     → ((x : A) → P x → Holds Q (f x)) → Holds Q (given (at_key known rs) f)
 and_then P Q known rs f h k follows = then_to P Q f follows (at_key known rs) (at P known rs h k)
 
 abbrev AreShortUnserved : Unserved → Type 0
 AreShortUnserved unserved = IsShort unserved.log_file × AreTexts unserved.additional_dependencies
 
-unserved_short : (rs : List Row) → Holds AreShortUnserved (unserved_of rs)
+unserved_short : (rs : List ConfigurationRow) → Holds AreShortUnserved (unserved_of rs)
 unfolding unserved_of
 unserved_short rs =
     and_then IsShort AreShortUnserved key.log_file rs _ short_empty nothing_short (λ log_file p.
@@ -135,18 +136,18 @@ unserved_short rs =
 abbrev AreShortNames : Names → Type 0
 AreShortNames names = IsShort names.id × IsShort names.name × IsShort names.alias
 
-names_short : (rs : List Row) → Holds AreShortNames (names_of rs)
-unfolding names_of
+names_short : (rs : List ConfigurationRow) → Holds AreShortNames (hook_names_of rs)
+unfolding hook_names_of
 names_short rs =
     and_then IsShort AreShortNames key.id rs _ short_text tt (λ id p.
     and_then IsShort AreShortNames key.name rs _ short_text tt (λ name q.
     and_then IsShort AreShortNames key.alias rs _ short_text nothing_short (λ alias r. (p, q, r))))
 
-abbrev IsShortCommand : Command → Type 0
+abbrev IsShortCommand : CommandKeys → Type 0
 IsShortCommand command = HasShortSearch command.language × IsShort command.entry × AreTexts command.args
 
-command_short : (rs : List Row) → Holds IsShortCommand (command_of rs)
-unfolding command_of
+command_short : (rs : List ConfigurationRow) → Holds IsShortCommand (command_keys_of rs)
+unfolding command_keys_of
 command_short rs =
     then_any IsShortCommand _ (λ word.
     and_then IsShort IsShortCommand key.entry rs _ short_text tt (λ entry p.
@@ -158,7 +159,7 @@ abbrev IsShortSelection : Selection → Type 0
 IsShortSelection selection =
     IsShort selection.files × IsShort selection.exclude × AreTexts selection.types × AreTexts selection.types_or × AreTexts selection.exclude_types
 
-selection_short : (rs : List Row) → Holds IsShortSelection (selection_of rs)
+selection_short : (rs : List ConfigurationRow) → Holds IsShortSelection (selection_of rs)
 unfolding selection_of
 selection_short rs =
     and_then IsShort IsShortSelection key.files rs _ short_pattern every_path_short (λ files p.
@@ -170,7 +171,7 @@ selection_short rs =
 abbrev AreShortReads : Reads → Type 0
 AreShortReads reads = IsShort reads.x_reads
 
-reads_short : (rs : List Row) → Holds AreShortReads (reads_of rs)
+reads_short : (rs : List ConfigurationRow) → Holds AreShortReads (reads_of rs)
 unfolding reads_of
 reads_short rs =
     and_then IsShort AreShortReads key.x_reads rs _ short_pattern no_path_short (λ x_reads p.
@@ -179,7 +180,7 @@ reads_short rs =
 abbrev AreShortConditions : Conditions → Type 0
 AreShortConditions conditions = IsShortSelection conditions.selection × AreShortReads conditions.reads
 
-conditions_short : (default : Stages) (rs : List Row) → Holds AreShortConditions (conditions_of default rs)
+conditions_short : (default : Stages) (rs : List ConfigurationRow) → Holds AreShortConditions (conditions_of default rs)
 unfolding conditions_of
 conditions_short default rs =
     then_to IsShortSelection AreShortConditions _ (λ selection p.
@@ -188,13 +189,14 @@ conditions_short default rs =
     (selection_of rs) (selection_short rs)
 
 -- every text of a hook is one of a group
-fields_short : (default : Stages) (rs : List Row) → Holds HookHasShortTexts (hook_of_fields default rs)
+fields_short : (default : Stages) (rs : List ConfigurationRow) → Holds HookHasShortTexts (hook_of_fields default rs)
 unfolding hook_of_fields hook_with hook_of_groups
 fields_short default rs =
     then_to AreShortUnserved HookHasShortTexts _ (λ unserved p.
     then_to AreShortNames HookHasShortTexts _ (λ names q.
     then_to IsShortCommand HookHasShortTexts _ (λ command r.
-    then_to AreShortConditions HookHasShortTexts _ (λ conditions s. search (p, q, r, s)) (conditions_of default rs) (conditions_short default rs)) (command_of rs) (command_short rs)) (names_of rs) (names_short rs)) (unserved_of rs) (unserved_short rs)
+    then_to AreShortConditions HookHasShortTexts _ (λ conditions s. search (p, q, r, s)) (conditions_of default rs) (conditions_short default rs)) (command_keys_of rs) (command_short rs))
+    (hook_names_of rs) (names_short rs)) (unserved_of rs) (unserved_short rs)
 
 abbrev AllShort : List Hook → Type 0
 AllShort hooks = AllByRecursion HookHasShortTexts hooks
@@ -207,12 +209,12 @@ both : {A : Type 0} (P : A → Type 0) (xs ys : List A) → AllByRecursion P xs 
 both P [] ys h k = k
 both P (x ∷ xs) ys h k = (h.0, both P xs ys h.1 k)
 
-joined_short : (f : Meaning → Option (List Hook)) → ((m : Meaning) → Holds AllShort (f m)) → (ms : List Meaning) → Holds AllShort (joined f ms)
+joined_short : (f : Meaning → Option (List Hook)) → ((m : Meaning) → Holds AllShort (f m)) → (ms : List Meaning) → Holds AllShort (joined_lists f ms)
 joined_short f h [] = tt
 joined_short f h (m ∷ ms) =
-    then_to AllShort AllShort _ (λ hooks p. map_to AllShort AllShort _ (λ more q. both HookHasShortTexts hooks more p q) (joined f ms) (joined_short f h ms)) (f m) (h m)
+    then_to AllShort AllShort _ (λ hooks p. map_to AllShort AllShort _ (λ more q. both HookHasShortTexts hooks more p q) (joined_lists f ms) (joined_short f h ms)) (f m) (h m)
 
-named_hooks_short : (default : Stages) (rs : List Row) (name : List ℕ) → Holds AllShort (hooks_of_named default rs name)
+named_hooks_short : (default : Stages) (rs : List ConfigurationRow) (name : List ℕ) → Holds AllShort (hooks_of_named default rs name)
 named_hooks_short default rs name =
     either AllShort (bytes_eq name local_word) _ None
     (then_any AllShort (hooks_of_list default) (joined_short (hook_alone default) (hook_short default)) (at_key key.hooks rs)) tt
@@ -223,18 +225,18 @@ repository_short default m =
 
 hooks_short : (default : Stages) (ms : List Meaning) → Holds (All HookHasShortTexts) (hooks_of_repositories default ms)
 hooks_short default ms =
-    then_to AllShort (All HookHasShortTexts) within_limit (λ hooks h. if_true (All HookHasShortTexts) (leb (length hooks) most_hooks) hooks (λ _. All-from_recursion HookHasShortTexts hooks h))
-    (joined (hooks_of_repository default) ms) (joined_short (hooks_of_repository default) (repository_short default) ms)
+    then_to AllShort (All HookHasShortTexts) within_hook_limit (λ hooks h. if_true (All HookHasShortTexts) (leb (length hooks) most_hooks) hooks (λ _. All-from_recursion HookHasShortTexts hooks h))
+    (joined_lists (hooks_of_repository default) ms) (joined_short (hooks_of_repository default) (repository_short default) ms)
 
 -- ---- unknown keys
 
 abbrev KeysWithin : ℕ → List (List ℕ) → Type 0
 KeysWithin n keys = AllByRecursion (λ key. length key ≤ n) keys
 
-abbrev RowWithin : ℕ → Row → Type 0
+abbrev RowWithin : ℕ → ConfigurationRow → Type 0
 RowWithin n r = (length r.0 ≤ n) × HasTextsWithin n r.1
 
-rows_within : (n : ℕ) (ms : Members) → RowsHaveTextsWithin n ms → AllByRecursion (RowWithin n) (rows ms)
+rows_within : (n : ℕ) (ms : Members) → RowsHaveTextsWithin n ms → AllByRecursion (RowWithin n) (rows_of_members ms)
 rows_within n no_members h = tt
 rows_within n (member key value ms) h = ((h.0, h.1), rows_within n ms h.2)
 
@@ -262,7 +264,7 @@ one_key : (n : ℕ) (b : Bool) (key : List ℕ) → length key ≤ n → KeysWit
 one_key n true key h = tt
 one_key n false key h = (h, tt)
 
-key_within : (n : ℕ) (known : List (List ℕ × KeyKind)) (r : Row) → RowWithin n r → KeysWithin n (unknown_key known r)
+key_within : (n : ℕ) (known : List (List ℕ × KeyKind)) (r : ConfigurationRow) → RowWithin n r → KeysWithin n (unknown_key known r)
 key_within n known r h = one_key n (is_key known r.0) r.0 h.0
 
 keys_by : (n : ℕ) (b : Bool) (xs ys : List (List ℕ)) → KeysWithin n xs → KeysWithin n ys → KeysWithin n (cond b xs ys)
@@ -272,7 +274,7 @@ keys_by n false xs ys h k = k
 of_hook : (n : ℕ) (m : Meaning) → HasTextsWithin n m → KeysWithin n (unknown_of_hook m)
 of_hook n m h = flat_within n (RowWithin n) (unknown_key hook_keys) (key_within n hook_keys) (rows_in m) (rows_in_within n m h)
 
-of_repository_row : (n : ℕ) (r : Row) → RowWithin n r → KeysWithin n (unknown_of_repository_row r)
+of_repository_row : (n : ℕ) (r : ConfigurationRow) → RowWithin n r → KeysWithin n (unknown_of_repository_row r)
 of_repository_row n r h =
     keys_by n (bytes_eq r.0 key.hooks.word) (flat_map unknown_of_hook (items_in r.1)) (unknown_key repository_keys r)
     (flat_within n (HasTextsWithin n) unknown_of_hook (of_hook n) (items_in r.1) (items_in_within n r.1 h.1)) (key_within n repository_keys r h)
@@ -280,7 +282,7 @@ of_repository_row n r h =
 of_repository : (n : ℕ) (m : Meaning) → HasTextsWithin n m → KeysWithin n (unknown_of_repository m)
 of_repository n m h = flat_within n (RowWithin n) unknown_of_repository_row (of_repository_row n) (rows_in m) (rows_in_within n m h)
 
-of_top_row : (n : ℕ) (r : Row) → RowWithin n r → KeysWithin n (unknown_of_top_row r)
+of_top_row : (n : ℕ) (r : ConfigurationRow) → RowWithin n r → KeysWithin n (unknown_of_top_row r)
 of_top_row n r h =
     keys_by n (bytes_eq r.0 key.repos.word) (flat_map unknown_of_repository (items_in r.1)) (unknown_key top_keys r)
     (flat_within n (HasTextsWithin n) unknown_of_repository (of_repository n) (items_in r.1) (items_in_within n r.1 h.1)) (key_within n top_keys r h)
@@ -289,7 +291,7 @@ keys_short : (n : ℕ) (keys : List (List ℕ)) → n ≤ most_text_bytes → Ke
 keys_short n [] few h = tt
 keys_short n (key ∷ keys) few h = (let first : length key ≤ n = h.0 in omega arith, keys_short n keys few h.1)
 
-unknown_short : (n : ℕ) (rs : List Row) → n ≤ most_text_bytes → AllByRecursion (RowWithin n) rs → AreTexts (unknown_of_top rs)
+unknown_short : (n : ℕ) (rs : List ConfigurationRow) → n ≤ most_text_bytes → AllByRecursion (RowWithin n) rs → AreTexts (unknown_of_top rs)
 unknown_short n rs few h =
     All-from_recursion IsShort (unknown_of_top rs) (keys_short n (unknown_of_top rs) few (flat_within n (RowWithin n) unknown_of_top_row (of_top_row n) rs h))
 
@@ -300,7 +302,8 @@ last_short : (o : Option (List Hook)) (fail_fast : Bool) (files exclude : List �
 last_short None fail_fast files exclude unknown h p q r = tt
 last_short (Some hooks) fail_fast files exclude unknown h p q r = record { hooks = h; files = p; exclude = q; unknown = r }
 
-values_short : (hooks_of : Stages → List Meaning → Option (List Hook)) → ((default : Stages) (ms : List Meaning) → Holds (All HookHasShortTexts) (hooks_of default ms)) → (unknown : List (List ℕ)) → AreTexts unknown
+values_short : (hooks_of : Stages → List Meaning → Option (List Hook)) → ((default : Stages) (ms : List Meaning) → Holds (All HookHasShortTexts) (hooks_of default ms)) → (unknown : List (List ℕ))
+    → AreTexts unknown
     → (o0 : Option Stages) (o1 o2 : Option (List ℕ)) (o3 : Option Bool) (o4 : Option (List Meaning)) → Holds IsShort o1 → Holds IsShort o2
     → Holds HasShortTexts
     (given o0 (λ default. given o1 (λ files. given o2 (λ exclude. given o3 (λ fail_fast. given o4 (λ repositories. given (hooks_of default repositories) (λ hooks.
@@ -313,7 +316,7 @@ values_short hooks_of h unknown r (Some default) (Some files) (Some exclude) (So
 values_short hooks_of h unknown r (Some default) (Some files) (Some exclude) (Some fail_fast) (Some repositories) p q =
     last_short (hooks_of default repositories) fail_fast files exclude unknown (h default repositories) p q r
 
-rows_short : (n : ℕ) (rs : List Row) → n ≤ most_text_bytes → AllByRecursion (RowWithin n) rs → Holds HasShortTexts (configuration_of_rows rs)
+rows_short : (n : ℕ) (rs : List ConfigurationRow) → n ≤ most_text_bytes → AllByRecursion (RowWithin n) rs → Holds HasShortTexts (configuration_of_rows rs)
 unfolding configuration_of_rows
 rows_short n rs few h =
     values_short hooks_of_repositories hooks_short (unknown_of_top rs) (unknown_short n rs few h)
@@ -324,7 +327,7 @@ meaning_short : (n : ℕ) (m : Meaning) → n ≤ most_text_bytes → HasTextsWi
 unfolding configuration_of_meaning
 meaning_short n (text content quoted) few h = tt
 meaning_short n (list items) few h = tt
-meaning_short n (table content) few h = rows_short n (rows content) few (rows_within n content h)
+meaning_short n (table content) few h = rows_short n (rows_of_members content) few (rows_within n content h)
 meaning_short n empty few h = tt
 
 of_meant : (bytes : List ℕ) (o : Option Meaning) → meaning_of bytes ≡ o → Holds HasShortTexts (option_and_then configuration_of_meaning o)
@@ -341,6 +344,7 @@ config_short bytes config e = subst (Holds HasShortTexts) e (all_short bytes)
 pub node_short : (bytes : List ℕ) (m : Meaning) (config : Config) → meaning_of bytes ≡ Some m → configuration_of_meaning m ≡ Some config → HasShortTexts config
 node_short bytes m config is e = subst (Holds HasShortTexts) e (meaning_short (length bytes) m (few_bytes bytes m is) (texts_within bytes m is))
 
-pub result_short : (result : Result Config ConfigFault) (bytes : List ℕ) (m : Meaning) → meaning_of bytes ≡ Some m → Gives (λ config. config) result (configuration_of_meaning m) → IfOk result HasShortTexts
+pub result_short : (result : Result Config ConfigFault) (bytes : List ℕ) (m : Meaning) → meaning_of bytes ≡ Some m → GivesConfiguration (λ config. config) result (configuration_of_meaning m)
+    → IfOk result HasShortTexts
 result_short (Ok config) bytes m is e = node_short bytes m config is e
 result_short (Err fault) bytes m is e = tt

@@ -3,7 +3,7 @@
 use Rattle.std.specs.Prelude.{ℕ, List, Bool, Option, Some, option_and_then}
 use Rattle.yaml_lines.specs.Meaning.{Meaning}
 use Rattle.yaml_profile.specs.Text.{meaning_of}
-use Rattle.hook_config.specs.Rows.{Row, table_of}
+use Rattle.hook_config.specs.Rows.{ConfigurationRow, table_of}
 use Rattle.hook_config.specs.Kinds.{given}
 use Rattle.hook_config.specs.Hooks.{hooks_of_repositories}
 use Rattle.hook_config.specs.UnknownKeys.{unknown_of_top}
@@ -14,7 +14,7 @@ use Rattle.hook_config.specs.KnownKeys as key
 
 -- the configuration of a table's rows with these patterns at the top; `fail_fast` says whether a run stops at
 -- a failure
-abbrev pub configuration_with : Stages → List Row → List ℕ → List ℕ → Bool → Option Config
+abbrev pub configuration_with : Stages → List ConfigurationRow → List ℕ → List ℕ → Bool → Option Config
 configuration_with default rows files exclude fail_fast =
     given (at_key key.repos rows) (λ repositories.
     given (hooks_of_repositories default repositories) (λ hooks.
@@ -27,7 +27,7 @@ configuration_with default rows files exclude fail_fast =
     })))
 
 -- the configuration of a table's rows with these default stages
-abbrev pub configuration_by : Stages → List Row → Option Config
+abbrev pub configuration_by : Stages → List ConfigurationRow → Option Config
 configuration_by default rows =
     given (at_key key.files rows) (λ files.
     given (at_key key.exclude rows) (λ exclude.
@@ -35,7 +35,7 @@ configuration_by default rows =
     configuration_with default rows files exclude fail_fast)))
 
 -- the default stages hold for all hooks, wherever the key is in the table
-unfoldable pub configuration_of_rows : List Row → Option Config
+unfoldable pub configuration_of_rows : List ConfigurationRow → Option Config
 configuration_of_rows rows = given (at_key key.default_stages rows) (λ default. configuration_by default rows)
 
 -- the configuration of a text's node

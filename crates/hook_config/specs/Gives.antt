@@ -11,9 +11,9 @@ abbrev pub UnlessLeftOpen : ConfigKind → Type 0 → Type 0
 UnlessLeftOpen kind claim = kind ≢ OutOfMemory → kind ≢ BadPattern → claim
 
 -- an answer whose refusals have a place
-abbrev pub Gives : {A B : Type 0} → (A → B) → Result A ConfigFault → Option B → Type 0
-Gives see (Ok x) meant = meant ≡ Some (see x)
-Gives see (Err fault) meant = UnlessLeftOpen fault.kind (meant ≡ None)
+abbrev pub GivesConfiguration : {A B : Type 0} → (A → B) → Result A ConfigFault → Option B → Type 0
+GivesConfiguration see (Ok x) meant = meant ≡ Some (see x)
+GivesConfiguration see (Err fault) meant = UnlessLeftOpen fault.kind (meant ≡ None)
 
 -- ---- for contracts of private functions alone
 
@@ -23,9 +23,9 @@ GivesValue see (Ok x) meant = meant ≡ Some (see x)
 GivesValue see (Err kind) meant = UnlessLeftOpen kind (meant ≡ None)
 
 -- an answer about one value, which needs no memory
-abbrev pub GivesSurely : {A B : Type 0} → (A → B) → Result A ConfigKind → Option B → Type 0
-GivesSurely see (Ok x) meant = meant ≡ Some (see x)
-GivesSurely see (Err _) meant = meant ≡ None
+abbrev pub GivesValueSurely : {A B : Type 0} → (A → B) → Result A ConfigKind → Option B → Type 0
+GivesValueSurely see (Ok x) meant = meant ≡ Some (see x)
+GivesValueSurely see (Err _) meant = meant ≡ None
 
 -- a refusal that the definitions leave open
 abbrev pub IsLeftOpen : ConfigKind → Type 0

@@ -2,11 +2,11 @@
 -- read group by group.
 use Rattle.std.specs.Prelude.{List, Option, Some, option_and_then}
 use Rattle.yaml_lines.specs.Meaning.{Meaning}
-use Rattle.hook_config.specs.Rows.{Row, table_of}
+use Rattle.hook_config.specs.Rows.{ConfigurationRow, table_of}
 use Rattle.hook_config.specs.Kinds.{given}
 use Rattle.hook_config.specs.Languages.{language_of}
 use Rattle.hook_config.specs.declared.configuration.Hook.{Hook}
-use Rattle.hook_config.specs.declared.hook_parts.Command.{Command}
+use Rattle.hook_config.specs.declared.hook_parts.CommandKeys.{CommandKeys}
 use Rattle.hook_config.specs.declared.hook_parts.Conditions.{Conditions}
 use Rattle.hook_config.specs.declared.hook_parts.Names.{Names}
 use Rattle.hook_config.specs.declared.hook_parts.Reads.{Reads}
@@ -18,7 +18,7 @@ use Rattle.hook_config.specs.KnownKeys.{at_key}
 use Rattle.hook_config.specs.KnownKeys as key
 
 -- none if one of them isn't empty: neither is served
-unfoldable pub unserved_of : List Row → Option Unserved
+unfoldable pub unserved_of : List ConfigurationRow → Option Unserved
 unserved_of rows =
     given (at_key key.log_file rows) (λ log_file.
     given (at_key key.additional_dependencies rows) (λ additional_dependencies.
@@ -27,8 +27,8 @@ unserved_of rows =
       additional_dependencies = additional_dependencies;
     })))
 
-unfoldable pub names_of : List Row → Option Names
-names_of rows =
+unfoldable pub hook_names_of : List ConfigurationRow → Option Names
+hook_names_of rows =
     given (at_key key.id rows) (λ id.
     given (at_key key.name rows) (λ name.
     given (at_key key.alias rows) (λ alias.
@@ -39,8 +39,8 @@ names_of rows =
     }))))
 
 -- the language is the one of that name, for the entry and its arguments
-unfoldable pub command_of : List Row → Option Command
-command_of rows =
+unfoldable pub command_keys_of : List ConfigurationRow → Option CommandKeys
+command_keys_of rows =
     given (at_key key.language rows) (λ name.
     given (at_key key.entry rows) (λ entry.
     given (at_key key.args rows) (λ args.
@@ -51,7 +51,7 @@ command_of rows =
       args = args;
     })))))
 
-unfoldable pub selection_of : List Row → Option Selection
+unfoldable pub selection_of : List ConfigurationRow → Option Selection
 selection_of rows =
     given (at_key key.files rows) (λ files.
     given (at_key key.exclude rows) (λ exclude.
@@ -67,7 +67,7 @@ selection_of rows =
     }))))))
 
 -- with these default stages
-unfoldable pub switches_of : Stages → List Row → Option Switches
+unfoldable pub switches_of : Stages → List ConfigurationRow → Option Switches
 switches_of default rows =
     given (at_key (key.stages default) rows) (λ stages.
     given (at_key key.always_run rows) (λ always_run.
@@ -82,7 +82,7 @@ switches_of default rows =
       fail_fast = fail_fast;
     }))))))
 
-unfoldable pub reads_of : List Row → Option Reads
+unfoldable pub reads_of : List ConfigurationRow → Option Reads
 reads_of rows =
     given (at_key key.x_reads rows) (λ x_reads.
     given (at_key key.x_per_file rows) (λ x_per_file.
@@ -92,7 +92,7 @@ reads_of rows =
     })))
 
 -- the groups after the command, with these default stages
-unfoldable pub conditions_of : Stages → List Row → Option Conditions
+unfoldable pub conditions_of : Stages → List ConfigurationRow → Option Conditions
 conditions_of default rows =
     given (selection_of rows) (λ selection.
     given (switches_of default rows) (λ switches.
@@ -104,7 +104,7 @@ conditions_of default rows =
     }))))
 
 -- the hook with the fields of these groups
-unfoldable pub hook_of_groups : Unserved → Names → Command → Conditions → Hook
+unfoldable pub hook_of_groups : Unserved → Names → CommandKeys → Conditions → Hook
 hook_of_groups unserved names command conditions = record {
   id = names.id;
   name = names.name;
@@ -129,16 +129,16 @@ hook_of_groups unserved names command conditions = record {
 }
 
 -- the hook of a table's rows, whose first groups are these
-unfoldable pub hook_with : Stages → List Row → Unserved → Names → Command → Option Hook
+unfoldable pub hook_with : Stages → List ConfigurationRow → Unserved → Names → CommandKeys → Option Hook
 hook_with default rows unserved names command =
     given (conditions_of default rows) (λ conditions. Some (hook_of_groups unserved names command conditions))
 
 -- the hook of a table's rows, with these default stages
-unfoldable pub hook_of_fields : Stages → List Row → Option Hook
+unfoldable pub hook_of_fields : Stages → List ConfigurationRow → Option Hook
 hook_of_fields default rows =
     given (unserved_of rows) (λ unserved.
-    given (names_of rows) (λ names.
-    given (command_of rows) (λ command.
+    given (hook_names_of rows) (λ names.
+    given (command_keys_of rows) (λ command.
     hook_with default rows unserved names command)))
 
 abbrev pub hook_of : Stages → Meaning → Option Hook

@@ -1,7 +1,7 @@
 -- The kinds of a configuration's values, and how a value is taken from a table.
 use Rattle.std.specs.Prelude.{ℕ, List, [], ◌∷◌, length, Bool, true, false, if◌then◌else◌, nat_le, codes, Option, Some, None, option_map, option_and_then}
 use Rattle.yaml_lines.specs.Meaning.{Meaning, text, list, table, empty}
-use Rattle.hook_config.specs.Rows.{Row, value_at, is_among, list_of}
+use Rattle.hook_config.specs.Rows.{ConfigurationRow, value_of_key, is_known_word, list_of}
 use Rattle.hook_config.specs.Stages.{stage_of_word, stages_among}
 use Rattle.hook_config.specs.declared.stage.Stage.{Stage}
 use Rattle.hook_config.specs.declared.stage.Stages.{Stages}
@@ -31,7 +31,8 @@ false_words =
     ∷ []
 
 abbrev pub truth_of_word : List ℕ → Option Bool
-truth_of_word word = if is_among true_words word then Some true else (if is_among false_words word then Some false else None)
+truth_of_word word =
+    if is_known_word true_words word then Some true else (if is_known_word false_words word then Some false else None)
 
 -- an unquoted word for true or false
 abbrev pub truth_of : Meaning → Option Bool
@@ -45,11 +46,12 @@ truth_of empty = None
 -- what the kind makes of each of them, or none if it makes none of one
 abbrev pub each : {A : Type 0} → (Meaning → Option A) → List Meaning → Option (List A)
 each kind [] = Some []
-each kind (item ∷ items) = option_and_then (λ first. option_map (λ others. first ∷ others) (each kind items)) (kind item)
+each kind (item ∷ items) =
+    option_and_then (λ first. option_map (λ others. first ∷ others) (each kind items)) (kind item)
 
 -- a list of texts
-abbrev pub texts_of : Meaning → Option (List (List ℕ))
-texts_of value = option_and_then (each text_of) (list_of value)
+abbrev pub texts_of_list : Meaning → Option (List (List ℕ))
+texts_of_list value = option_and_then (each text_of) (list_of value)
 
 -- a text that names a stage
 abbrev pub stage_of : Meaning → Option Stage
@@ -74,7 +76,7 @@ abbrev pub empty_text_of : Meaning → Option (List ℕ)
 empty_text_of value = option_and_then only_empty (text_of value)
 
 abbrev pub empty_texts_of : Meaning → Option (List (List ℕ))
-empty_texts_of value = option_and_then only_empty (texts_of value)
+empty_texts_of value = option_and_then only_empty (texts_of_list value)
 
 -- ---- values at keys
 
@@ -90,9 +92,9 @@ kind_or kind absent (Some value) = kind value
 -- ---- for contracts of private functions alone
 
 -- the value at a key that has to be there
-abbrev pub required : {A : Type 0} → (Meaning → Option A) → List ℕ → List Row → Option A
-required kind key rows = kind_or kind None (value_at key rows)
+abbrev pub required : {A : Type 0} → (Meaning → Option A) → List ℕ → List ConfigurationRow → Option A
+required kind key rows = kind_or kind None (value_of_key key rows)
 
 -- the value at the key, or the default if the key isn't there
-abbrev pub or_default : {A : Type 0} → (Meaning → Option A) → A → List ℕ → List Row → Option A
-or_default kind default key rows = kind_or kind (Some default) (value_at key rows)
+abbrev pub or_default : {A : Type 0} → (Meaning → Option A) → A → List ℕ → List ConfigurationRow → Option A
+or_default kind default key rows = kind_or kind (Some default) (value_of_key key rows)

@@ -4,10 +4,10 @@
 use Rattle.std.specs.Prelude.{ℕ, List, [], ◌∷◌, codes, Bool, true, false, if◌then◌else◌, bytes_eq, map, Option, Some, None}
 use Rattle.std.specs.Borrow.{Bor}
 use Rattle.yaml_lines.specs.Meaning.{Meaning}
-use Rattle.hook_config.specs.Kinds.{text_of, truth_of, texts_of, stages_of, empty_text_of, empty_texts_of, kind_or}
+use Rattle.hook_config.specs.Kinds.{text_of, truth_of, texts_of_list, stages_of, empty_text_of, empty_texts_of, kind_or}
 use Rattle.hook_config.specs.Languages.{language_name_of}
 use Rattle.hook_config.specs.Patterns.{pattern_of, every_path, no_path}
-use Rattle.hook_config.specs.Rows.{Row, value_at, list_of}
+use Rattle.hook_config.specs.Rows.{ConfigurationRow, value_of_key, list_of}
 use Rattle.hook_config.specs.Stages.{all_stages}
 use Rattle.hook_config.specs.declared.known_keys.KeyKind.{KeyKind}
 use Rattle.hook_config.specs.declared.known_keys.KeyKind.TheVariants.{RequiredText, RequiredList, Text, Texts, Truth, Pattern, Ignored}
@@ -15,18 +15,18 @@ use Rattle.hook_config.specs.declared.languages.LanguageName.{LanguageName}
 use Rattle.hook_config.specs.declared.stage.Stages.{Stages}
 
 -- a key has to be there if its `absent` is none
-pub record Key (A : Type 0) : Type 0 where
+pub record ConfigurationKey (A : Type 0) : Type 0 where
   pub word : List ℕ
   pub wanted : KeyKind
   pub kind : Meaning → Option A
   pub absent : Option A
 
 -- the value at the key, or what it is if the key isn't there
-abbrev pub at_key : {A : Type 0} → Key A → List Row → Option A
-at_key key rows = kind_or key.kind key.absent (value_at key.word rows)
+abbrev pub at_key : {A : Type 0} → ConfigurationKey A → List ConfigurationRow → Option A
+at_key key rows = kind_or key.kind key.absent (value_of_key key.word rows)
 
 -- a key in the lists of known ones
-abbrev pub listed : {A : Type 0} → Key A → List ℕ × KeyKind
+abbrev pub listed : {A : Type 0} → ConfigurationKey A → List ℕ × KeyKind
 listed key = (key.word, key.wanted)
 
 -- whether one of the keys has the word
@@ -36,20 +36,21 @@ is_key (key ∷ keys) word = if bytes_eq key.0 word then true else is_key keys w
 
 -- ---- the table at the top
 
-abbrev pub default_stages : Key Stages
-default_stages = record { word = codes "default_stages"; wanted = Texts; kind = stages_of all_stages; absent = Some all_stages }
+abbrev pub default_stages : ConfigurationKey Stages
+default_stages =
+    record { word = codes "default_stages"; wanted = Texts; kind = stages_of all_stages; absent = Some all_stages }
 
 -- these are keys of a hook too
-abbrev pub files : Key (List ℕ)
+abbrev pub files : ConfigurationKey (List ℕ)
 files = record { word = codes "files"; wanted = Pattern; kind = pattern_of; absent = Some every_path }
 
-abbrev pub exclude : Key (List ℕ)
+abbrev pub exclude : ConfigurationKey (List ℕ)
 exclude = record { word = codes "exclude"; wanted = Pattern; kind = pattern_of; absent = Some no_path }
 
-abbrev pub fail_fast : Key Bool
+abbrev pub fail_fast : ConfigurationKey Bool
 fail_fast = record { word = codes "fail_fast"; wanted = Truth; kind = truth_of; absent = Some false }
 
-abbrev pub repos : Key (List Meaning)
+abbrev pub repos : ConfigurationKey (List Meaning)
 repos = record { word = codes "repos"; wanted = RequiredList; kind = list_of; absent = None }
 
 -- the keys that are read, in their order, and then those that are read and ignored
@@ -68,10 +69,10 @@ top_keys =
 
 -- ---- a repository's table
 
-abbrev pub repo : Key (List ℕ)
+abbrev pub repo : ConfigurationKey (List ℕ)
 repo = record { word = codes "repo"; wanted = RequiredText; kind = text_of; absent = None }
 
-abbrev pub hooks : Key (List Meaning)
+abbrev pub hooks : ConfigurationKey (List Meaning)
 hooks = record { word = codes "hooks"; wanted = RequiredList; kind = list_of; absent = None }
 
 abbrev pub repository_keys : List (List ℕ × KeyKind)
@@ -87,57 +88,58 @@ local_word = codes "local"
 abbrev pub file_word : List ℕ
 file_word = codes "file"
 
-abbrev pub log_file : Key (List ℕ)
+abbrev pub log_file : ConfigurationKey (List ℕ)
 log_file = record { word = codes "log_file"; wanted = Text; kind = empty_text_of; absent = Some [] }
 
-abbrev pub additional_dependencies : Key (List (List ℕ))
-additional_dependencies = record { word = codes "additional_dependencies"; wanted = Texts; kind = empty_texts_of; absent = Some [] }
+abbrev pub additional_dependencies : ConfigurationKey (List (List ℕ))
+additional_dependencies =
+    record { word = codes "additional_dependencies"; wanted = Texts; kind = empty_texts_of; absent = Some [] }
 
-abbrev pub id : Key (List ℕ)
+abbrev pub id : ConfigurationKey (List ℕ)
 id = record { word = codes "id"; wanted = RequiredText; kind = text_of; absent = None }
 
-abbrev pub name : Key (List ℕ)
+abbrev pub name : ConfigurationKey (List ℕ)
 name = record { word = codes "name"; wanted = RequiredText; kind = text_of; absent = None }
 
-abbrev pub alias : Key (List ℕ)
+abbrev pub alias : ConfigurationKey (List ℕ)
 alias = record { word = codes "alias"; wanted = Text; kind = text_of; absent = Some [] }
 
-abbrev pub language : Key LanguageName
+abbrev pub language : ConfigurationKey LanguageName
 language = record { word = codes "language"; wanted = RequiredText; kind = language_name_of; absent = None }
 
-abbrev pub entry : Key (List ℕ)
+abbrev pub entry : ConfigurationKey (List ℕ)
 entry = record { word = codes "entry"; wanted = RequiredText; kind = text_of; absent = None }
 
-abbrev pub args : Key (List (List ℕ))
-args = record { word = codes "args"; wanted = Texts; kind = texts_of; absent = Some [] }
+abbrev pub args : ConfigurationKey (List (List ℕ))
+args = record { word = codes "args"; wanted = Texts; kind = texts_of_list; absent = Some [] }
 
-abbrev pub types : Key (List (List ℕ))
-types = record { word = codes "types"; wanted = Texts; kind = texts_of; absent = Some (file_word ∷ []) }
+abbrev pub types : ConfigurationKey (List (List ℕ))
+types = record { word = codes "types"; wanted = Texts; kind = texts_of_list; absent = Some (file_word ∷ []) }
 
-abbrev pub types_or : Key (List (List ℕ))
-types_or = record { word = codes "types_or"; wanted = Texts; kind = texts_of; absent = Some [] }
+abbrev pub types_or : ConfigurationKey (List (List ℕ))
+types_or = record { word = codes "types_or"; wanted = Texts; kind = texts_of_list; absent = Some [] }
 
-abbrev pub exclude_types : Key (List (List ℕ))
-exclude_types = record { word = codes "exclude_types"; wanted = Texts; kind = texts_of; absent = Some [] }
+abbrev pub exclude_types : ConfigurationKey (List (List ℕ))
+exclude_types = record { word = codes "exclude_types"; wanted = Texts; kind = texts_of_list; absent = Some [] }
 
 -- with these default stages
-abbrev pub stages : Stages → Key Stages
+abbrev pub stages : Stages → ConfigurationKey Stages
 stages default = record { word = codes "stages"; wanted = Texts; kind = stages_of default; absent = Some default }
 
-abbrev pub always_run : Key Bool
+abbrev pub always_run : ConfigurationKey Bool
 always_run = record { word = codes "always_run"; wanted = Truth; kind = truth_of; absent = Some false }
 
-abbrev pub verbose : Key Bool
+abbrev pub verbose : ConfigurationKey Bool
 verbose = record { word = codes "verbose"; wanted = Truth; kind = truth_of; absent = Some false }
 
-abbrev pub pass_filenames : Key Bool
+abbrev pub pass_filenames : ConfigurationKey Bool
 pass_filenames = record { word = codes "pass_filenames"; wanted = Truth; kind = truth_of; absent = Some true }
 
 -- these two are keys of this runner: pre-commit has neither
-abbrev pub x_reads : Key (List ℕ)
+abbrev pub x_reads : ConfigurationKey (List ℕ)
 x_reads = record { word = codes "x_reads"; wanted = Pattern; kind = pattern_of; absent = Some no_path }
 
-abbrev pub x_per_file : Key Bool
+abbrev pub x_per_file : ConfigurationKey Bool
 x_per_file = record { word = codes "x_per_file"; wanted = Truth; kind = truth_of; absent = Some false }
 
 -- the keys that are read, in their order, and then those that are read and ignored
@@ -172,5 +174,5 @@ hook_keys =
 -- ---- for contracts of functions that hold these lists
 
 -- the rows of a slice
-abbrev pub key_rows : List (Bor (List ℕ) × KeyKind) → List (List ℕ × KeyKind)
-key_rows keys = map (λ (key : Bor (List ℕ) × KeyKind). (key.0.now, key.1)) keys
+abbrev pub rows_of_known_keys : List (Bor (List ℕ) × KeyKind) → List (List ℕ × KeyKind)
+rows_of_known_keys keys = map (λ (key : Bor (List ℕ) × KeyKind). (key.0.now, key.1)) keys

@@ -1,7 +1,7 @@
 -- The languages, and how each runs a hook's entry (pre-commit.com, "Supported languages": "fail", "pygrep",
 -- "script", "system").
 use Rattle.std.specs.Prelude.{ℕ, List, codes, ◌&&◌, bytes_eq, if◌then◌else◌, is_some, Option, Some, None, option_map, option_and_then}
-use Rattle.builtin_hooks.specs.Search.{Search, are_known, pattern_of, search_of}
+use Rattle.builtin_hooks.specs.Search.{Search, are_known, pattern_of_search, search_of}
 use Rattle.yaml_lines.specs.Meaning.{Meaning}
 use Rattle.hook_config.specs.CommandWords.{command_words_of}
 use Rattle.hook_config.specs.Kinds.{text_of}
@@ -38,7 +38,7 @@ language_name_of value = option_and_then name_of_word (text_of value)
 -- grammar reads a pattern in the entry
 unfoldable pub grep_of : List ℕ → List (List ℕ) → Option Search
 grep_of entry args =
-    if are_known args && is_some (pattern_of (search_of entry args)) then Some (search_of entry args) else None
+    if are_known args && is_some (pattern_of_search (search_of entry args)) then Some (search_of entry args) else None
 
 -- the language of this name, for an entry and its arguments
 abbrev pub language_of : LanguageName → List ℕ → List (List ℕ) → Option Language

@@ -16,33 +16,33 @@ use Rattle.hook_config.specs.declared.config_fault.ConfigFault.{ConfigFault}
 use Rattle.hook_config.specs.declared.config_fault.ConfigKind.{ConfigKind}
 use Rattle.hook_config.specs.declared.config_fault.ConfigKind.TheVariants.{Yaml, Shape, MissingKey, BadStage, BadLanguage, RemoteRepo, BadPattern, BadEntry, BadArgs, Unsupported, TooMany, OutOfMemory}
 
-abbrev pub number_of : ConfigKind → ℕ
-number_of (Yaml fault) = 1
-number_of Shape = 2
-number_of MissingKey = 3
-number_of BadStage = 4
-number_of BadLanguage = 5
-number_of RemoteRepo = 6
-number_of BadPattern = 7
-number_of BadEntry = 8
-number_of BadArgs = 9
-number_of Unsupported = 10
-number_of TooMany = 11
-number_of OutOfMemory = 12
+abbrev pub configuration_fault_number : ConfigKind → ℕ
+configuration_fault_number (Yaml fault) = 1
+configuration_fault_number Shape = 2
+configuration_fault_number MissingKey = 3
+configuration_fault_number BadStage = 4
+configuration_fault_number BadLanguage = 5
+configuration_fault_number RemoteRepo = 6
+configuration_fault_number BadPattern = 7
+configuration_fault_number BadEntry = 8
+configuration_fault_number BadArgs = 9
+configuration_fault_number Unsupported = 10
+configuration_fault_number TooMany = 11
+configuration_fault_number OutOfMemory = 12
 
-abbrev pub name_of : ConfigKind → List ℕ
-name_of (Yaml fault) = codes "Yaml"
-name_of Shape = codes "Shape"
-name_of MissingKey = codes "MissingKey"
-name_of BadStage = codes "BadStage"
-name_of BadLanguage = codes "BadLanguage"
-name_of RemoteRepo = codes "RemoteRepo"
-name_of BadPattern = codes "BadPattern"
-name_of BadEntry = codes "BadEntry"
-name_of BadArgs = codes "BadArgs"
-name_of Unsupported = codes "Unsupported"
-name_of TooMany = codes "TooMany"
-name_of OutOfMemory = codes "OutOfMemory"
+abbrev pub configuration_fault_name : ConfigKind → List ℕ
+configuration_fault_name (Yaml fault) = codes "Yaml"
+configuration_fault_name Shape = codes "Shape"
+configuration_fault_name MissingKey = codes "MissingKey"
+configuration_fault_name BadStage = codes "BadStage"
+configuration_fault_name BadLanguage = codes "BadLanguage"
+configuration_fault_name RemoteRepo = codes "RemoteRepo"
+configuration_fault_name BadPattern = codes "BadPattern"
+configuration_fault_name BadEntry = codes "BadEntry"
+configuration_fault_name BadArgs = codes "BadArgs"
+configuration_fault_name Unsupported = codes "Unsupported"
+configuration_fault_name TooMany = codes "TooMany"
+configuration_fault_name OutOfMemory = codes "OutOfMemory"
 
 -- a fault of the text, at its line
 abbrev pub in_line : YamlFault → ConfigFault
@@ -82,9 +82,9 @@ of_words words.NothingEscaped = BadEntry
 of_words words.OutOfMemory = OutOfMemory
 
 -- the refusal of a text that has too many bytes
-abbrev pub too_large : ConfigFault
-too_large = in_line too_large_text
+abbrev pub too_large_configuration : ConfigFault
+too_large_configuration = in_line too_large_text
 
 -- more bytes than a text may have give this refusal
-abbrev pub TellsTooLarge : List ℕ → ConfigFault → Type 0
-TellsTooLarge bytes fault = most_bytes + 1 ≤ length bytes → fault ≡ too_large
+abbrev pub TellsLargeConfiguration : List ℕ → ConfigFault → Type 0
+TellsLargeConfiguration bytes fault = most_bytes + 1 ≤ length bytes → fault ≡ too_large_configuration

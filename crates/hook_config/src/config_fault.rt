@@ -1,7 +1,7 @@
 //! Why bytes aren't a configuration, and where.
 
 ghost use Rattle.std.specs.Prelude.{◌≡◌};
-ghost use Rattle.hook_config.specs.Refusals.{number_of, name_of};
+ghost use Rattle.hook_config.specs.Refusals.{configuration_fault_number, configuration_fault_name};
 
 use crate::limits::MOST_HOOKS;
 use arg_partition::WordsFault;
@@ -122,7 +122,7 @@ impl From<WordsFault> for ConfigKind {
 impl ConfigKind {
     /// The refusal's number, from 1 to 12.
     pub fn number(&self) -> u8
-        ensures { result ≡ number_of self.now }
+        ensures { result ≡ configuration_fault_number self.now }
     {
         match self {
             ConfigKind::Yaml(_) => 1,
@@ -142,7 +142,7 @@ impl ConfigKind {
 
     /// The refusal's name, as it is printed after its number.
     pub fn name(&self) -> &'static str
-        ensures { result.now ≡ name_of self.now }
+        ensures { result.now ≡ configuration_fault_name self.now }
     {
         match self {
             ConfigKind::Yaml(_) => "Yaml",
@@ -175,14 +175,14 @@ pub struct ConfigFault {
 impl ConfigFault {
     /// The refusal's number, from 1 to 12.
     pub fn number(&self) -> u8
-        ensures { result ≡ number_of self.now.kind }
+        ensures { result ≡ configuration_fault_number self.now.kind }
     {
         self.kind.number()
     }
 
     /// The refusal's name, as it is printed after its number.
     pub fn name(&self) -> &'static str
-        ensures { result.now ≡ name_of self.now.kind }
+        ensures { result.now ≡ configuration_fault_name self.now.kind }
     {
         self.kind.name()
     }

@@ -2,12 +2,12 @@
 
 ghost use Rattle.std.specs.Prelude.{◌≡◌, option_map, [], ◌∷◌};
 ghost use Rattle.yaml_lines.specs.View.{view};
-ghost use Rattle.hook_config.specs.Gives.{GivesValue, GivesSurely};
-ghost use Rattle.hook_config.specs.Kinds.{text_of, truth_of, texts_of, stages_of, empty_text_of, empty_texts_of, required, or_default};
+ghost use Rattle.hook_config.specs.Gives.{GivesValue, GivesValueSurely};
+ghost use Rattle.hook_config.specs.Kinds.{text_of, truth_of, texts_of_list, stages_of, empty_text_of, empty_texts_of, required, or_default};
 ghost use Rattle.hook_config.specs.KnownKeys.{file_word};
 ghost use Rattle.hook_config.specs.Languages.{language_name_of};
 ghost use Rattle.hook_config.specs.Patterns.{pattern_of};
-ghost use Rattle.hook_config.specs.Rows.{rows_of, meanings_of_nodes, value_at, list_of};
+ghost use Rattle.hook_config.specs.Rows.{rows_of, meanings_of_nodes, value_of_key, list_of};
 
 use crate::config_fault::ConfigKind;
 use crate::config_text::ConfigText;
@@ -25,7 +25,7 @@ use yaml_profile::Node;
 
 // The value in the first row that has the key.
 fn value_at<'a>(rows: &'a [(String, Node)], key: &str) -> Option<&'a Node>
-    ensures { option_map (λ value. view value.now) result ≡ value_at key.now (rows_of rows.now) }
+    ensures { option_map (λ value. view value.now) result ≡ value_of_key key.now (rows_of rows.now) }
 {
     for (name, value) in rows {
         if name.as_str() == key {
@@ -37,7 +37,7 @@ fn value_at<'a>(rows: &'a [(String, Node)], key: &str) -> Option<&'a Node>
 
 /// The value at a key that has to be there, otherwise `MissingKey`.
 pub(crate) fn required<'a>(rows: &'a [(String, Node)], key: &str) -> Result<&'a Node, ConfigKind>
-    ensures { GivesSurely (λ value. view value.now) result (value_at key.now (rows_of rows.now)) }
+    ensures { GivesValueSurely (λ value. view value.now) result (value_of_key key.now (rows_of rows.now)) }
 {
     value_at(rows, key).ok_or(ConfigKind::MissingKey)
 }
@@ -58,7 +58,7 @@ pub(crate) fn required_language(
     rows: &[(String, Node)],
     key: &str,
 ) -> Result<LanguageName, ConfigKind>
-    ensures { GivesSurely (λ name. name) result (required language_name_of key.now (rows_of rows.now)) }
+    ensures { GivesValueSurely (λ name. name) result (required language_name_of key.now (rows_of rows.now)) }
 {
     let word = text_in(required(rows, key)?)?;
     LanguageName::of_word(word).ok_or(ConfigKind::BadLanguage)
@@ -69,7 +69,8 @@ pub(crate) fn required_list<'a>(
     rows: &'a [(String, Node)],
     key: &str,
 ) -> Result<&'a [Node], ConfigKind>
-    ensures { GivesSurely (λ items. meanings_of_nodes items.now) result (required list_of key.now (rows_of rows.now)) }
+    ensures { GivesValueSurely (λ items. meanings_of_nodes items.now) result
+        (required list_of key.now (rows_of rows.now)) }
 {
     list_of(required(rows, key)?)
 }
@@ -94,7 +95,7 @@ pub(crate) fn truth_or(
     key: &str,
     default: bool,
 ) -> Result<bool, ConfigKind>
-    ensures { GivesSurely (λ truth. truth) result (or_default truth_of default key.now (rows_of rows.now)) }
+    ensures { GivesValueSurely (λ truth. truth) result (or_default truth_of default key.now (rows_of rows.now)) }
 {
     match value_at(rows, key) {
         Some(value) => truth_of(value),
@@ -108,7 +109,7 @@ pub(crate) fn texts_or_none(
     rows: &[(String, Node)],
     key: &str,
 ) -> Result<Items<ConfigText>, ConfigKind>
-    ensures { GivesValue (λ texts. texts) result (or_default texts_of [] key.now (rows_of rows.now)) }
+    ensures { GivesValue (λ texts. texts) result (or_default texts_of_list [] key.now (rows_of rows.now)) }
 {
     match value_at(rows, key) {
         Some(value) => texts_of(alloc, value),
@@ -137,7 +138,7 @@ pub(crate) fn tags_or_none(
     rows: &[(String, Node)],
     key: &str,
 ) -> Result<TagNames, ConfigKind>
-    ensures { GivesValue (λ tags. tags) result (or_default texts_of [] key.now (rows_of rows.now)) }
+    ensures { GivesValue (λ tags. tags) result (or_default texts_of_list [] key.now (rows_of rows.now)) }
 {
     match value_at(rows, key) {
         Some(value) => tags_of(alloc, value),
@@ -151,7 +152,7 @@ pub(crate) fn tags_or_file(
     rows: &[(String, Node)],
     key: &str,
 ) -> Result<TagNames, ConfigKind>
-    ensures { GivesValue (λ tags. tags) result (or_default texts_of (file_word ∷ []) key.now (rows_of rows.now)) }
+    ensures { GivesValue (λ tags. tags) result (or_default texts_of_list (file_word ∷ []) key.now (rows_of rows.now)) }
 {
     match value_at(rows, key) {
         Some(value) => tags_of(alloc, value),
@@ -165,7 +166,8 @@ pub(crate) fn stages_or(
     key: &str,
     default: Stages,
 ) -> Result<Stages, ConfigKind>
-    ensures { GivesSurely (λ stages. stages) result (or_default (stages_of default) default key.now (rows_of rows.now)) }
+    ensures { GivesValueSurely (λ stages. stages) result
+        (or_default (stages_of default) default key.now (rows_of rows.now)) }
 {
     match value_at(rows, key) {
         Some(value) => stages_of(value, default),
@@ -179,7 +181,7 @@ pub(crate) fn empty_text_at(
     rows: &[(String, Node)],
     key: &str,
 ) -> Result<ConfigText, ConfigKind>
-    ensures { GivesSurely (λ owned. owned) result (or_default empty_text_of [] key.now (rows_of rows.now)) }
+    ensures { GivesValueSurely (λ owned. owned) result (or_default empty_text_of [] key.now (rows_of rows.now)) }
 {
     match value_at(rows, key) {
         Some(value) => empty_text_of(alloc, value),
@@ -193,7 +195,7 @@ pub(crate) fn empty_texts_at(
     rows: &[(String, Node)],
     key: &str,
 ) -> Result<Items<ConfigText>, ConfigKind>
-    ensures { GivesSurely (λ texts. texts) result (or_default empty_texts_of [] key.now (rows_of rows.now)) }
+    ensures { GivesValueSurely (λ texts. texts) result (or_default empty_texts_of [] key.now (rows_of rows.now)) }
 {
     match value_at(rows, key) {
         Some(value) => empty_texts_of(alloc, value),

@@ -1,8 +1,8 @@
 //! The fields of a hook, in the groups in which they are read. Of several faults the first in this order is
 //! reported.
 
-ghost use Rattle.hook_config.specs.Gives.{GivesValue, GivesSurely};
-ghost use Rattle.hook_config.specs.HookTable.{command_of, conditions_of, names_of, reads_of, selection_of, switches_of, unserved_of};
+ghost use Rattle.hook_config.specs.Gives.{GivesValue, GivesValueSurely};
+ghost use Rattle.hook_config.specs.HookTable.{command_keys_of, conditions_of, hook_names_of, reads_of, selection_of, switches_of, unserved_of};
 ghost use Rattle.hook_config.specs.Rows.{rows_of};
 
 use crate::config_fault::ConfigKind;
@@ -30,7 +30,7 @@ pub(crate) struct Unserved {
 
 #[tactic(auto, unfolding(crate::specs::HookTable::unserved_of))]
 pub(crate) fn unserved_of(alloc: Global, rows: &[(String, Node)]) -> Result<Unserved, ConfigKind>
-    ensures { GivesSurely (λ unserved. unserved) result (unserved_of (rows_of rows.now)) }
+    ensures { GivesValueSurely (λ unserved. unserved) result (unserved_of (rows_of rows.now)) }
 {
     Ok(Unserved {
         log_file: empty_text_at(alloc, rows, "log_file")?,
@@ -46,9 +46,9 @@ pub(crate) struct Names {
     pub(crate) alias: ConfigText,
 }
 
-#[tactic(auto, unfolding(crate::specs::HookTable::names_of))]
+#[tactic(auto, unfolding(crate::specs::HookTable::hook_names_of))]
 pub(crate) fn names_of(alloc: Global, rows: &[(String, Node)]) -> Result<Names, ConfigKind>
-    ensures { GivesValue (λ names. names) result (names_of (rows_of rows.now)) }
+    ensures { GivesValue (λ names. names) result (hook_names_of (rows_of rows.now)) }
 {
     Ok(Names {
         id: required_text(alloc, rows, "id")?,
@@ -59,21 +59,21 @@ pub(crate) fn names_of(alloc: Global, rows: &[(String, Node)]) -> Result<Names, 
 
 /// What a hook runs.
 #[derive(Drop)]
-pub(crate) struct Command {
+pub(crate) struct CommandKeys {
     pub(crate) language: Language,
     pub(crate) entry: ConfigText,
     pub(crate) args: Items<ConfigText>,
 }
 
-#[tactic(auto, unfolding(crate::specs::HookTable::command_of))]
-pub(crate) fn command_of(alloc: Global, rows: &[(String, Node)]) -> Result<Command, ConfigKind>
-    ensures { GivesValue (λ command. command) result (command_of (rows_of rows.now)) }
+#[tactic(auto, unfolding(crate::specs::HookTable::command_keys_of))]
+pub(crate) fn command_of(alloc: Global, rows: &[(String, Node)]) -> Result<CommandKeys, ConfigKind>
+    ensures { GivesValue (λ command. command) result (command_keys_of (rows_of rows.now)) }
 {
     let name = required_language(rows, "language")?;
     let entry = required_text(alloc, rows, "entry")?;
     let args = texts_or_none(alloc, rows, "args")?;
     let language = language_of(alloc, name, &entry, args.as_slice())?;
-    Ok(Command {
+    Ok(CommandKeys {
         language,
         entry,
         args,
@@ -122,7 +122,7 @@ pub(crate) fn switches_of(
     rows: &[(String, Node)],
     defaults: &Defaults,
 ) -> Result<Switches, ConfigKind>
-    ensures { GivesSurely (λ switches. switches) result (switches_of defaults.now (rows_of rows.now)) }
+    ensures { GivesValueSurely (λ switches. switches) result (switches_of defaults.now (rows_of rows.now)) }
 {
     Ok(Switches {
         stages: stages_or(rows, "stages", defaults.stages())?,

@@ -2,7 +2,7 @@
 
 ghost use Rattle.std.specs.Prelude.{◌≡◌};
 ghost use Rattle.yaml_lines.specs.View.{view};
-ghost use Rattle.hook_config.specs.Gives.{GivesValue, GivesSurely};
+ghost use Rattle.hook_config.specs.Gives.{GivesValue, GivesValueSurely};
 ghost use Rattle.hook_config.specs.HookTable.{hook_of, hook_of_fields, hook_of_groups, hook_with};
 ghost use Rattle.hook_config.specs.Rows.{rows_of};
 
@@ -10,7 +10,7 @@ use crate::config_fault::ConfigKind;
 use crate::configuration::Hook;
 use crate::defaults::Defaults;
 use crate::hook_parts::{
-    Command, Conditions, Names, Unserved, command_of, conditions_of, names_of, unserved_of,
+    CommandKeys, Conditions, Names, Unserved, command_of, conditions_of, names_of, unserved_of,
 };
 use crate::kinds::table_of;
 use std::alloc::Global;
@@ -46,7 +46,7 @@ fn hook_with(
     defaults: &Defaults,
     unserved: Unserved,
     names: Names,
-    command: Command,
+    command: CommandKeys,
 ) -> Result<Hook, ConfigKind>
     ensures { GivesValue (λ hook. hook) result (hook_with defaults.now (rows_of rows.now) unserved names command) }
 {
@@ -59,7 +59,7 @@ fn hook_with(
 fn hook_of_groups(
     unserved: Unserved,
     names: Names,
-    command: Command,
+    command: CommandKeys,
     conditions: Conditions,
 ) -> Hook
     ensures { result ≡ hook_of_groups unserved names command conditions }

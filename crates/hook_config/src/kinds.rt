@@ -2,10 +2,10 @@
 
 ghost use Rattle.std.specs.Prelude.{◌≡◌, IfOk};
 ghost use Rattle.yaml_lines.specs.View.{view};
-ghost use Rattle.hook_config.specs.Gives.{GivesValue, GivesSurely};
+ghost use Rattle.hook_config.specs.Gives.{GivesValue, GivesValueSurely};
 ghost use Rattle.hook_config.specs.Kinds.{text_of, truth_of, truth_of_word};
 ghost use Rattle.hook_config.specs.Limits.{IsShort};
-ghost use Rattle.hook_config.specs.Rows.{Row, rows_of, meanings_of_nodes, table_of, list_of, is_among, texts};
+ghost use Rattle.hook_config.specs.Rows.{ConfigurationRow, rows_of, meanings_of_nodes, table_of, list_of, is_known_word, texts};
 
 use crate::config_fault::ConfigKind;
 use crate::config_text::ConfigText;
@@ -14,7 +14,7 @@ use std::alloc::Global;
 use yaml_profile::Node;
 
 pub(crate) fn table_of<'a>(node: &'a Node) -> Result<&'a [(String, Node)], ConfigKind>
-    ensures { GivesSurely (λ members. rows_of members.now) result (table_of (view node.now)) }
+    ensures { GivesValueSurely (λ members. rows_of members.now) result (table_of (view node.now)) }
 {
     match node {
         Node::Table(members) => Ok(members.as_slice()),
@@ -23,7 +23,7 @@ pub(crate) fn table_of<'a>(node: &'a Node) -> Result<&'a [(String, Node)], Confi
 }
 
 pub(crate) fn list_of<'a>(node: &'a Node) -> Result<&'a [Node], ConfigKind>
-    ensures { GivesSurely (λ items. meanings_of_nodes items.now) result (list_of (view node.now)) }
+    ensures { GivesValueSurely (λ items. meanings_of_nodes items.now) result (list_of (view node.now)) }
 {
     match node {
         Node::List(items) => Ok(items.as_slice()),
@@ -33,7 +33,7 @@ pub(crate) fn list_of<'a>(node: &'a Node) -> Result<&'a [Node], ConfigKind>
 
 /// A text, quoted or not, of at most `MOST_TEXT_BYTES` bytes. A longer text is `Shape`.
 pub(crate) fn text_in<'a>(node: &'a Node) -> Result<&'a str, ConfigKind>
-    ensures text { GivesSurely (λ text. text.now) result (text_of (view node.now)) }
+    ensures text { GivesValueSurely (λ text. text.now) result (text_of (view node.now)) }
     ensures within { IfOk result (λ text. IsShort text.now) }
 {
     match node {
@@ -52,7 +52,7 @@ pub(crate) fn text_of(alloc: Global, node: &Node) -> Result<ConfigText, ConfigKi
 
 /// Whether the word is one of these.
 pub(crate) fn is_among(words: &[&str], word: &str) -> bool
-    ensures { result ≡ is_among (texts words.now) word.now }
+    ensures { result ≡ is_known_word (texts words.now) word.now }
 {
     for known in words {
         if *known == word {
@@ -74,7 +74,7 @@ const FALSE_WORDS: [&str; 9] = [
 
 /// The truth that an unquoted word names. A quoted one is a text, and so `Shape`.
 pub(crate) fn truth_of(node: &Node) -> Result<bool, ConfigKind>
-    ensures { GivesSurely (λ truth. truth) result (truth_of (view node.now)) }
+    ensures { GivesValueSurely (λ truth. truth) result (truth_of (view node.now)) }
 {
     match node {
         Node::Text {

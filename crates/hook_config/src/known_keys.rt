@@ -6,7 +6,7 @@
 //! under "A hook key".
 
 ghost use Rattle.std.specs.Prelude.{◌≡◌};
-ghost use Rattle.hook_config.specs.KnownKeys.{hook_keys, is_key, key_rows, repository_keys, top_keys};
+ghost use Rattle.hook_config.specs.KnownKeys.{hook_keys, is_key, rows_of_known_keys, repository_keys, top_keys};
 
 /// What the value at a key has to be.
 #[derive(Clone, Copy, Debug, PartialEq, Eq)]
@@ -30,7 +30,7 @@ pub enum KeyKind {
 /// The keys of the table at the top, in the order in which they are read, and then those that are ignored.
 /// Any other key is ignored too, and listed in [`Config::unknown`](crate::Config::unknown).
 pub fn top_keys() -> &'static [(&'static str, KeyKind)]
-    ensures { key_rows result.now ≡ top_keys }
+    ensures { rows_of_known_keys result.now ≡ top_keys }
 {
     &[
         ("default_stages", KeyKind::Texts),
@@ -47,7 +47,7 @@ pub fn top_keys() -> &'static [(&'static str, KeyKind)]
 
 /// The keys of a repository's table, in the same order as those of [`top_keys`].
 pub fn repository_keys() -> &'static [(&'static str, KeyKind)]
-    ensures { key_rows result.now ≡ repository_keys }
+    ensures { rows_of_known_keys result.now ≡ repository_keys }
 {
     &[
         ("repo", KeyKind::RequiredText),
@@ -57,7 +57,7 @@ pub fn repository_keys() -> &'static [(&'static str, KeyKind)]
 
 /// The keys of a hook's table, in the same order as those of [`top_keys`].
 pub fn hook_keys() -> &'static [(&'static str, KeyKind)]
-    ensures { key_rows result.now ≡ hook_keys }
+    ensures { rows_of_known_keys result.now ≡ hook_keys }
 {
     &[
         ("log_file", KeyKind::Text),
@@ -89,7 +89,7 @@ pub fn hook_keys() -> &'static [(&'static str, KeyKind)]
 
 /// Whether one of the keys has the word.
 pub fn is_key(keys: &[(&str, KeyKind)], word: &str) -> bool
-    ensures { result ≡ is_key (key_rows keys.now) word.now }
+    ensures { result ≡ is_key (rows_of_known_keys keys.now) word.now }
 {
     for (key, _) in keys {
         if *key == word {

@@ -4,8 +4,8 @@ ghost use Rattle.std.specs.Prelude.{◌≡◌, Some, IfErr, IfOk};
 ghost use Rattle.yaml_lines.specs.View.{view};
 ghost use Rattle.yaml_profile.specs.Text.{meaning_of};
 ghost use Rattle.hook_config.specs.Configuration.{configuration_by, configuration_of, configuration_of_meaning, configuration_of_rows, configuration_with};
-ghost use Rattle.hook_config.specs.Gives.{Gives};
-ghost use Rattle.hook_config.specs.Refusals.{TellsTooLarge};
+ghost use Rattle.hook_config.specs.Gives.{GivesConfiguration};
+ghost use Rattle.hook_config.specs.Refusals.{TellsLargeConfiguration};
 ghost use Rattle.hook_config.specs.Rows.{rows_of};
 ghost use Rattle.hook_config.specs.ShortTexts.{HasShortTexts};
 
@@ -48,9 +48,9 @@ use yaml_profile::{Node, read};
 /// entry's pattern with `pygrep`, and the entry's words with `system` and `script`.
 #[tactic(auto, unfolding(crate::specs::Configuration::configuration_of))]
 pub fn read_config(alloc: Global, bytes: &[u8]) -> Result<Config, ConfigFault>
-    ensures meant { Gives (λ config. config) result (configuration_of bytes.now) }
+    ensures meant { GivesConfiguration (λ config. config) result (configuration_of bytes.now) }
     ensures within { IfOk result HasShortTexts }
-    ensures large { IfErr result (TellsTooLarge bytes.now) }
+    ensures large { IfErr result (TellsLargeConfiguration bytes.now) }
 {
     match read(alloc, bytes) {
         Ok(node) => config_of_node(alloc, &node),
@@ -72,10 +72,10 @@ pub struct ConfigWithNode {
 /// keep it until then.
 #[tactic(auto, unfolding(crate::specs::Configuration::configuration_of))]
 pub fn read_config_with_node(alloc: Global, bytes: &[u8]) -> Result<ConfigWithNode, ConfigFault>
-    ensures config { Gives (λ read. read.config) result (configuration_of bytes.now) }
+    ensures config { GivesConfiguration (λ read. read.config) result (configuration_of bytes.now) }
     ensures within { IfOk result (λ read. HasShortTexts read.config) }
     ensures node { IfOk result (λ read. meaning_of bytes.now ≡ Some (view read.node)) }
-    ensures large { IfErr result (TellsTooLarge bytes.now) }
+    ensures large { IfErr result (TellsLargeConfiguration bytes.now) }
 {
     let node = read(alloc, bytes)?;
     let config = config_of_node(alloc, &node)?;
@@ -85,14 +85,14 @@ pub fn read_config_with_node(alloc: Global, bytes: &[u8]) -> Result<ConfigWithNo
 /// The configuration that a text's node describes.
 #[tactic(auto, unfolding(crate::specs::Configuration::configuration_of_meaning))]
 pub(crate) fn config_of_node(alloc: Global, node: &Node) -> Result<Config, ConfigFault>
-    ensures { Gives (λ config. config) result (configuration_of_meaning (view node.now)) }
+    ensures { GivesConfiguration (λ config. config) result (configuration_of_meaning (view node.now)) }
 {
     config_of_rows(alloc, table_of(node)?)
 }
 
 #[tactic(auto, unfolding(crate::specs::Configuration::configuration_of_rows))]
 fn config_of_rows(alloc: Global, rows: &[(String, Node)]) -> Result<Config, ConfigFault>
-    ensures { Gives (λ config. config) result (configuration_of_rows (rows_of rows.now)) }
+    ensures { GivesConfiguration (λ config. config) result (configuration_of_rows (rows_of rows.now)) }
 {
     let stages = stages_or(rows, "default_stages", Stages::all())?;
     let defaults = Defaults::new(alloc, stages)?;
@@ -105,7 +105,7 @@ fn config_by(
     rows: &[(String, Node)],
     defaults: &Defaults,
 ) -> Result<Config, ConfigFault>
-    ensures { Gives (λ config. config) result (configuration_by defaults.now (rows_of rows.now)) }
+    ensures { GivesConfiguration (λ config. config) result (configuration_by defaults.now (rows_of rows.now)) }
 {
     let files = pattern_or(alloc, rows, "files", defaults.files())?;
     let exclude = pattern_or(alloc, rows, "exclude", defaults.exclude())?;
@@ -122,7 +122,8 @@ fn config_with(
     exclude: SharedPattern,
     fail_fast: bool,
 ) -> Result<Config, ConfigFault>
-    ensures { Gives (λ config. config) result (configuration_with defaults.now (rows_of rows.now) files exclude fail_fast) }
+    ensures { GivesConfiguration (λ config. config) result
+        (configuration_with defaults.now (rows_of rows.now) files exclude fail_fast) }
 {
     let hooks = hooks_of_repositories(alloc, required_list(rows, "repos")?, defaults)?;
     let unknown = unknown_of_top(alloc, rows)?;

@@ -2,7 +2,7 @@
 
 ghost use Rattle.std.specs.Prelude.{◌≤◌, length};
 ghost use Rattle.yaml_lines.specs.View.{view};
-ghost use Rattle.hook_config.specs.Gives.{Gives, GivesValue};
+ghost use Rattle.hook_config.specs.Gives.{GivesConfiguration, GivesValue};
 ghost use Rattle.hook_config.specs.Hooks.{after, hook_alone, hooks_of_list, hooks_of_repository, hooks_of_repositories};
 ghost use Rattle.hook_config.specs.Limits.{most_hooks};
 ghost use Rattle.hook_config.specs.Rows.{rows_of, meanings_of_nodes};
@@ -24,7 +24,8 @@ pub(crate) fn hooks_of_repositories(
     repositories: &[Node],
     defaults: &Defaults,
 ) -> Result<Vec<Hook>, ConfigFault>
-    ensures { Gives (λ hooks. hooks.items) result (hooks_of_repositories defaults.now (meanings_of_nodes repositories.now)) }
+    ensures { GivesConfiguration (λ hooks. hooks.items) result
+        (hooks_of_repositories defaults.now (meanings_of_nodes repositories.now)) }
 {
     let mut hooks = Vec::new(alloc);
     for repository in repositories {
@@ -41,7 +42,8 @@ fn add_repository(
     hooks: &mut Vec<Hook>,
 ) -> Result<(), ConfigFault>
     requires { length hooks.old.items ≤ most_hooks }
-    ensures { Gives (λ _. hooks.new.items) result (after hooks.old.items (hooks_of_repository defaults.now (view repository.now))) }
+    ensures { GivesConfiguration (λ _. hooks.new.items) result
+        (after hooks.old.items (hooks_of_repository defaults.now (view repository.now))) }
 {
     let rows = table_of(repository)?;
     if text_in(required(rows, "repo")?)? != "local" {
@@ -59,7 +61,8 @@ fn add_hooks(
     hooks: &mut Vec<Hook>,
 ) -> Result<(), ConfigFault>
     requires { length hooks.old.items ≤ most_hooks }
-    ensures { Gives (λ _. hooks.new.items) result (after hooks.old.items (hooks_of_list defaults.now (meanings_of_nodes tables.now))) }
+    ensures { GivesConfiguration (λ _. hooks.new.items) result
+        (after hooks.old.items (hooks_of_list defaults.now (meanings_of_nodes tables.now))) }
 {
     for table in tables {
         let number = hooks.len() as u64 + 1;
@@ -77,7 +80,8 @@ fn add_hook(
     defaults: &Defaults,
     hooks: &mut Vec<Hook>,
 ) -> Result<(), ConfigKind>
-    ensures { GivesValue (λ _. hooks.new.items) result (after hooks.old.items (hook_alone defaults.now (view table.now))) }
+    ensures { GivesValue (λ _. hooks.new.items) result
+        (after hooks.old.items (hook_alone defaults.now (view table.now))) }
 {
     if hooks.len() >= MOST_HOOKS {
         return Err(ConfigKind::TooMany);

@@ -3,7 +3,7 @@
 ghost use Rattle.std.specs.Prelude.{◌≡◌, [], ◌∷◌, IfOk, IfErr};
 ghost use Rattle.yaml_lines.specs.View.{view};
 ghost use Rattle.hook_config.specs.Gives.{GivesValue, IsLeftOpen};
-ghost use Rattle.hook_config.specs.Kinds.{each, text_of, texts_of};
+ghost use Rattle.hook_config.specs.Kinds.{each, text_of, texts_of_list};
 ghost use Rattle.hook_config.specs.KnownKeys.{file_word};
 ghost use Rattle.hook_config.specs.Rows.{meanings_of_nodes};
 
@@ -16,7 +16,7 @@ use yaml_profile::Node;
 
 /// A list of tags, which may be any texts. An item that is no text is `Shape`.
 pub(crate) fn tags_of(alloc: Global, node: &Node) -> Result<TagNames, ConfigKind>
-    ensures { GivesValue (λ tags. tags) result (texts_of (view node.now)) }
+    ensures { GivesValue (λ tags. tags) result (texts_of_list (view node.now)) }
 {
     tags_of_items(alloc, list_of(node)?)
 }

@@ -2,8 +2,8 @@
 
 ghost use Rattle.std.specs.Prelude.{◌≡◌};
 ghost use Rattle.yaml_lines.specs.View.{view};
-ghost use Rattle.hook_config.specs.Gives.{GivesValue, GivesSurely};
-ghost use Rattle.hook_config.specs.Kinds.{each, text_of, texts_of, empty_text_of, empty_texts_of};
+ghost use Rattle.hook_config.specs.Gives.{GivesValue, GivesValueSurely};
+ghost use Rattle.hook_config.specs.Kinds.{each, text_of, texts_of_list, empty_text_of, empty_texts_of};
 ghost use Rattle.hook_config.specs.Rows.{meanings_of_nodes};
 
 use crate::config_fault::ConfigKind;
@@ -15,7 +15,7 @@ use yaml_profile::Node;
 
 /// A list of texts. An item that is no text is `Shape`.
 pub(crate) fn texts_of(alloc: Global, node: &Node) -> Result<Items<ConfigText>, ConfigKind>
-    ensures { GivesValue (λ texts. texts) result (texts_of (view node.now)) }
+    ensures { GivesValue (λ texts. texts) result (texts_of_list (view node.now)) }
 {
     Ok(Items::from(texts_of_items(alloc, list_of(node)?)?))
 }
@@ -33,7 +33,7 @@ fn texts_of_items(alloc: Global, items: &[Node]) -> Result<Vec<ConfigText>, Conf
 
 /// The empty text. Another text is `Unsupported`.
 pub(crate) fn empty_text_of(alloc: Global, node: &Node) -> Result<ConfigText, ConfigKind>
-    ensures { GivesSurely (λ owned. owned) result (empty_text_of (view node.now)) }
+    ensures { GivesValueSurely (λ owned. owned) result (empty_text_of (view node.now)) }
 {
     if text_in(node)?.is_empty() {
         Ok(ConfigText::empty(alloc))
@@ -45,7 +45,7 @@ pub(crate) fn empty_text_of(alloc: Global, node: &Node) -> Result<ConfigText, Co
 /// The empty list. Another list of texts is `Unsupported`.
 #[tactic(auto, using(crate::proofs::TextLists::refused_texts))]
 pub(crate) fn empty_texts_of(alloc: Global, node: &Node) -> Result<Items<ConfigText>, ConfigKind>
-    ensures { GivesSurely (λ texts. texts) result (empty_texts_of (view node.now)) }
+    ensures { GivesValueSurely (λ texts. texts) result (empty_texts_of (view node.now)) }
 {
     let items = list_of(node)?;
     if items.is_empty() {

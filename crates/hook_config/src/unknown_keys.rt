@@ -5,7 +5,7 @@ ghost use Rattle.std.specs.List.{flat_map};
 ghost use Rattle.yaml_lines.specs.View.{view};
 ghost use Rattle.hook_config.specs.Rows.{rows_of, meanings_of_nodes};
 ghost use Rattle.hook_config.specs.UnknownKeys.{rows_in, items_in, unless_known, unknown_key, unknown_of_hook, unknown_of_repository, unknown_of_repository_row, unknown_of_top, unknown_of_top_row};
-ghost use Rattle.hook_config.specs.KnownKeys.{hook_keys, key_rows};
+ghost use Rattle.hook_config.specs.KnownKeys.{hook_keys, rows_of_known_keys};
 
 use crate::kinds::{list_of, table_of};
 use crate::known_keys::{KeyKind, hook_keys, is_key, repository_keys, top_keys};
@@ -36,7 +36,8 @@ fn add_of_repositories(
     repositories: &[Node],
     unknown: &mut Vec<Text>,
 ) -> Result<(), OutOfMemory>
-    ensures { OnOk result (unknown.new.items ≡ unknown.old.items ++ flat_map unknown_of_repository (meanings_of_nodes repositories.now)) }
+    ensures { OnOk result (unknown.new.items
+        ≡ unknown.old.items ++ flat_map unknown_of_repository (meanings_of_nodes repositories.now)) }
 {
     for repository in repositories {
         add_of_repository(alloc, rows_in(repository), unknown)?;
@@ -49,7 +50,8 @@ fn add_of_repository(
     rows: &[(String, Node)],
     unknown: &mut Vec<Text>,
 ) -> Result<(), OutOfMemory>
-    ensures { OnOk result (unknown.new.items ≡ unknown.old.items ++ flat_map unknown_of_repository_row (rows_of rows.now)) }
+    ensures { OnOk result (unknown.new.items
+        ≡ unknown.old.items ++ flat_map unknown_of_repository_row (rows_of rows.now)) }
 {
     for (key, value) in rows {
         if key.as_str() == "hooks" {
@@ -62,7 +64,8 @@ fn add_of_repository(
 }
 
 fn add_of_hooks(alloc: Global, hooks: &[Node], unknown: &mut Vec<Text>) -> Result<(), OutOfMemory>
-    ensures { OnOk result (unknown.new.items ≡ unknown.old.items ++ flat_map unknown_of_hook (meanings_of_nodes hooks.now)) }
+    ensures { OnOk result (unknown.new.items
+        ≡ unknown.old.items ++ flat_map unknown_of_hook (meanings_of_nodes hooks.now)) }
 {
     for hook in hooks {
         add_of_hook(alloc, rows_in(hook), unknown)?;
@@ -90,7 +93,7 @@ fn add_unless_known(
     known: &[(&str, KeyKind)],
     unknown: &mut Vec<Text>,
 ) -> Result<(), OutOfMemory>
-    ensures { OnOk result (unknown.new.items ≡ unknown.old.items ++ unless_known (key_rows known.now) key.now) }
+    ensures { OnOk result (unknown.new.items ≡ unknown.old.items ++ unless_known (rows_of_known_keys known.now) key.now) }
 {
     if !is_key(known, key) {
         unknown.push(Text::from(String::from_str(alloc, key)?))?;

@@ -10,11 +10,11 @@ use Rattle.report_text.specs.declared.hook_result.HookResult.{HookResult}
 use Rattle.report_text.specs.Report.{columns_of, greatest_width, report_text, width_of}
 use Rattle.child_port.specs.Outcomes.{after_outcome}
 use Rattle.child_port.specs.declared.answer.Outcome.{Outcome}
-use Rattle.hook_run.specs.declared.begun.Begun.{Begun}
-use Rattle.hook_run.specs.declared.begun.Begun.TheVariants.{Ended, Waits}
-use Rattle.hook_run.specs.declared.course.Course.{Course}
-use Rattle.hook_run.specs.declared.waiting.Waiting.{Waiting}
-use Rattle.hook_run.specs.declared.work.Work.{Work}
+use Rattle.hook_run.specs.declared.hook_state.HookState.{HookState}
+use Rattle.hook_run.specs.declared.hook_state.HookState.TheVariants.{Ended, Waits}
+use Rattle.hook_run.specs.declared.run_context.RunContext.{RunContext}
+use Rattle.hook_run.specs.declared.pending_part.PendingPart.{PendingPart}
+use Rattle.hook_run.specs.declared.running_hook.RunningHook.{RunningHook}
 use Rattle.hook_run.specs.declared.progress.Progress.{Progress}
 use Rattle.hook_run.specs.declared.run_out.RunOut.{RunOut}
 use Rattle.hook_run.specs.Asks.{names_of_run}
@@ -22,28 +22,28 @@ use Rattle.hook_run.specs.RunOuts.{out_of}
 use Rattle.hook_run.specs.HookRun.{IsEnding, commands_of}
 use Rattle.hook_run.specs.Parts.{Part}
 use Rattle.hook_run.specs.Plans.{AtHook, GoesOn, GoesOnAt, Plan, gathered_with, hooks_after, progress_with, result_of}
-use Rattle.hook_run.specs.Standing.{FitsName, FitsResults, HasBegun, HasGoneOn, IsCourse, IsFirstOf, IsPlanAt, IsPlanBehindHook, IsPlanFrom, IsSeenOn, IsToldFrom, at_hook, at_part, at_work, hooks_from, id_if, names_in, on_tree, part_at, with_gathered}
+use Rattle.hook_run.specs.PlanStates.{FitsName, FitsResults, HasBegun, HasGoneOn, IsCourse, IsFirstOf, IsPlanAt, IsPlanBehindHook, IsPlanFrom, IsSeenOn, IsToldFrom, at_hook, at_part, at_work, hooks_from, id_if, names_of_hooks, on_tree, part_at, with_gathered}
 use Rattle.hook_run.specs.PlanBounds.{most_left, most_of_hooks, parts_at}
 use Rattle.hook_run.proofs.BoundLemmas.{commands-short, most-after, most-shorter, outcome-shorter}
 use Rattle.hook_run.proofs.PlanLemmas.{hook-done, hook-ended, hook-waits, over-goes_on, part-told}
 
 -- whatever goes on from the second moment, goes on from the first
-pub record LeadsOn (course : Course) (first : Progress) (first_place : ℕ) (second : Progress) (second_place : ℕ) : Type 0 where
+pub record LeadsOn (course : RunContext) (first : Progress) (first_place : ℕ) (second : Progress) (second_place : ℕ) : Type 0 where
   pub leads : (parts : List Part) (out : RunOut) → GoesOn course.config.now course.ask.now second (hooks_from course second_place) parts out
       → GoesOn course.config.now course.ask.now first (hooks_from course first_place) parts out
   pub fits : FitsResults course second.results
   pub within : most_of_hooks (hooks_from course second_place) second.tree ≤ most_of_hooks (hooks_from course first_place) first.tree
 
-pub leads_on-none : (course : Course) (done : Progress) (place : ℕ) → FitsResults course done.results → LeadsOn course done place done place
+pub leads_on-none : (course : RunContext) (done : Progress) (place : ℕ) → FitsResults course done.results → LeadsOn course done place done place
 leads_on-none course done place fits = record { leads = λ parts out on. on; fits = fits; within = omega arith }
 
-pub hooks-left : (course : Course) (place : ℕ) (hook : Bor Hook) → place < length course.hooks.items → hook ≡ get_or course.hooks.items place hook
+pub hooks-left : (course : RunContext) (place : ℕ) (hook : Bor Hook) → place < length course.hooks.items → hook ≡ get_or course.hooks.items place hook
     → hooks_from course place ≡ hook.now ∷ hooks_from course (place + 1)
 hooks-left course place hook within is =
     ap (map (λ (h : Bor Hook). h.now)) (drop-cons course.hooks.items place hook within ∙ ap (λ (h : Bor Hook). h ∷ drop (suc place) course.hooks.items) (sym is)
     ∙ ap (λ n. hook ∷ drop n course.hooks.items) (sym (add-one place)))
 
-pub no-hooks : (course : Course) (place : ℕ) → length course.hooks.items ≤ place → hooks_from course place ≡ []
+pub no-hooks : (course : RunContext) (place : ℕ) → length course.hooks.items ≤ place → hooks_from course place ≡ []
 no-hooks course place past = ap (map (λ (h : Bor Hook). h.now)) (drop_of_length-le course.hooks.items past)
 
 name-below : (hooks : List (Bor Hook)) (place : ℕ) (hook : Bor Hook) → place < length hooks → hook ≡ get_or hooks place hook
@@ -53,23 +53,23 @@ name-below (first ∷ hooks) zero hook within is =
     let same : width_of hook.now.name ≡ width_of first.now.name = ap (λ (h : Bor Hook). width_of h.now.name) is in omega arith
 name-below (first ∷ hooks) (suc place) hook within is = let below = name-below hooks place hook (omega arith) is in omega arith
 
-pub name-fits : (course : Course) (place : ℕ) (hook : Bor Hook) → place < length course.hooks.items → hook ≡ get_or course.hooks.items place hook
+pub name-fits : (course : RunContext) (place : ℕ) (hook : Bor Hook) → place < length course.hooks.items → hook ≡ get_or course.hooks.items place hook
     → FitsName course hook.now.name
 name-fits course place hook within is = let below = name-below course.hooks.items place hook within is in omega arith
 
-pub results-fit : (course : Course) (results : List HookResult) (hook : Hook) (ending : Ending) → FitsResults course results → FitsName course hook.name
+pub results-fit : (course : RunContext) (results : List HookResult) (hook : Hook) (ending : Ending) → FitsResults course results → FitsName course hook.name
     → FitsResults course (results ++ result_of hook ending ∷ [])
 results-fit course results hook ending fits here =
-    All-append (λ one. width_of one.name + 30 ≤ columns_of (names_in course)) results (result_of hook ending ∷ []) fits
-    (All-cons (λ one. width_of one.name + 30 ≤ columns_of (names_in course)) (result_of hook ending) [] here (All-nil (λ one. width_of one.name + 30 ≤ columns_of (names_in course))))
+    All-append (λ one. width_of one.name + 30 ≤ columns_of (names_of_hooks course)) results (result_of hook ending ∷ []) fits
+    (All-cons (λ one. width_of one.name + 30 ≤ columns_of (names_of_hooks course)) (result_of hook ending) [] here (All-nil (λ one. width_of one.name + 30 ≤ columns_of (names_of_hooks course))))
 
-pub progress-fits : (course : Course) (done after : Progress) (hook : Hook) (ending : Ending) (ids : List (List ℕ)) (tree : List File)
+pub progress-fits : (course : RunContext) (done after : Progress) (hook : Hook) (ending : Ending) (ids : List (List ℕ)) (tree : List File)
     → after ≡ progress_with done hook ending ids tree → FitsResults course done.results → FitsName course hook.name → FitsResults course after.results
 progress-fits course done after hook ending ids tree made fits here =
     subst (λ (p : Progress). FitsResults course p.results) (sym made) (results-fit course done.results hook ending fits here)
 
 -- a hook that has ended without a child
-pub leads_on-ended : (course : Course) (first : Progress) (first_place : ℕ) (done after : Progress) (place next : ℕ) (hook : Hook) (ending : Ending) (unsteady : Bool)
+pub leads_on-ended : (course : RunContext) (first : Progress) (first_place : ℕ) (done after : Progress) (place next : ℕ) (hook : Hook) (ending : Ending) (unsteady : Bool)
     → LeadsOn course first first_place done place → hooks_from course place ≡ hook ∷ hooks_from course (place + 1) → FitsName course hook.name
     → IsEnding course.config.now course.ask.now done.tree hook [] ending → unsteady ≡ false
     → hooks_from course next ≡ hooks_after course.config.now hook ending (hooks_from course (place + 1))
@@ -93,7 +93,7 @@ leads_on-ended course first first_place done after place next hook ending unstea
 }
 
 -- a hook that waits
-pub leads_on-waits : (course : Course) (first : Progress) (first_place : ℕ) (done : Progress) (place : ℕ) (hook : Hook) (at : AtHook) (parts : List Part) (out : RunOut)
+pub leads_on-waits : (course : RunContext) (first : Progress) (first_place : ℕ) (done : Progress) (place : ℕ) (hook : Hook) (at : AtHook) (parts : List Part) (out : RunOut)
     → LeadsOn course first first_place done place → hooks_from course place ≡ hook ∷ hooks_from course (place + 1)
     → IsFirstOf (IsEnding course.config.now course.ask.now done.tree hook) hook done.tree at
     → GoesOnAt course.config.now course.ask.now done at (hooks_from course (place + 1)) parts out
@@ -103,7 +103,7 @@ leads_on-waits course first first_place done place hook at parts out so_far here
     (hook-waits course.config.now course.ask.now done hook (hooks_from course (place + 1)) at parts out begun on))
 
 -- the parts that may be left where it waits
-pub within-waits : (course : Course) (first : Progress) (first_place : ℕ) (done : Progress) (place : ℕ) (hook : Hook) (waiting : Waiting)
+pub within-waits : (course : RunContext) (first : Progress) (first_place : ℕ) (done : Progress) (place : ℕ) (hook : Hook) (waiting : PendingPart)
     → LeadsOn course first first_place done place → hooks_from course place ≡ hook ∷ hooks_from course (place + 1)
     → IsFirstOf (IsEnding course.config.now course.ask.now done.tree hook) hook done.tree (at_hook waiting)
     → parts_at (Some (at_part waiting)) + most_of_hooks (hooks_from course (place + 1)) done.tree ≤ most_of_hooks (hooks_from course first_place) first.tree
@@ -119,15 +119,15 @@ names-behind : (hooks : List (Bor Hook)) → map (λ hook. hook.now.name) hooks 
 names-behind [] = refl
 names-behind (hook ∷ hooks) = ap (λ names. hook.now.name ∷ names) (names-behind hooks)
 
-pub names-of_run : (course : Course) → IsCourse course → names_in course ≡ names_of_run course.config.now course.ask.now
+pub names-of_run : (course : RunContext) → IsCourse course → names_of_hooks course ≡ names_of_run course.config.now course.ask.now
 names-of_run course is = names-behind course.hooks.items ∙ ap (map (λ (hook : Hook). hook.name)) is.asked
 
-pub report-of_run : (course : Course) (results : List HookResult) (report : List ℕ) → IsCourse course → report ≡ report_text (names_in course) results
+pub report-of_run : (course : RunContext) (results : List HookResult) (report : List ℕ) → IsCourse course → report ≡ report_text (names_of_hooks course) results
     → report ≡ report_text (names_of_run course.config.now course.ask.now) results
 report-of_run course results report is made = made ∙ ap (λ names. report_text names results) (names-of_run course is)
 
 -- a plan that is over goes on with no hooks
-pub over-from : (course : Course) (done : Progress) (place : ℕ) (parts : List Part) (out : RunOut) → length course.hooks.items ≤ place
+pub over-from : (course : RunContext) (done : Progress) (place : ℕ) (parts : List Part) (out : RunOut) → length course.hooks.items ≤ place
     → parts ≡ [] → out ≡ out_of course.config.now course.ask.now done.results done.tree done.unsteady
     → GoesOn course.config.now course.ask.now done (hooks_from course place) parts out
 over-from course done place parts out past none is =
@@ -136,21 +136,21 @@ over-from course done place parts out past none is =
 
 -- ---- a hook that begins, by the way it goes on
 
-pub begun-waits : (EndsWith : List Part → Ending → Type 0) (hook : Hook) (tree : List File) (begun : Begun) (waiting : Waiting) → begun ≡ Waits waiting
+pub begun-waits : (EndsWith : List Part → Ending → Type 0) (hook : Hook) (tree : List File) (begun : HookState) (waiting : PendingPart) → begun ≡ Waits waiting
     → HasBegun EndsWith hook tree begun → IsFirstOf EndsWith hook tree (at_hook waiting) × IsSeenOn tree waiting
 begun-waits EndsWith hook tree begun waiting same is = subst (HasBegun EndsWith hook tree) same is
 
-pub begun-ended : (EndsWith : List Part → Ending → Type 0) (hook : Hook) (tree : List File) (begun : Begun) (ending : Ending) (unsteady : Bool) → begun ≡ Ended ending unsteady
+pub begun-ended : (EndsWith : List Part → Ending → Type 0) (hook : Hook) (tree : List File) (begun : HookState) (ending : Ending) (unsteady : Bool) → begun ≡ Ended ending unsteady
     → HasBegun EndsWith hook tree begun → EndsWith [] ending × (unsteady ≡ false)
 begun-ended EndsWith hook tree begun ending unsteady same is = subst (HasBegun EndsWith hook tree) same is
 
 -- ---- a part that is told
 
-abbrev told_at : Waiting → Outcome → Bool → AtHook
+abbrev told_at : PendingPart → Outcome → Bool → AtHook
 told_at waiting outcome unsteady = with_gathered (at_work waiting.work) (gathered_with waiting.work.gathered outcome unsteady)
 
 -- the run goes on at the hook from what the part left
-told-part : (course : Course) (done after : Progress) (place : ℕ) (waiting : Waiting) (outcome : Outcome) (unsteady : Bool) (parts : List Part) (out : RunOut)
+told-part : (course : RunContext) (done after : Progress) (place : ℕ) (waiting : PendingPart) (outcome : Outcome) (unsteady : Bool) (parts : List Part) (out : RunOut)
     → after ≡ on_tree done (after_outcome done.tree outcome)
     → GoesOnAt course.config.now course.ask.now after (told_at waiting outcome unsteady) (hooks_from course place) parts out
     → GoesOnAt course.config.now course.ask.now done (at_hook waiting) (hooks_from course place) (part_at waiting done.tree outcome unsteady ∷ parts) out
@@ -159,7 +159,7 @@ told-part course done after place waiting outcome unsteady parts out left on =
     (commands_of waiting.work.words waiting.work.names (drop waiting.work.begun waiting.work.cuts)) waiting.work.gathered (hooks_from course place) outcome unsteady parts out
     (subst (λ (p : Progress). GoesOnAt course.config.now course.ask.now p (told_at waiting outcome unsteady) (hooks_from course place) parts out) left on)
 
-pub told-part_if : {E : Type 0} (course : Course) (done after : Progress) (place : ℕ) (waiting : Waiting) (work : Work) (outcome : Outcome) (unsteady : Bool) (result : Result Plan E)
+pub told-part_if : {E : Type 0} (course : RunContext) (done after : Progress) (place : ℕ) (waiting : PendingPart) (work : RunningHook) (outcome : Outcome) (unsteady : Bool) (result : Result Plan E)
     → after ≡ on_tree done (after_outcome done.tree outcome)
     → at_work work ≡ with_gathered (at_work waiting.work) (gathered_with waiting.work.gathered outcome unsteady)
     → IfOk result (IsPlanAt course after place (at_work work)) → IfOk result (IsToldFrom course done place waiting outcome unsteady)
@@ -170,7 +170,7 @@ told-part_if course done after place waiting work outcome unsteady (Err refusal)
 
 -- ---- a hook that goes on, by the way it does
 
-pub waits-at : (course : Course) (done : Progress) (place : ℕ) (at : AtHook) (begun : Begun) (waiting : Waiting) (parts : List Part) (out : RunOut)
+pub waits-at : (course : RunContext) (done : Progress) (place : ℕ) (at : AtHook) (begun : HookState) (waiting : PendingPart) (parts : List Part) (out : RunOut)
     → begun ≡ Waits waiting → HasGoneOn at done.tree begun
     → GoesOnAt course.config.now course.ask.now done (at_hook waiting) (hooks_from course place) parts out
     → GoesOnAt course.config.now course.ask.now done at (hooks_from course place) parts out
@@ -178,7 +178,7 @@ waits-at course done place at begun waiting parts out same gone on =
     let is = subst (HasGoneOn at done.tree) same gone in
     subst (λ (a : AtHook). GoesOnAt course.config.now course.ask.now done a (hooks_from course place) parts out) is.0 on
 
-pub ended-at_if : {E : Type 0} (course : Course) (done : Progress) (place : ℕ) (at : AtHook) (begun : Begun) (ending : Ending) (mark : Bool) (result : Result Plan E)
+pub ended-at_if : {E : Type 0} (course : RunContext) (done : Progress) (place : ℕ) (at : AtHook) (begun : HookState) (ending : Ending) (mark : Bool) (result : Result Plan E)
     → begun ≡ Ended ending mark → HasGoneOn at done.tree begun
     → IfOk result (IsPlanBehindHook course done place at.hook ending mark) → IfOk result (IsPlanAt course done place at)
 ended-at_if course done place at begun ending mark (Ok plan) same gone from =
@@ -186,7 +186,7 @@ ended-at_if course done place at begun ending mark (Ok plan) same gone from =
     λ parts out on. hook-ended course.config.now course.ask.now done at (hooks_from course place) ending mark parts out is.0 is.1 is.2 (from parts out on)
 ended-at_if course done place at begun ending mark (Err refusal) same gone from = tt
 
-pub behind-hook_if : {E : Type 0} (course : Course) (done behind : Progress) (place next : ℕ) (hook : Hook) (ending : Ending) (mark : Bool) (result : Result Plan E)
+pub behind-hook_if : {E : Type 0} (course : RunContext) (done behind : Progress) (place next : ℕ) (hook : Hook) (ending : Ending) (mark : Bool) (result : Result Plan E)
     → hooks_from course next ≡ hooks_after course.config.now hook ending (hooks_from course place)
     → behind ≡ progress_with done hook ending (id_if mark hook) done.tree
     → IfOk result (IsPlanFrom course behind next) → IfOk result (IsPlanBehindHook course done place hook ending mark)
@@ -197,14 +197,14 @@ behind-hook_if course done behind place next hook ending mark (Err refusal) hook
 
 -- ---- how many parts may be left
 
-pub waits-within : (course : Course) (done : Progress) (place : ℕ) (at : AtHook) (begun : Begun) (waiting : Waiting) → begun ≡ Waits waiting → HasGoneOn at done.tree begun
+pub waits-within : (course : RunContext) (done : Progress) (place : ℕ) (at : AtHook) (begun : HookState) (waiting : PendingPart) → begun ≡ Waits waiting → HasGoneOn at done.tree begun
     → parts_at (Some (at_part waiting)) + most_of_hooks (hooks_from course place) done.tree ≤ length at.commands + most_of_hooks (hooks_from course place) done.tree
 waits-within course done place at begun waiting same gone =
     let is = subst (HasGoneOn at done.tree) same gone in
     let long = ap (λ (a : AtHook). length a.commands) is.0 in
     omega arith
 
-pub behind-within_if : {E : Type 0} (course : Course) (done behind : Progress) (place next : ℕ) (hook : Hook) (ending : Ending) (mark : Bool) (result : Result Plan E)
+pub behind-within_if : {E : Type 0} (course : RunContext) (done behind : Progress) (place next : ℕ) (hook : Hook) (ending : Ending) (mark : Bool) (result : Result Plan E)
     → hooks_from course next ≡ hooks_after course.config.now hook ending (hooks_from course place)
     → behind ≡ progress_with done hook ending (id_if mark hook) done.tree
     → IfOk result (λ plan. most_left plan ≤ most_of_hooks (hooks_from course next) behind.tree) → IfOk result (λ plan. most_left plan ≤ most_of_hooks (hooks_from course place) done.tree)
@@ -215,12 +215,13 @@ behind-within_if course done behind place next hook ending mark (Ok plan) hooks 
     omega arith
 behind-within_if course done behind place next hook ending mark (Err refusal) hooks made within = tt
 
-pub ended-within_if : {E : Type 0} (course : Course) (done : Progress) (place : ℕ) (at : AtHook) (result : Result Plan E)
-    → IfOk result (λ plan. most_left plan ≤ most_of_hooks (hooks_from course place) done.tree) → IfOk result (λ plan. most_left plan ≤ length at.commands + most_of_hooks (hooks_from course place) done.tree)
+pub ended-within_if : {E : Type 0} (course : RunContext) (done : Progress) (place : ℕ) (at : AtHook) (result : Result Plan E)
+    → IfOk result (λ plan. most_left plan ≤ most_of_hooks (hooks_from course place) done.tree)
+    → IfOk result (λ plan. most_left plan ≤ length at.commands + most_of_hooks (hooks_from course place) done.tree)
 ended-within_if course done place at (Ok plan) within = omega arith
 ended-within_if course done place at (Err refusal) within = tt
 
-pub told-within_if : {E : Type 0} (course : Course) (done after : Progress) (place : ℕ) (waiting : Waiting) (work : Work) (outcome : Outcome) (unsteady : Bool) (result : Result Plan E)
+pub told-within_if : {E : Type 0} (course : RunContext) (done after : Progress) (place : ℕ) (waiting : PendingPart) (work : RunningHook) (outcome : Outcome) (unsteady : Bool) (result : Result Plan E)
     → after ≡ on_tree done (after_outcome done.tree outcome)
     → at_work work ≡ with_gathered (at_work waiting.work) (gathered_with waiting.work.gathered outcome unsteady)
     → IfOk result (λ plan. most_left plan ≤ length (at_work work).commands + most_of_hooks (hooks_from course place) after.tree)

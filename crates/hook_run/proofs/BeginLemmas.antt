@@ -11,9 +11,9 @@ use Rattle.path_select.specs.Selection.{selected, selected_among}
 use Rattle.path_select.specs.SelectionLaws.{selected_among_passing}
 use Rattle.report_text.specs.declared.hook_result.Ending.{Ending}
 use Rattle.report_text.specs.declared.hook_result.Ending.TheVariants.{SkippedAsked}
-use Rattle.hook_run.specs.declared.begun.Begun.{Begun}
-use Rattle.hook_run.specs.declared.begun.Begun.TheVariants.{Ended, Waits}
-use Rattle.hook_run.specs.declared.gathered.Gathered.{Gathered}
+use Rattle.hook_run.specs.declared.hook_state.HookState.{HookState}
+use Rattle.hook_run.specs.declared.hook_state.HookState.TheVariants.{Ended, Waits}
+use Rattle.hook_run.specs.declared.part_totals.PartTotals.{PartTotals}
 use Rattle.hook_run.specs.declared.run_ask.RunAsk.{RunAsk}
 use Rattle.hook_run.specs.Asks.{is_skipped}
 use Rattle.hook_run.specs.HookRun.{AreItsParts, IsCommandRun, IsEnding, IsHookRun, commands_of, ending_of_misfit, further_of, most_names_of, rules_of, sees_whole}
@@ -21,10 +21,10 @@ use Rattle.hook_run.specs.Limits.{most_command_bytes}
 use Rattle.hook_run.specs.Parts.{ArePartsOf, Part}
 use Rattle.hook_run.specs.PartsEnding.{ending_of_parts}
 use Rattle.hook_run.specs.Plans.{AtHook, ending_of_gathered, nothing_gathered}
-use Rattle.hook_run.specs.Standing.{HasBegun, HasGoneOn, at_hook}
+use Rattle.hook_run.specs.PlanStates.{HasBegun, HasGoneOn, at_hook}
 
 -- what a hook begins to, it begins to under a weaker claim
-pub begun-weaker : (P Q : List Part → Ending → Type 0) (hook : Hook) (tree : List File) (begun : Begun)
+pub begun-weaker : (P Q : List Part → Ending → Type 0) (hook : Hook) (tree : List File) (begun : HookState)
     → ((parts : List Part) (ending : Ending) → P parts ending → Q parts ending) → HasBegun P hook tree begun → HasBegun Q hook tree begun
 begun-weaker P Q hook tree (Ended ending unsteady) weaker is = (weaker [] ending is.0, is.1)
 begun-weaker P Q hook tree (Waits waiting) weaker is = (
@@ -37,7 +37,7 @@ begun-weaker P Q hook tree (Waits waiting) weaker is = (
   is.1,
 )
 
-pub begun-weaker_if : {E : Type 0} (P Q : List Part → Ending → Type 0) (hook : Hook) (tree : List File) (result : Result Begun E)
+pub begun-weaker_if : {E : Type 0} (P Q : List Part → Ending → Type 0) (hook : Hook) (tree : List File) (result : Result HookState E)
     → ((parts : List Part) (ending : Ending) → P parts ending → Q parts ending) → IfOk result (HasBegun P hook tree) → IfOk result (HasBegun Q hook tree)
 begun-weaker_if P Q hook tree (Ok begun) weaker is = begun-weaker P Q hook tree begun weaker is
 begun-weaker_if P Q hook tree (Err refusal) weaker is = tt
@@ -70,11 +70,11 @@ commands-run : (hook : Hook) (tree : List File) (commands others : List (List (L
 commands-run hook tree commands others parts same run =
     subst (λ (all : List (List (List ℕ))). ArePartsOf (sees_whole hook) (further_of hook) all tree parts) same run
 
-abbrev ended_from : Gathered → List File → List File → Ending
+abbrev ended_from : PartTotals → List File → List File → Ending
 ended_from = ending_of_gathered
 
 -- a command begins with its first part
-command-begun : (hook : Hook) (words names : List (List ℕ)) (tree before : List File) (cuts : List Cut) (gathered : Gathered) (begun : Begun)
+command-begun : (hook : Hook) (words names : List (List ℕ)) (tree before : List File) (cuts : List Cut) (gathered : PartTotals) (begun : HookState)
     → too_long_at (fits words most_command_bytes) names ≡ None → AreParts (fits words most_command_bytes) (most_names_of hook) names cuts
     → before ≡ tree → gathered ≡ nothing_gathered
     → HasGoneOn (record { hook = hook; before = before; commands = commands_of words names cuts; gathered = gathered }) tree begun
@@ -82,8 +82,8 @@ command-begun : (hook : Hook) (words names : List (List ℕ)) (tree before : Lis
 command-begun hook words names tree before cuts gathered (Ended ending unsteady) fitting cut same none is = (
   fitting-ends hook words names tree cuts fitting cut [] ending
       (commands-run hook tree [] (commands_of words names cuts) [] (sym is.0) tt)
-      (is.1 ∙ ap (λ (start : List File). ended_from gathered start tree) same ∙ ap (λ (all : Gathered). ended_from all tree tree) none),
-  is.2 ∙ ap (λ (all : Gathered). all.unsteady) none,
+      (is.1 ∙ ap (λ (start : List File). ended_from gathered start tree) same ∙ ap (λ (all : PartTotals). ended_from all tree tree) none),
+  is.2 ∙ ap (λ (all : PartTotals). all.unsteady) none,
 )
 command-begun hook words names tree before cuts gathered (Waits waiting) fitting cut same none is = (
   record {
@@ -96,7 +96,7 @@ command-begun hook words names tree before cuts gathered (Waits waiting) fitting
   is.1,
 )
 
-pub command-begun_if : {E : Type 0} (hook : Hook) (words names : List (List ℕ)) (tree before : List File) (cuts : List Cut) (gathered : Gathered) (result : Result Begun E)
+pub command-begun_if : {E : Type 0} (hook : Hook) (words names : List (List ℕ)) (tree before : List File) (cuts : List Cut) (gathered : PartTotals) (result : Result HookState E)
     → too_long_at (fits words most_command_bytes) names ≡ None → AreParts (fits words most_command_bytes) (most_names_of hook) names cuts
     → before ≡ tree → gathered ≡ nothing_gathered
     → IfOk result (HasGoneOn (record { hook = hook; before = before; commands = commands_of words names cuts; gathered = gathered }) tree)

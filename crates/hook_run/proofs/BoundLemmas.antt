@@ -30,7 +30,7 @@ use Rattle.hook_run.specs.PlanBounds.{most_of_hooks}
 use Rattle.hook_run.specs.PartsEnding.{ending_of_parts}
 use Rattle.hook_run.specs.Plans.{AtHook, hooks_after}
 use Rattle.hook_run.specs.StageRun.{is_last}
-use Rattle.hook_run.specs.Standing.{IsFirstOf}
+use Rattle.hook_run.specs.PlanStates.{IsFirstOf}
 use Rattle.hook_run.proofs.CompletionLemmas.{some-parts}
 use Rattle.hook_run.proofs.FaultLemmas.{either-way, option-way}
 
@@ -74,7 +74,8 @@ adjoin-short start (cut ∷ cuts) end some is =
     let rest = adjoin-short cut.end cuts end (All-tail (λ (one : Cut). one.start < one.end) cut cuts some) is.1 in
     omega arith
 
-named-cuts : (fitting : List (List ℕ) → Bool) (most : ℕ) (names : List (List ℕ)) (cuts : List Cut) → 0 < length names → All (IsPart fitting most names) cuts → All (λ (cut : Cut). cut.start < cut.end) cuts
+named-cuts : (fitting : List (List ℕ) → Bool) (most : ℕ) (names : List (List ℕ)) (cuts : List Cut) → 0 < length names → All (IsPart fitting most names) cuts
+    → All (λ (cut : Cut). cut.start < cut.end) cuts
 named-cuts fitting most names cuts some parts = λ k d within. (parts k d within).named some
 
 cuts-short : (fitting : List (List ℕ) → Bool) (most : ℕ) (names : List (List ℕ)) (cuts : List Cut) → AreParts fitting most names cuts → length cuts ≤ 1 + length names
@@ -83,7 +84,8 @@ cuts-short fitting most (name ∷ names) cuts are =
     let short = adjoin-short 0 cuts (length (name ∷ names)) (named-cuts fitting most (name ∷ names) cuts (omega arith) are.parts) are.adjoin in
     omega arith
 
-parts-long : (whole : Bool) (further : List File → List (List ℕ)) (commands : List (List (List ℕ))) (tree : List File) (parts : List Part) → ArePartsOf whole further commands tree parts → length parts ≡ length commands
+parts-long : (whole : Bool) (further : List File → List (List ℕ)) (commands : List (List (List ℕ))) (tree : List File) (parts : List Part) → ArePartsOf whole further commands tree parts
+    → length parts ≡ length commands
 parts-long whole further [] tree [] run = refl
 parts-long whole further [] tree (part ∷ parts) run = absurd run
 parts-long whole further (words ∷ commands) tree [] run = absurd run
@@ -104,7 +106,8 @@ selected-short config ask tree hook =
 names-short : (hook : Hook) (files : List (List ℕ)) → length (names_for hook files) ≤ length files
 names-short hook files = elim hook.pass_filenames as (λ (b : Bool). length (if b then files else []) ≤ length files) [ true ↦ omega arith | false ↦ omega arith ]
 
-command-short : (hook : Hook) (words names : List (List ℕ)) (tree : List File) (parts : List Part) (ending : Ending) → length names ≤ length tree → IsCommandRun hook words names tree parts ending → length parts ≤ 1 + length tree
+command-short : (hook : Hook) (words names : List (List ℕ)) (tree : List File) (parts : List Part) (ending : Ending) → length names ≤ length tree → IsCommandRun hook words names tree parts ending
+    → length parts ≤ 1 + length tree
 command-short hook words names tree parts ending within run =
     option-way (too_long_at (fits words most_command_bytes) names) _
     (λ fitting.
@@ -115,7 +118,8 @@ command-short hook words names tree parts ending within run =
     (λ _ misfit. none-short tree parts misfit.0)
     run
 
-language-short : (language : Language) (hook : Hook) (names : List (List ℕ)) (tree : List File) (parts : List Part) (ending : Ending) → length names ≤ length tree → IsLanguageRun language hook names tree parts ending → length parts ≤ 1 + length tree
+language-short : (language : Language) (hook : Hook) (names : List (List ℕ)) (tree : List File) (parts : List Part) (ending : Ending) → length names ≤ length tree
+    → IsLanguageRun language hook names tree parts ending → length parts ≤ 1 + length tree
 language-short Fail hook names tree parts ending within run = none-short tree parts run.0
 language-short (Pygrep search) hook names tree parts ending within run = none-short tree parts run.0
 language-short (System words) hook names tree parts ending within run = command-short hook (command_of false words tree) names tree parts ending within run

@@ -65,7 +65,8 @@ module _ (paths : List (List ℕ)) (path : List ℕ) where
   put-again row rows true below = rw (path_itself row.path row.path refl) refl
   put-again row rows false below = put-before row rows below
 
-  put-behind : (row : File) (rows : List File) (found : Option FileEntry) (kept : Bool) → IsBelow row.path path → put_found path found (if kept then row ∷ rows else rows) ≡ (if kept then row ∷ put_found path found rows else put_found path found rows)
+  put-behind : (row : File) (rows : List File) (found : Option FileEntry) (kept : Bool) → IsBelow row.path path
+      → put_found path found (if kept then row ∷ rows else rows) ≡ (if kept then row ∷ put_found path found rows else put_found path found rows)
   put-behind row rows None kept above = refl
   put-behind row rows (Some entry) true above = rw (greater_from_below row.path path above) refl
   put-behind row rows (Some entry) false above = refl
@@ -116,14 +117,16 @@ module _ (candidates : List (List ℕ)) (path : List ℕ) where
   gone row rows true same = rw same refl
   gone row rows false same = refl
 
-  stays : (row : File) (rows : List File) (kept : Bool) → bytes_eq path row.path ≡ false → remove_file path (if kept then row ∷ rows else rows) ≡ (if kept then row ∷ remove_file path rows else remove_file path rows)
+  stays : (row : File) (rows : List File) (kept : Bool) → bytes_eq path row.path ≡ false
+      → remove_file path (if kept then row ∷ rows else rows) ≡ (if kept then row ∷ remove_file path rows else remove_file path rows)
   stays row rows true differs = rw differs refl
   stays row rows false differs = refl
 
   removed : (rows : List File) → files_at candidates (remove_file path rows) ≡ remove_file path (files_at candidates rows)
   removed [] = refl
   removed (row ∷ rows) =
-      elim (bytes_eq path row.path) as (λ b. bytes_eq path row.path ≡ b → files_at candidates (if b then remove_file path rows else row ∷ remove_file path rows) ≡ remove_file path (files_at candidates (row ∷ rows))) [
+      elim (bytes_eq path row.path) as (λ b. bytes_eq path row.path ≡ b
+      → files_at candidates (if b then remove_file path rows else row ∷ remove_file path rows) ≡ remove_file path (files_at candidates (row ∷ rows))) [
         | true ↦ λ e. removed rows ∙ sym (gone row (files_at candidates rows) (is_candidate candidates row.path) e)
         | false ↦ λ e.
             ap (λ (rest : List File). if is_candidate candidates row.path then row ∷ rest else rest) (removed rows)
@@ -147,7 +150,8 @@ module _ (candidates : List (List ℕ)) (path : List ℕ) where
     rewritten [] = refl
     rewritten (row ∷ rows) =
         let now = rewritten_if (bytes_eq path row.path) row in
-        ap (λ (p : List ℕ). if is_candidate candidates p then now ∷ files_at candidates (rewrite_file path bytes rows) else files_at candidates (rewrite_file path bytes rows)) (path-stays (bytes_eq path row.path) row)
+        ap (λ (p : List ℕ). if is_candidate candidates p then now ∷ files_at candidates (rewrite_file path bytes rows) else files_at candidates (rewrite_file path bytes rows))
+        (path-stays (bytes_eq path row.path) row)
         ∙ ap (λ (rest : List File). if is_candidate candidates row.path then now ∷ rest else rest) (rewritten rows)
         ∙ sym (rewritten-first row (files_at candidates rows) (is_candidate candidates row.path))
 
@@ -161,7 +165,8 @@ files-changed candidates (change ∷ changes) tree =
     files-changed candidates changes (apply_at change.path change.now tree) ∙ ap (apply_changes changes) (changed-once candidates change.path change.now tree)
 
 -- what an outcome leaves of the files is what stands at the candidates' paths in the tree that it leaves
-pub files-told : (candidates : List (List ℕ)) (tree files : List File) (outcome : Outcome) → files ≡ files_at candidates tree → after_outcome files outcome ≡ files_at candidates (after_outcome tree outcome)
+pub files-told : (candidates : List (List ℕ)) (tree files : List File) (outcome : Outcome) → files ≡ files_at candidates tree
+    → after_outcome files outcome ≡ files_at candidates (after_outcome tree outcome)
 files-told candidates tree files (Done answer) held = ap (apply_changes answer.changes) held ∙ sym (files-changed candidates answer.changes tree)
 files-told candidates tree files (Failed fault) held = held
 
@@ -178,7 +183,8 @@ module _ (rules : RuleTexts) (files exclude : List ℕ) (candidates among : List
   kept-of_files : (rows : List File) → filter keeps (files_at candidates rows) ≡ filter keeps rows
   kept-of_files [] = refl
   kept-of_files (row ∷ rows) =
-      elim (is_candidate candidates row.path) as (λ b. is_candidate candidates row.path ≡ b → filter keeps (if b then row ∷ files_at candidates rows else files_at candidates rows) ≡ filter keeps (row ∷ rows)) [
+      elim (is_candidate candidates row.path) as (λ b. is_candidate candidates row.path ≡ b
+      → filter keeps (if b then row ∷ files_at candidates rows else files_at candidates rows) ≡ filter keeps (row ∷ rows)) [
         | true ↦ λ e. ap (λ (rest : List File). if keeps row then row ∷ rest else rest) (kept-of_files rows)
         | false ↦ λ e.
             let none : is_candidate among row.path ≡ false = passing.exact row.path ∙ ap (λ (b : Bool). passes files exclude row.path && b) e ∙ and-false (passes files exclude row.path) in

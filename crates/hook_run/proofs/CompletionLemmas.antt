@@ -17,7 +17,7 @@ use Rattle.hook_run.specs.HookRun.{further_of, sees_whole}
 use Rattle.hook_run.specs.Parts.{ArePartsOf, Part, all_parts, tree_after}
 use Rattle.hook_run.specs.Plans.{AtHook, AtPart, CanComplete, Completes, CompletesAt, GoesOn, GoesOnAt, Plan, command_at, gathered_with, hooks_behind_parts, left_at, need_at, need_of, out_of_plan, part_with, progress_behind, seen_at}
 use Rattle.hook_run.specs.RunOuts.{IsBegun, out_of, unsteady_ids}
-use Rattle.hook_run.specs.Standing.{on_tree}
+use Rattle.hook_run.specs.PlanStates.{on_tree}
 use Rattle.hook_run.proofs.PlanLemmas.{part-told}
 use Rattle.hook_run.proofs.SomeRunLemmas.{AllAnswered, answered_run, some_run, told-append}
 

@@ -11,7 +11,7 @@ use Rattle.hook_base.specs.TreeLemmas.{entry_of-first, entry_of-later}
 use Rattle.hook_base.specs.declared.change.Change.{Change}
 use Rattle.hook_base.specs.declared.file.File.{File}
 use Rattle.hook_base.specs.declared.file.FileEntry.{FileEntry}
-use Rattle.builtin_hooks.specs.GrepAnswer.{entry_text, grep_output}
+use Rattle.builtin_hooks.specs.GrepAnswer.{searched_entry_text, grep_output}
 use Rattle.builtin_hooks.specs.Search.{Search}
 use Rattle.child_port.specs.Seen.{is_seen_path, seen_of}
 use Rattle.path_select.specs.Candidates.{is_candidate, passes}
@@ -81,7 +81,8 @@ changed-elsewhere : (path at : List ℕ) (now : Option (List ℕ)) (tree : List 
 changed-elsewhere path at None tree differs = removed-elsewhere path at tree differs
 changed-elsewhere path at (Some bytes) tree differs = rewritten-elsewhere path at bytes tree differs
 
-pub changes-elsewhere : (path : List ℕ) (changes : List Change) (tree : List File) → Each (λ change. bytes_eq path change.path ≡ false) changes → entry_of path (apply_changes changes tree) ≡ entry_of path tree
+pub changes-elsewhere : (path : List ℕ) (changes : List Change) (tree : List File) → Each (λ change. bytes_eq path change.path ≡ false) changes
+    → entry_of path (apply_changes changes tree) ≡ entry_of path tree
 changes-elsewhere path [] tree each = refl
 changes-elsewhere path (change ∷ changes) tree each =
     changes-elsewhere path changes (apply_at change.path change.now tree) each.1 ∙ changed-elsewhere path change.path change.now tree each.0
@@ -107,7 +108,8 @@ held-later path row rows entry none found =
       | false ↦ λ e. found
     ] refl
 
-held-within : (tree rows : List File) → IsRising rows → ((path : List ℕ) (entry : FileEntry) → entry_of path rows ≡ Some entry → entry_of path tree ≡ Some entry) → Each (λ row. entry_of row.path tree ≡ Some row.entry) rows
+held-within : (tree rows : List File) → IsRising rows → ((path : List ℕ) (entry : FileEntry) → entry_of path rows ≡ Some entry → entry_of path tree ≡ Some entry)
+    → Each (λ row. entry_of row.path tree ≡ Some row.entry) rows
 held-within tree [] rising within = tt
 held-within tree (row ∷ rows) rising within = (
   within row.path row.entry (entry_of-first row.path row rows refl),
@@ -128,7 +130,8 @@ pub selected-candidates : (rules : RuleTexts) (candidates : List (List ℕ)) (tr
 selected-candidates rules candidates [] = tt
 selected-candidates rules candidates (row ∷ rows) =
     let rest = selected-candidates rules candidates rows in
-    elim (is_selected rules candidates row) as (λ b. is_selected rules candidates row ≡ b → Each (λ path. is_candidate candidates path ≡ true) (map path_of (if b then row ∷ filter (is_selected rules candidates) rows else filter (is_selected rules candidates) rows))) [
+    elim (is_selected rules candidates row) as (λ b. is_selected rules candidates row ≡ b
+    → Each (λ path. is_candidate candidates path ≡ true) (map path_of (if b then row ∷ filter (is_selected rules candidates) rows else filter (is_selected rules candidates) rows))) [
       | true ↦ λ e. (selected-candidate rules candidates row e, rest)
       | false ↦ λ e. rest
     ] refl
@@ -143,7 +146,8 @@ module _ (edit : Edit) where
   pub entry-edited : (path : List ℕ) (tree : List File) → entry_of path (edited edit tree) ≡ entry_edited (edit path) (entry_of path tree)
   entry-edited path [] = refl
   entry-edited path (row ∷ rows) =
-      elim (bytes_eq path row.path) as (λ b. bytes_eq path row.path ≡ b → (if b then Some (entry_or (edit row.path) row.entry) else entry_of path (edited edit rows)) ≡ entry_edited (edit path) (if b then Some row.entry else entry_of path rows)) [
+      elim (bytes_eq path row.path) as (λ b. bytes_eq path row.path ≡ b
+      → (if b then Some (entry_or (edit row.path) row.entry) else entry_of path (edited edit rows)) ≡ entry_edited (edit path) (if b then Some row.entry else entry_of path rows)) [
         | true ↦ λ e. ap (λ (p : List ℕ). Some (entry_or (edit p) row.entry)) (sym ((bytes_decides path row.path).0 e))
         | false ↦ λ e. entry-edited path rows
       ] refl
@@ -168,7 +172,8 @@ module _ (edit : Edit) where
   removed : (path : List ℕ) (tree : List File) → remove_file path (edited edit tree) ≡ edited edit (remove_file path tree)
   removed path [] = refl
   removed path (row ∷ rows) =
-      elim (bytes_eq path row.path) as (λ b. (if b then remove_file path (edited edit rows) else edited_row edit row ∷ remove_file path (edited edit rows)) ≡ edited edit (if b then remove_file path rows else row ∷ remove_file path rows)) [
+      elim (bytes_eq path row.path) as (λ b. (if b then remove_file path (edited edit rows) else edited_row edit row ∷ remove_file path (edited edit rows))
+      ≡ edited edit (if b then remove_file path rows else row ∷ remove_file path rows)) [
         | true ↦ removed path rows
         | false ↦ ap (λ (rest : List File). edited_row edit row ∷ rest) (removed path rows)
       ]
@@ -180,7 +185,8 @@ module _ (edit : Edit) where
   rewritten path bytes [] none = refl
   rewritten path bytes (row ∷ rows) none =
       ap₂ (λ (first : File) (rest : List File). first ∷ rest)
-      (elim (bytes_eq path row.path) as (λ b. bytes_eq path row.path ≡ b → (if b then with_bytes bytes (edited_row edit row) else edited_row edit row) ≡ edited_row edit (if b then with_bytes bytes row else row)) [
+      (elim (bytes_eq path row.path) as (λ b. bytes_eq path row.path ≡ b
+      → (if b then with_bytes bytes (edited_row edit row) else edited_row edit row) ≡ edited_row edit (if b then with_bytes bytes row else row)) [
         | true ↦ λ e. rewritten-row bytes row (subst (λ (p : List ℕ). edit p ≡ None) ((bytes_decides path row.path).0 e) none)
         | false ↦ λ e. refl
       ] refl)
@@ -190,7 +196,8 @@ module _ (edit : Edit) where
   changed path None tree none = removed path tree
   changed path (Some bytes) tree none = rewritten path bytes tree none
 
-  pub changes-commute : (changes : List Change) (tree : List File) → Each (λ change. edit change.path ≡ None) changes → apply_changes changes (edited edit tree) ≡ edited edit (apply_changes changes tree)
+  pub changes-commute : (changes : List Change) (tree : List File) → Each (λ change. edit change.path ≡ None) changes
+      → apply_changes changes (edited edit tree) ≡ edited edit (apply_changes changes tree)
   changes-commute [] tree each = refl
   changes-commute (change ∷ changes) tree each =
       ap (apply_changes changes) (changed change.path change.now tree each.0) ∙ changes-commute changes (apply_at change.path change.now tree) each.1
@@ -200,7 +207,8 @@ module _ (edit : Edit) where
   seen-where : (keeps : List ℕ → Bool) (tree : List File) → filter (λ row. keeps row.path) (edited edit tree) ≡ edited edit (filter (λ row. keeps row.path) tree)
   seen-where keeps [] = refl
   seen-where keeps (row ∷ rows) =
-      elim (keeps row.path) as (λ b. (if b then edited_row edit row ∷ filter (λ (one : File). keeps one.path) (edited edit rows) else filter (λ (one : File). keeps one.path) (edited edit rows)) ≡ edited edit (if b then row ∷ filter (λ (one : File). keeps one.path) rows else filter (λ (one : File). keeps one.path) rows)) [
+      elim (keeps row.path) as (λ b. (if b then edited_row edit row ∷ filter (λ (one : File). keeps one.path) (edited edit rows) else filter (λ (one : File). keeps one.path) (edited edit rows))
+      ≡ edited edit (if b then row ∷ filter (λ (one : File). keeps one.path) rows else filter (λ (one : File). keeps one.path) rows)) [
         | true ↦ ap (λ (rest : List File). edited_row edit row ∷ rest) (seen-where keeps rows)
         | false ↦ seen-where keeps rows
       ]
@@ -245,7 +253,7 @@ module _ (edit : Edit) where
   pub output-same : (search : Search) (names : List (List ℕ)) (tree : List File) → Each (λ name. edit name ≡ None) names → grep_output search names (edited edit tree) ≡ grep_output search names tree
   output-same search [] tree each = refl
   output-same search (name ∷ names) tree each =
-      ap₂ (λ (first rest : List ℕ). first ++ rest) (ap (entry_text search name) (entry-unedited name tree each.0)) (output-same search names tree each.1)
+      ap₂ (λ (first rest : List ℕ). first ++ rest) (ap (searched_entry_text search name) (entry-unedited name tree each.0)) (output-same search names tree each.1)
 
   -- ---- which of their files are modified
 

@@ -7,7 +7,7 @@ use Rattle.arg_partition.specs.Parts.{fits, too_long_at}
 use Rattle.hook_base.specs.Trees.{IsRising, entry_of}
 use Rattle.hook_base.specs.TreeLemmas.{IsRising-apply_changes}
 use Rattle.hook_base.specs.declared.file.File.{File}
-use Rattle.builtin_hooks.specs.GrepAnswer.{status_of}
+use Rattle.builtin_hooks.specs.GrepAnswer.{status_of_output}
 use Rattle.child_port.specs.Outcomes.{after_outcome}
 use Rattle.child_port.specs.Seen.{plain_word, seen_of}
 use Rattle.child_port.specs.declared.answer.Outcome.{Outcome}
@@ -68,7 +68,8 @@ no-fault B (Some n) on is = is
 
 -- ---- files that parts leave
 
-outcome-kept : (path : List ℕ) (tree : List File) (outcome : Outcome) (seen : List File) → entry_of path seen ≡ None → strays outcome seen ≡ false → entry_of path (after_outcome tree outcome) ≡ entry_of path tree
+outcome-kept : (path : List ℕ) (tree : List File) (outcome : Outcome) (seen : List File) → entry_of path seen ≡ None → strays outcome seen ≡ false
+    → entry_of path (after_outcome tree outcome) ≡ entry_of path tree
 outcome-kept path tree (Done answer) seen none kept =
     changes-elsewhere path answer.changes tree (keeps-to-seen (λ at. bytes_eq path at ≡ false) seen answer.changes (unseen-elsewhere path seen none) kept)
 outcome-kept path tree (Failed fault) seen none kept = refl
@@ -116,7 +117,8 @@ module _ (edit : Edit) where
       ap (λ (t : List File). after_parts t parts) (outcome-commutes tree part.outcome part.seen (first-unseen part parts unseen) kept.0)
       ∙ parts-commute (after_outcome tree part.outcome) parts (rest-unseen part parts unseen) kept.1
 
-  parts-edited : (whole : Bool) (further : List File → List (List ℕ)) → ((tree : List File) → further (edited edit tree) ≡ further tree) → (commands : List (List (List ℕ))) (tree : List File) (parts : List Part)
+  parts-edited : (whole : Bool) (further : List File → List (List ℕ)) → ((tree : List File) → further (edited edit tree) ≡ further tree)
+      → (commands : List (List (List ℕ))) (tree : List File) (parts : List Part)
       → WhereEdited (Unseen parts) → KeepTo parts → ArePartsOf whole further commands tree parts → ArePartsOf whole further commands (edited edit tree) parts
   parts-edited whole further same [] tree [] unseen kept are = tt
   parts-edited whole further same [] tree (part ∷ parts) unseen kept are = absurd are
@@ -156,7 +158,8 @@ module _ (edit : Edit) where
       ))
       is
 
-  command-same : (is_script : Bool) (words : List (List ℕ)) (tree : List File) → WhereEdited (λ path. path_of_first words ≢ Some path) → command_of is_script words (edited edit tree) ≡ command_of is_script words tree
+  command-same : (is_script : Bool) (words : List (List ℕ)) (tree : List File) → WhereEdited (λ path. path_of_first words ≢ Some path)
+      → command_of is_script words (edited edit tree) ≡ command_of is_script words tree
   command-same is_script [] tree elsewhere = refl
   command-same is_script (first ∷ rest) tree elsewhere =
       elim (elsewhere (plain_word first)) [
@@ -175,7 +178,7 @@ module _ (edit : Edit) where
       → IsLanguageRun language hook names tree parts ending → IsLanguageRun language hook names (edited edit tree) parts ending
   language-edited Fail hook names tree parts ending rising clean elsewhere unseen kept is = is
   language-edited (Pygrep search) hook names tree parts ending rising clean elsewhere unseen kept is =
-      (is.0, is.1 ∙ ap (λ (output : List ℕ). Ran (status_of output) [] false output) (sym (output-same edit search names tree clean)))
+      (is.0, is.1 ∙ ap (λ (output : List ℕ). Ran (status_of_output output) [] false output) (sym (output-same edit search names tree clean)))
   language-edited (System words) hook names tree parts ending rising clean elsewhere unseen kept is =
       worded-edited hook (command_of false words tree) (command_of false words (edited edit tree)) names tree parts ending (command-same false words tree elsewhere) rising unseen kept is
   language-edited (Script words) hook names tree parts ending rising clean elsewhere unseen kept is =
@@ -189,7 +192,8 @@ module _ (edit : Edit) where
   names-kept hook false files each = tt
 
   hook-edited : (config : Config) (ask : RunAsk) (tree : List File) (hook : Hook) (parts : List Part) (ending : Ending) → IsRising tree → WhereEdited (λ path. is_candidate ask.candidates path ≡ false)
-      → WhereEdited (λ path. script_path hook.language ≢ Some path) → WhereEdited (Unseen parts) → KeepTo parts → IsEnding config ask tree hook parts ending → IsEnding config ask (edited edit tree) hook parts ending
+      → WhereEdited (λ path. script_path hook.language ≢ Some path) → WhereEdited (Unseen parts) → KeepTo parts → IsEnding config ask tree hook parts ending
+      → IsEnding config ask (edited edit tree) hook parts ending
   hook-edited config ask tree hook parts ending rising none elsewhere unseen kept is =
       let rules = rules_of config hook in
       let files = selected rules ask.candidates tree in
@@ -204,8 +208,10 @@ module _ (edit : Edit) where
 
   -- ---- the hooks one after another
 
-  pub run-edited : (config : Config) (ask : RunAsk) (tree : List File) (hooks : List Hook) (trace : List (List Part)) (results : List HookResult) → IsRising tree → WhereEdited (λ path. is_candidate ask.candidates path ≡ false)
-      → WhereEdited (NoScript hooks) → WhereEdited (Unseen (all_parts trace)) → KeepTo (all_parts trace) → IsRun config ask tree hooks trace results → IsRun config ask (edited edit tree) hooks trace results
+  pub run-edited : (config : Config) (ask : RunAsk) (tree : List File) (hooks : List Hook) (trace : List (List Part)) (results : List HookResult) → IsRising tree
+      → WhereEdited (λ path. is_candidate ask.candidates path ≡ false)
+      → WhereEdited (NoScript hooks) → WhereEdited (Unseen (all_parts trace)) → KeepTo (all_parts trace) → IsRun config ask tree hooks trace results
+      → IsRun config ask (edited edit tree) hooks trace results
   run-edited config ask tree [] [] [] rising none elsewhere unseen kept run = tt
   run-edited config ask tree [] [] (result ∷ results) rising none elsewhere unseen kept run = absurd run
   run-edited config ask tree [] (parts ∷ trace) results rising none elsewhere unseen kept run = absurd run
@@ -220,7 +226,9 @@ module _ (edit : Edit) where
           name = run.0.name;
           id = run.0.id;
           verbose = run.0.verbose;
-          ending = hook-edited config ask tree hook parts result.ending rising none (weaker (NoScript (hook ∷ hooks)) (λ path. script_path hook.language ≢ Some path) (λ path both. both.0) elsewhere) here kept_here run.0.ending;
+          ending =
+              hook-edited config ask tree hook parts result.ending rising none (weaker (NoScript (hook ∷ hooks)) (λ path. script_path hook.language ≢ Some path) (λ path both. both.0) elsewhere) here
+              kept_here run.0.ending;
         },
         second-way ((trace ≡ []) × (results ≡ [])) (is_last config hook result.ending)
             (λ (rest : IsRun config ask (after_parts tree parts) hooks trace results).

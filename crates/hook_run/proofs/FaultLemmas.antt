@@ -52,20 +52,23 @@ pub option-way : {A T : Type 0} (o : Option ℕ) (B : ℕ → Type 0) → (A →
 option-way None B first second run = first run
 option-way (Some n) B first second run = second n run
 
-command-faults : (hook : Hook) (words names : List (List ℕ)) (tree : List File) (parts : List Part) (ending : Ending) → IsCommandRun hook words names tree parts ending → child_faults_in ending ≡ faults_of parts
+command-faults : (hook : Hook) (words names : List (List ℕ)) (tree : List File) (parts : List Part) (ending : Ending) → IsCommandRun hook words names tree parts ending
+    → child_faults_in ending ≡ faults_of parts
 command-faults hook words names tree parts ending run =
     option-way (too_long_at (fits words most_command_bytes) names) _
     (λ fitting. ap child_faults_in fitting.1 ∙ parts-faults parts)
     (λ _ misfit. none-faults _ parts ending refl misfit)
     run
 
-language-faults : (language : Language) (hook : Hook) (names : List (List ℕ)) (tree : List File) (parts : List Part) (ending : Ending) → IsLanguageRun language hook names tree parts ending → child_faults_in ending ≡ faults_of parts
+language-faults : (language : Language) (hook : Hook) (names : List (List ℕ)) (tree : List File) (parts : List Part) (ending : Ending) → IsLanguageRun language hook names tree parts ending
+    → child_faults_in ending ≡ faults_of parts
 language-faults Fail hook names tree parts ending run = none-faults _ parts ending refl run
 language-faults (Pygrep search) hook names tree parts ending run = none-faults _ parts ending refl run
 language-faults (System words) hook names tree parts ending run = command-faults hook (command_of false words tree) names tree parts ending run
 language-faults (Script words) hook names tree parts ending run = command-faults hook (command_of true words tree) names tree parts ending run
 
-hook-faults : (config : Config) (ask : RunAsk) (tree : List File) (hook : Hook) (parts : List Part) (ending : Ending) → IsEnding config ask tree hook parts ending → child_faults_in ending ≡ faults_of parts
+hook-faults : (config : Config) (ask : RunAsk) (tree : List File) (hook : Hook) (parts : List Part) (ending : Ending) → IsEnding config ask tree hook parts ending
+    → child_faults_in ending ≡ faults_of parts
 hook-faults config ask tree hook parts ending run =
     let files = selected (rules_of config hook) ask.candidates tree in
     either-way (is_skipped ask.skip hook) (λ skipped. none-faults _ parts ending refl skipped)
@@ -78,7 +81,8 @@ hook-faults config ask tree hook parts ending run =
 ended-faults : (trace : List (List Part)) (results : List HookResult) → (trace ≡ []) × (results ≡ []) → child_faults results ≡ faults_of (all_parts trace)
 ended-faults trace results ended = ap child_faults ended.1 ∙ sym (ap (λ (t : List (List Part)). faults_of (all_parts t)) ended.0)
 
-run-faults : (config : Config) (ask : RunAsk) (tree : List File) (hooks : List Hook) (trace : List (List Part)) (results : List HookResult) → IsRun config ask tree hooks trace results → child_faults results ≡ faults_of (all_parts trace)
+run-faults : (config : Config) (ask : RunAsk) (tree : List File) (hooks : List Hook) (trace : List (List Part)) (results : List HookResult) → IsRun config ask tree hooks trace results
+    → child_faults results ≡ faults_of (all_parts trace)
 run-faults config ask tree [] [] [] run = refl
 run-faults config ask tree [] [] (result ∷ results) run = absurd run
 run-faults config ask tree [] (parts ∷ trace) [] run = absurd run
@@ -92,7 +96,8 @@ run-faults config ask tree (hook ∷ hooks) (parts ∷ trace) (result ∷ result
     ap₂ (λ (here behind : ℕ). here + behind) (hook-faults config ask tree hook parts result.ending run.0.ending) rest
     ∙ sym (faults-append parts (all_parts trace))
 
-pub faults-reported : (config : Config) (ask : RunAsk) (tree : List File) (trace : List (List Part)) (out : RunOut) → IsRunOut config ask tree trace out → child_faults out.results ≡ faults_of (all_parts trace)
+pub faults-reported : (config : Config) (ask : RunAsk) (tree : List File) (trace : List (List Part)) (out : RunOut) → IsRunOut config ask tree trace out
+    → child_faults out.results ≡ faults_of (all_parts trace)
 faults-reported config ask tree trace out run =
     ap (λ (given : RunOut). child_faults given.results) run.is
     ∙ run-faults config ask tree (hooks_of_run config ask) trace run.results run.run

@@ -17,9 +17,9 @@ use Rattle.path_select.specs.Patterns.{is_found}
 use Rattle.path_select.specs.Selection.{found_in}
 use Rattle.path_select.specs.SelectionLaws.{all_are_candidates, found_among}
 use Rattle.hook_run.specs.HookRun.{further_of}
-use Rattle.hook_run.specs.Standing.{AreFurther, finds, on_tree}
+use Rattle.hook_run.specs.PlanStates.{AreFurther, finds, on_tree}
 use Rattle.hook_run.specs.declared.progress.Progress.{Progress}
-use Rattle.hook_run.specs.declared.work.Work.{Work}
+use Rattle.hook_run.specs.declared.running_hook.RunningHook.{RunningHook}
 
 -- ---- what changes leave of them
 
@@ -35,7 +35,8 @@ module _ (hook : Hook) (paths : List (List ℕ)) where
   rewritten-kept : (path bytes : List ℕ) (tree : List File) → AreFurther hook paths tree → AreFurther hook paths (rewrite_file path bytes tree)
   rewritten-kept path bytes [] are = tt
   rewritten-kept path bytes (row ∷ rows) are = (
-    elim (bytes_eq path row.path) as (λ b. is_candidate paths (if b then with_bytes bytes row else row).path ≡ finds hook (if b then with_bytes bytes row else row).path) [ true ↦ are.0 | false ↦ are.0 ],
+    elim (bytes_eq path row.path) as (λ b. is_candidate paths (if b then with_bytes bytes row else row).path ≡ finds hook (if b then with_bytes bytes row else row).path)
+        [ true ↦ are.0 | false ↦ are.0 ],
     rewritten-kept path bytes rows are.1,
   )
 
@@ -52,7 +53,7 @@ module _ (hook : Hook) (paths : List (List ℕ)) where
   further-kept tree (Failed fault) are = are
 
 -- a hook that goes on behind a part has the same paths
-pub further-told : (done after : Progress) (work next : Work) (outcome : Outcome) → after ≡ on_tree done (after_outcome done.tree outcome)
+pub further-told : (done after : Progress) (work next : RunningHook) (outcome : Outcome) → after ≡ on_tree done (after_outcome done.tree outcome)
     → next.hook.now ≡ work.hook.now → next.further ≡ work.further → AreFurther work.hook.now work.further done.tree → AreFurther next.hook.now next.further after.tree
 further-told done after work next outcome left same kept are =
     let here = further-kept work.hook.now work.further done.tree outcome are in

@@ -16,7 +16,7 @@ use Rattle.hook_run.specs.OneAnswerLemmas.{no-ids}
 use Rattle.hook_run.specs.OneRunLemmas.{next-of}
 use Rattle.hook_run.specs.Parts.{Part, after_parts, all_parts}
 use Rattle.hook_run.specs.PlanLaws.{HasTold, IsNextBy, IsPlanBehind, IsWhatComesNext, IsWhole}
-use Rattle.hook_run.specs.Plans.{AtPart, Completes, CompletesAt, IsPlanAfter, IsPlanOf, Plan, need_of, out_of_plan, part_with, seen_of_plan, tree_of_plan, words_of}
+use Rattle.hook_run.specs.Plans.{AtPart, Completes, CompletesAt, IsPlanAfter, IsPlanOf, Plan, need_of, out_of_plan, part_with, seen_of_plan, tree_of_plan, words_of_plan}
 use Rattle.hook_run.specs.RunOuts.{IsBegun, IsRunOut}
 use Rattle.hook_run.specs.SameRuns.{IsNextOf}
 use Rattle.hook_run.proofs.CompletionLemmas.{AllFailed, can-fail, can-follow}
@@ -39,7 +39,7 @@ tree-completed plan (Some at) rest out on =
 
 -- ---- what is left of another run
 
-child-next : (plan : Plan) (out other : RunOut) (part : Part) (rest more : List Part) → part.words ≡ words_of plan → part.seen ≡ seen_of_plan plan
+child-next : (plan : Plan) (out other : RunOut) (part : Part) (rest more : List Part) → part.words ≡ words_of_plan plan → part.seen ≡ seen_of_plan plan
     → IsNextOf out other rest (part ∷ more) → IsNextBy plan Child rest out
 child-next plan out other part [] more words seen next = absurd next
 child-next plan out other part (one ∷ rest) more words seen next = (next.0 ∙ words, next.1 ∙ seen)
@@ -87,7 +87,8 @@ module _ (config : Config) (ask : RunAsk) (tree : List File) where
         ap (λ (o : RunOut). o.unsteady) run.run.is
         ∙ no-ids (hooks_of_run config ask) run.trace (subst (All (λ (part : Part). part.unsteady ≡ false)) (sym run.joined) all)
 
-    only-behind : (need : Need) → need_of plan ≡ need → (trace : List (List Part)) (out : RunOut) (rest : List Part) → IsRunOut config ask tree trace out → all_parts trace ≡ parts ++ rest → IsNextBy plan need rest out
+    only-behind : (need : Need) → need_of plan ≡ need → (trace : List (List Part)) (out : RunOut) (rest : List Part) → IsRunOut config ask tree trace out → all_parts trace ≡ parts ++ rest
+        → IsNextBy plan need rest out
     only-behind Child need trace out rest run joined =
         let begun = next-begun need (Failed NotStarted) false in
         let next = next-of config ask tree trace begun.trace out begun.out parts parts rest (part_with plan (Failed NotStarted) false ∷ begun.rest)

@@ -25,15 +25,16 @@ use Rattle.hook_run.specs.Answers.{AreAnswered}
 use Rattle.hook_run.specs.Moments.{Moment, moment}
 use Rattle.hook_run.specs.Parts.{Part}
 use Rattle.hook_run.specs.PlanRuns.{IsPartStarted, IsPartStopped, IsPartUnput, part_of}
-use Rattle.hook_run.specs.Plans.{Plan, need_of, part_with, seen_of_plan, words_of}
-use Rattle.hook_run.specs.Refusals.{of_book}
+use Rattle.hook_run.specs.Plans.{Plan, need_of, part_with, seen_of_plan, words_of_plan}
+use Rattle.hook_run.specs.Refusals.{run_refusal_of_book}
 use Rattle.hook_run.specs.Reuses.{LacksServing, NeedsStart, serves}
-use Rattle.hook_run.specs.Starts.{AfterOutcome, IsMarked, IsReplayed, IsStarted, StartsFor}
+use Rattle.hook_run.specs.Starts.{AfterOutcome, IsUnsteadyMark, IsReplayed, IsStarted, StartsFor}
 use Rattle.hook_run.proofs.CompletionLemmas.{can-complete, can-follow}
 use Rattle.hook_run.proofs.RunLemmas.{not-asked, not-spent}
 
 -- a child is started where nothing was found, or that doesn't serve
-starts-for : (reuse : Reuse) (found : Option Answer) (before after : Contents) (part : Part) → NeedsStart reuse found → IsStarted found before after part → StartsFor reuse found before after part (part ∷ [])
+starts-for : (reuse : Reuse) (found : Option Answer) (before after : Contents) (part : Part) → NeedsStart reuse found → IsStarted found before after part
+    → StartsFor reuse found before after part (part ∷ [])
 starts-for reuse None before after part needs started = (started, refl)
 starts-for reuse (Some answer) before after part needs started =
     subst (λ (b : Bool). MatchBool b (IsReplayed answer before after part × (part ∷ [] ≡ [])) (IsStarted (Some answer) before after part × (part ∷ [] ≡ part ∷ []))) (sym needs) (started, refl)
@@ -58,7 +59,7 @@ module _ (tells : List (List ℕ) → List File → Outcome → Type 0) (reuse :
   }
 
   pub part-started_if : {E : Type 0} (calls calls_after faults faults_after : ℕ) (before between after : Contents) (found : Option Answer) (result : Result PartOutcome E)
-      → Finds (words_of plan) (seen_of_plan plan) before found → AfterFind (words_of plan) (seen_of_plan plan) before between → NeedsStart reuse found
+      → Finds (words_of_plan plan) (seen_of_plan plan) before found → AfterFind (words_of_plan plan) (seen_of_plan plan) before between → NeedsStart reuse found
       → IfOk result (λ came. IsPartStarted tells found (moment calls faults between) (moment calls_after faults_after after) (part_of plan came))
       → IfOk result (λ came. AreAnswered tells reuse (moment calls faults before) (moment calls_after faults_after after) (part_of plan came ∷ []))
   part-started_if calls calls_after faults faults_after before between after found (Ok came) finds look_up needs it =
@@ -66,15 +67,16 @@ module _ (tells : List (List ℕ) → List File → Outcome → Type 0) (reuse :
   part-started_if calls calls_after faults faults_after before between after found (Err refusal) finds look_up needs it = tt
 
   -- what was found is replayed
-  replayed : (calls faults : ℕ) (before after : Contents) (answer : Answer) → serves reuse answer ≡ true → Finds (words_of plan) (seen_of_plan plan) before (Some answer)
-      → AfterFind (words_of plan) (seen_of_plan plan) before after → StartsFor reuse (Some answer) after after (part_with plan (Done answer) false) []
+  replayed : (calls faults : ℕ) (before after : Contents) (answer : Answer) → serves reuse answer ≡ true → Finds (words_of_plan plan) (seen_of_plan plan) before (Some answer)
+      → AfterFind (words_of_plan plan) (seen_of_plan plan) before after → StartsFor reuse (Some answer) after after (part_with plan (Done answer) false) []
   replayed calls faults before after answer served finds look_up =
       let part = part_with plan (Done answer) false in
-      subst (λ (b : Bool). MatchBool b (IsReplayed answer after after part × (◌≡◌ {A = List Part} [] [])) (IsStarted (Some answer) after after part × (◌≡◌ {A = List Part} [] (part ∷ [])))) (sym served)
+      subst (λ (b : Bool). MatchBool b (IsReplayed answer after after part × (◌≡◌ {A = List Part} [] [])) (IsStarted (Some answer) after after part × (◌≡◌ {A = List Part} [] (part ∷ []))))
+      (sym served)
       (record { outcome = refl; steady = refl; kept = refl }, refl)
 
-  pub part-replayed : (calls faults : ℕ) (before after : Contents) (answer : Answer) → serves reuse answer ≡ true → Finds (words_of plan) (seen_of_plan plan) before (Some answer)
-      → AfterFind (words_of plan) (seen_of_plan plan) before after
+  pub part-replayed : (calls faults : ℕ) (before after : Contents) (answer : Answer) → serves reuse answer ≡ true → Finds (words_of_plan plan) (seen_of_plan plan) before (Some answer)
+      → AfterFind (words_of_plan plan) (seen_of_plan plan) before after
       → AreAnswered tells reuse (moment calls faults before) (moment calls faults after) (part_with plan (Done answer) false ∷ [])
   part-replayed calls faults before after answer served finds look_up = record {
     started = [];
@@ -109,21 +111,21 @@ module _ (tells : List (List ℕ) → List File → Outcome → Type 0) (reuse :
     spent = λ is. absurd (countable is);
   }
 
-  lacks-still : (before after : Contents) (found : Option Answer) → Finds (words_of plan) (seen_of_plan plan) before found → AfterFind (words_of plan) (seen_of_plan plan) before after
-      → NeedsStart reuse found → LacksServing reuse (words_of plan) (seen_of_plan plan) after
+  lacks-still : (before after : Contents) (found : Option Answer) → Finds (words_of_plan plan) (seen_of_plan plan) before found → AfterFind (words_of_plan plan) (seen_of_plan plan) before after
+      → NeedsStart reuse found → LacksServing reuse (words_of_plan plan) (seen_of_plan plan) after
   lacks-still before after found finds look_up needs = record {
     found = found;
-    finds = found_after_find (words_of plan) (seen_of_plan plan) before after (words_of plan) (seen_of_plan plan) found look_up finds;
+    finds = found_after_find (words_of_plan plan) (seen_of_plan plan) before after (words_of_plan plan) (seen_of_plan plan) found look_up finds;
     needs = needs;
   }
 
   -- no child told the part, or its answer isn't put
   pub part-unput : (calls calls_after faults faults_after : ℕ) (before between after : Contents) (found : Option Answer) (refusal : RunRefusal)
-      → Finds (words_of plan) (seen_of_plan plan) before found → AfterFind (words_of plan) (seen_of_plan plan) before between → NeedsStart reuse found
+      → Finds (words_of_plan plan) (seen_of_plan plan) before found → AfterFind (words_of_plan plan) (seen_of_plan plan) before between → NeedsStart reuse found
       → IsPartUnput tells (moment calls faults between) (moment calls_after faults_after after) plan refusal
       → IsPartStopped tells reuse (moment calls faults before) (moment calls_after faults_after after) plan refusal
   part-unput calls calls_after faults faults_after before between after found refusal finds look_up needs it =
-      let looked_up = subst (AfterFind (words_of plan) (seen_of_plan plan) before) (sym it.kept) look_up in
+      let looked_up = subst (AfterFind (words_of_plan plan) (seen_of_plan plan) before) (sym it.kept) look_up in
       record {
         last = it.last;
         answered = record {
@@ -152,7 +154,7 @@ module _ (tells : List (List ℕ) → List File → Outcome → Type 0) (reuse :
       }
 
   pub part-unput_if : {T : Type 0} (calls calls_after faults faults_after : ℕ) (before between after : Contents) (found : Option Answer) (result : Result T RunRefusal)
-      → Finds (words_of plan) (seen_of_plan plan) before found → AfterFind (words_of plan) (seen_of_plan plan) before between → NeedsStart reuse found
+      → Finds (words_of_plan plan) (seen_of_plan plan) before found → AfterFind (words_of_plan plan) (seen_of_plan plan) before between → NeedsStart reuse found
       → IfErr result (IsPartUnput tells (moment calls faults between) (moment calls_after faults_after after) plan)
       → IfErr result (IsPartStopped tells reuse (moment calls faults before) (moment calls_after faults_after after) plan)
   part-unput_if calls calls_after faults faults_after before between after found (Ok came) finds look_up needs it = tt
@@ -179,8 +181,10 @@ module _ (tells : List (List ℕ) → List File → Outcome → Type 0) (plan : 
   }
 
   -- one told it, and the book refuses
-  pub unput : (calls faults calls_after faults_after : ℕ) (before after : Contents) (outcome : Outcome) (fault : BookFault) → need_of plan ≡ Child → tells (words_of plan) (seen_of_plan plan) outcome
-      → calls_after ≡ calls + 1 → faults_after ≡ faults + faults_in outcome → after ≡ before → IsPartUnput tells (moment calls faults before) (moment calls_after faults_after after) plan (of_book fault)
+  pub unput : (calls faults calls_after faults_after : ℕ) (before after : Contents) (outcome : Outcome) (fault : BookFault) → need_of plan ≡ Child
+      → tells (words_of_plan plan) (seen_of_plan plan) outcome
+      → calls_after ≡ calls + 1 → faults_after ≡ faults + faults_in outcome → after ≡ before
+      → IsPartUnput tells (moment calls faults before) (moment calls_after faults_after after) plan (run_refusal_of_book fault)
   unput calls faults calls_after faults_after before after outcome fault need told call faulted kept = record {
     last = part_with plan outcome false ∷ [];
     outcome = outcome;
@@ -204,7 +208,8 @@ module _ (words others : List (List ℕ)) (seen theirs : List File) (same_words 
   look-up-at before after it = subst (λ (w : List (List ℕ)). AfterFind w theirs before after) same_words (subst (λ (s : List File). AfterFind words s before after) same_seen it)
 
   pub outcome-at : (outcome : Outcome) (before after : Contents) → AfterOutcome words seen outcome before after → AfterOutcome others theirs outcome before after
-  outcome-at outcome before after it = subst (λ (w : List (List ℕ)). AfterOutcome w theirs outcome before after) same_words (subst (λ (s : List File). AfterOutcome words s outcome before after) same_seen it)
+  outcome-at outcome before after it =
+      subst (λ (w : List (List ℕ)). AfterOutcome w theirs outcome before after) same_words (subst (λ (s : List File). AfterOutcome words s outcome before after) same_seen it)
 
 pub none-found : (found : Option Answer) → ((answer : Answer) → found ≡ Some answer → ⊥) → found ≡ None
 none-found None never = refl
@@ -219,7 +224,7 @@ left-then tells before between left Before Between adds first second = elim seco
 ]
 
 -- a test of two answers that says whether they differ
-pub is-marked : (mark same : Bool) (answer found : Answer) → Decides same (answer ≡ found) → mark ≡ not same → IsMarked (Some found) (Done answer) mark
+pub is-marked : (mark same : Bool) (answer found : Answer) → Decides same (answer ≡ found) → mark ≡ not same → IsUnsteadyMark (Some found) (Done answer) mark
 is-marked mark true answer found decides is = (λ marked. absurd (let m = is in cc), λ apart. absurd (apart (decides.0 refl)))
 is-marked mark false answer found decides is = (λ marked alike. absurd (let no = decides.1 alike in cc), λ apart. is)
 
@@ -238,6 +243,7 @@ stopped-back_to tells others same reuse from to plan refusal it = record {
 -- ---- two moments that are the same
 
 -- what holds at a moment holds at one with the same counts
-pub at-moment : (P : Moment → Type 0) (calls calls' faults faults' : ℕ) (remembered : Contents) → calls ≡ calls' → faults ≡ faults' → P (moment calls faults remembered) → P (moment calls' faults' remembered)
+pub at-moment : (P : Moment → Type 0) (calls calls' faults faults' : ℕ) (remembered : Contents) → calls ≡ calls' → faults ≡ faults' → P (moment calls faults remembered)
+    → P (moment calls' faults' remembered)
 at-moment P calls calls' faults faults' remembered same-calls same-faults holds =
     subst (λ count. P (moment count faults' remembered)) same-calls (subst (λ count. P (moment calls count remembered)) same-faults holds)

@@ -13,7 +13,7 @@ use Rattle.report_text.specs.declared.hook_result.Ending.{Ending}
 use Rattle.report_text.specs.declared.hook_result.Ending.TheVariants.{Ran}
 use Rattle.report_text.specs.declared.hook_result.HookResult.{HookResult}
 use Rattle.report_text.specs.declared.hook_result.LineFault.{LineFault}
-use Rattle.hook_run.specs.declared.gathered.Gathered.{Gathered}
+use Rattle.hook_run.specs.declared.part_totals.PartTotals.{PartTotals}
 use Rattle.hook_run.specs.declared.progress.Progress.{Progress}
 use Rattle.hook_run.specs.declared.run_ask.RunAsk.{RunAsk}
 use Rattle.hook_run.specs.declared.run_out.RunOut.{RunOut}
@@ -23,7 +23,7 @@ use Rattle.hook_run.specs.Parts.{ArePartsOf, Part, after_parts, all_parts}
 use Rattle.hook_run.specs.PartsEnding.{ending_of_parts, greatest_status, is_modified, is_unsteady, joined_output, line_faults, line_faults_in, output_in, status_in}
 use Rattle.hook_run.specs.Plans.{AtHook, GoesOn, GoesOnAt, ending_of_gathered, gathered_parts, gathered_with, hooks_after, id_of_gathered, nothing_gathered, progress_with, result_of}
 use Rattle.hook_run.specs.RunOuts.{IsRunOut, out_of, unsteady_id, unsteady_ids}
-use Rattle.hook_run.specs.Standing.{IsFirstOf, id_if, on_tree}
+use Rattle.hook_run.specs.PlanStates.{IsFirstOf, id_if, on_tree}
 use Rattle.hook_run.specs.StageRun.{IsRun, is_last}
 
 -- ---- what the parts of a hook come to
@@ -35,17 +35,17 @@ or_assoc : (a b c : Bool) → ((a || b) || c) ≡ (a || (b || c))
 or_assoc true b c = refl
 or_assoc false b c = refl
 
-gathered-status : (so_far : Gathered) (parts : List Part) → (gathered_parts so_far parts).status ≡ max so_far.status (greatest_status parts)
+gathered-status : (so_far : PartTotals) (parts : List Part) → (gathered_parts so_far parts).status ≡ max so_far.status (greatest_status parts)
 gathered-status so_far [] = sym (max-zero so_far.status)
 gathered-status so_far (part ∷ parts) =
     gathered-status (gathered_with so_far part.outcome part.unsteady) parts ∙ max_assoc so_far.status (status_in part.outcome) (greatest_status parts)
 
-gathered-faults : (so_far : Gathered) (parts : List Part) → (gathered_parts so_far parts).faults ≡ so_far.faults ++ line_faults parts
+gathered-faults : (so_far : PartTotals) (parts : List Part) → (gathered_parts so_far parts).faults ≡ so_far.faults ++ line_faults parts
 gathered-faults so_far [] = sym (append-nil so_far.faults)
 gathered-faults so_far (part ∷ parts) =
     gathered-faults (gathered_with so_far part.outcome part.unsteady) parts ∙ append_assoc so_far.faults (line_faults_in part.outcome) (line_faults parts)
 
-gathered-output : (so_far : Gathered) (parts : List Part) → (gathered_parts so_far parts).output ≡ so_far.output ++ joined_output parts
+gathered-output : (so_far : PartTotals) (parts : List Part) → (gathered_parts so_far parts).output ≡ so_far.output ++ joined_output parts
 gathered-output so_far [] = sym (append-nil so_far.output)
 gathered-output so_far (part ∷ parts) =
     gathered-output (gathered_with so_far part.outcome part.unsteady) parts ∙ append_assoc so_far.output (output_in part.outcome) (joined_output parts)
@@ -54,7 +54,7 @@ or-false : (b : Bool) → b ≡ (b || false)
 or-false true = refl
 or-false false = refl
 
-gathered-unsteady : (so_far : Gathered) (parts : List Part) → (gathered_parts so_far parts).unsteady ≡ (so_far.unsteady || is_unsteady parts)
+gathered-unsteady : (so_far : PartTotals) (parts : List Part) → (gathered_parts so_far parts).unsteady ≡ (so_far.unsteady || is_unsteady parts)
 gathered-unsteady so_far [] = or-false so_far.unsteady
 gathered-unsteady so_far (part ∷ parts) =
     gathered-unsteady (gathered_with so_far part.outcome part.unsteady) parts ∙ or_assoc so_far.unsteady part.unsteady (is_unsteady parts)
@@ -139,10 +139,10 @@ hook-done config ask done hook hooks here ending ids rest out ends same more =
 
 -- ---- a hook that has begun, and the run behind it
 
-abbrev at_from : Hook → List File → List (List (List ℕ)) → Gathered → AtHook
+abbrev at_from : Hook → List File → List (List (List ℕ)) → PartTotals → AtHook
 at_from hook before commands gathered = record { hook = hook; before = before; commands = commands; gathered = gathered }
 
-same-at : (h k : Hook) (a b : List File) (c d : List (List (List ℕ))) (g f : Gathered) → h ≡ k → a ≡ b → c ≡ d → g ≡ f → at_from h a c g ≡ at_from k b d f
+same-at : (h k : Hook) (a b : List File) (c d : List (List (List ℕ))) (g f : PartTotals) → h ≡ k → a ≡ b → c ≡ d → g ≡ f → at_from h a c g ≡ at_from k b d f
 same-at h k a b c d g f hook before commands gathered = cc
 
 begun-done : (config : Config) (ask : RunAsk) (done : Progress) (hook : Hook) (hooks : List Hook) (commands : List (List (List ℕ))) (parts : List Part) (out : RunOut)
@@ -172,7 +172,7 @@ part_from words seen outcome unsteady = record { words = words; seen = seen; out
 
 -- what follows on a part of the hook follows the part
 pub part-told : (config : Config) (ask : RunAsk) (done : Progress) (hook : Hook) (before : List File) (command : List (List ℕ)) (commands : List (List (List ℕ)))
-    (so_far : Gathered) (hooks : List Hook) (outcome : Outcome) (unsteady : Bool) (parts : List Part) (out : RunOut)
+    (so_far : PartTotals) (hooks : List Hook) (outcome : Outcome) (unsteady : Bool) (parts : List Part) (out : RunOut)
     → GoesOnAt config ask (on_tree done (after_outcome done.tree outcome)) (at_from hook before commands (gathered_with so_far outcome unsteady)) hooks parts out
     → GoesOnAt config ask done (at_from hook before (command ∷ commands) so_far) hooks
     (part_from command (seen_of command (further_of hook done.tree) (sees_whole hook) done.tree) outcome unsteady ∷ parts) out

@@ -20,7 +20,7 @@ use Rattle.hook_run.specs.Moments.{Moment}
 use Rattle.hook_run.specs.OneAnswer.{AreSameRuns}
 use Rattle.hook_run.specs.Parts.{Part, after_parts, all_parts}
 use Rattle.hook_run.specs.RunOuts.{IsRunOut, IsRunOver}
-use Rattle.hook_run.specs.SameRuns.{GiveSame, without_mark, without_marks}
+use Rattle.hook_run.specs.SameRuns.{GiveSame, without_unsteady_mark, without_marks}
 use Rattle.hook_run.specs.StageRun.{IsRun, is_last}
 use Rattle.hook_run.specs.Starts.{Starts, StartsFor, StartsOne}
 use Rattle.hook_run.specs.UnseenEdits.{DifferOnlyIn, EndAlike, HasRunAlike, HoldAlike, HoldsAll, HoldsOutcome, IsUnseenEdit, reusing_all}
@@ -44,23 +44,27 @@ record IsFound (before after : Contents) (outcome : Outcome) (part : Part) (star
   unstarted : started ≡ []
   kept : (one : Part) → Held before one → Held after one
 
-held-found : (words : List (List ℕ)) (seen : List File) (outcome : Outcome) (before after : Contents) → AfterFind words seen before after → (others : List (List ℕ)) (theirs : List File) → HoldsOutcome others theirs outcome before → HoldsOutcome others theirs outcome after
+held-found : (words : List (List ℕ)) (seen : List File) (outcome : Outcome) (before after : Contents) → AfterFind words seen before after → (others : List (List ℕ)) (theirs : List File)
+    → HoldsOutcome others theirs outcome before → HoldsOutcome others theirs outcome after
 held-found words seen (Done answer) before after found others theirs held = found.kept others theirs answer held
 held-found words seen (Failed fault) before after found others theirs held = held
 
-found-for : (outcome : Outcome) (found : Option Answer) (before between after : Contents) (part : Part) (started : List Part) → HoldsOutcome part.words part.seen outcome before → Finds part.words part.seen before found
+found-for : (outcome : Outcome) (found : Option Answer) (before between after : Contents) (part : Part) (started : List Part) → HoldsOutcome part.words part.seen outcome before
+    → Finds part.words part.seen before found
     → AfterFind part.words part.seen before between → StartsFor reuse.All found between after part started → IsFound before after outcome part started
 found-for (Failed fault) found before between after part started held finds looked starts = absurd held
 found-for (Done answer) None before between after part started held finds looked starts = absurd (finds answer held)
 found-for (Done answer) (Some found) before between after part started held finds looked starts =
-    let same : answer ≡ found = HaveRow-one part.words part.seen answer found between.rows looked.distinct (looked.kept part.words part.seen answer held) (looked.kept part.words part.seen found finds) in
+    let same : answer ≡ found =
+    HaveRow-one part.words part.seen answer found between.rows looked.distinct (looked.kept part.words part.seen answer held) (looked.kept part.words part.seen found finds) in
     record {
       same = ap Done same ∙ sym starts.0.outcome;
       unstarted = starts.1;
       kept = λ one held_before. subst (λ (at : Contents). Held at one) (sym starts.0.kept) (held-found part.words part.seen one.outcome before between looked one.words one.seen held_before);
     }
 
-found-one : (outcome : Outcome) (before after : Contents) (part : Part) (started : List Part) → HoldsOutcome part.words part.seen outcome before → StartsOne reuse.All before after part started → IsFound before after outcome part started
+found-one : (outcome : Outcome) (before after : Contents) (part : Part) (started : List Part) → HoldsOutcome part.words part.seen outcome before → StartsOne reuse.All before after part started
+    → IsFound before after outcome part started
 found-one outcome before after part started held one = found-for outcome one.found before one.looked_up after part started held one.finds one.look_up one.starts
 
 -- ---- all parts
@@ -83,7 +87,7 @@ none-started before after (part ∷ parts) started held starts =
     let rest = none-started starts.between after parts starts.others (each-held before starts.between one.kept parts held.1) starts.more in
     starts.joined ∙ ap₂ (λ (first others : List Part). first ++ others) one.unstarted rest
 
-same-held : (before : Contents) (part other : Part) → without_mark part ≡ without_mark other → Held before part → Held before other
+same-held : (before : Contents) (part other : Part) → without_unsteady_mark part ≡ without_unsteady_mark other → Held before part → Held before other
 same-held before part other same held = subst (Held before) same held
 
 held-unmarked : (before : Contents) (parts others : List Part) → without_marks parts ≡ without_marks others → Each (Held before) parts → Each (Held before) others
@@ -91,13 +95,14 @@ held-unmarked before [] [] same held = tt
 held-unmarked before [] (other ∷ others) same held = absurd (cc)
 held-unmarked before (part ∷ parts) [] same held = absurd (cc)
 held-unmarked before (part ∷ parts) (other ∷ others) same held =
-    let first : without_mark part ≡ without_mark other = cc in
+    let first : without_unsteady_mark part ≡ without_unsteady_mark other = cc in
     let rest : without_marks parts ≡ without_marks others = cc in
     (same-held before part other first held.0, held-unmarked before parts others rest held.1)
 
 -- ---- which remembered answers serve a run doesn't matter to its parts and results
 
-run-reusing : (config : Config) (ask : RunAsk) (tree : List File) (hooks : List Hook) (trace : List (List Part)) (results : List HookResult) → IsRun config ask tree hooks trace results → IsRun config (reusing_all ask) tree hooks trace results
+run-reusing : (config : Config) (ask : RunAsk) (tree : List File) (hooks : List Hook) (trace : List (List Part)) (results : List HookResult) → IsRun config ask tree hooks trace results
+    → IsRun config (reusing_all ask) tree hooks trace results
 run-reusing config ask tree [] [] [] run = tt
 run-reusing config ask tree [] [] (result ∷ results) run = absurd run
 run-reusing config ask tree [] (parts ∷ trace) results run = absurd run
@@ -122,7 +127,8 @@ end-same paths tree other out there second alike given = record {
   left_there = subst (λ (t : List File). HoldAlike paths other t) given.tree alike.left_there;
 }
 
-module _ (tells : List (List ℕ) → List File → Outcome → Type 0) (config : Config) (ask : RunAsk) (paths : List (List ℕ)) (tree other : List File) (trace : List (List Part)) (out there : RunOut) (from to : Moment)
+module _ (tells : List (List ℕ) → List File → Outcome → Type 0) (config : Config) (ask : RunAsk) (paths : List (List ℕ)) (tree other : List File) (trace : List (List Part)) (out there : RunOut)
+    (from to : Moment)
     (it : IsUnseenEdit config ask paths tree other trace out) (held : HoldsAll (all_parts trace) from.remembered) (over : IsRunOver tells from to config (reusing_all ask) other there) where
   each-part : Each (Held from.remembered) (all_parts trace)
   each-part = recursion_from_All (Held from.remembered) (all_parts trace) held

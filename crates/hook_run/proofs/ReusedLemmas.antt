@@ -20,7 +20,8 @@ alone part started is = subst (λ (all : List Part). Contains all part) (sym is)
 came-for : (reuse : Reuse) (found : Option Answer) (before after : Contents) (part : Part) (started : List Part) → StartsFor reuse found before after part started → Came reuse started part
 came-for reuse None before after part started starts = inr (alone part started starts.1)
 came-for reuse (Some answer) before after part started starts =
-    (elim (serves reuse answer) as (λ (b : Bool). serves reuse answer ≡ b → MatchBool b (IsReplayed answer before after part × (started ≡ [])) (IsStarted (Some answer) before after part × (started ≡ part ∷ []))
+    (elim (serves reuse answer) as (λ (b : Bool). serves reuse answer ≡ b
+    → MatchBool b (IsReplayed answer before after part × (started ≡ [])) (IsStarted (Some answer) before after part × (started ≡ part ∷ []))
     → Came reuse started part) [
       | true ↦ λ served replayed. inl (subst (IsServing reuse) (sym replayed.0.outcome) served)
       | false ↦ λ unserved one. inr (alone part started one.1)

@@ -25,7 +25,7 @@ use Rattle.hook_run.specs.Moments.{Moment}
 use Rattle.hook_run.specs.Parts.{AllTold, Part, all_parts}
 use Rattle.hook_run.specs.PlanRuns.{IsPartStopped, IsPlanRun, IsPlanStopped, one_if}
 use Rattle.hook_run.specs.Plans.{AtPart, CanComplete, Completes, CompletesAt, IsPlanAfter, IsPlanOf, Plan, need_at, need_of, out_of_plan, part_with, seen_at, seen_of_plan, tree_of_plan}
-use Rattle.hook_run.specs.Refusals.{IsOfBook, is_of_book, of_book}
+use Rattle.hook_run.specs.Refusals.{IsOfBook, is_of_book, run_refusal_of_book}
 use Rattle.hook_run.specs.RunOuts.{IsBegun, IsCountedRun, IsRunOut, IsRunOver, IsStoppedRun}
 use Rattle.hook_run.specs.Starts.{Starts}
 use Rattle.hook_run.proofs.CompletionLemmas.{begins-at-once, can-follow}
@@ -59,7 +59,8 @@ module _ (tells : List (List ℕ) → List File → Outcome → Type 0) (reuse :
     leads = λ rest out on. on;
   }
 
-  more-reused : (from now to : Moment) (parts more : List Part) (answered : AreAnswered tells reuse from now parts) (all : AreAnswered tells reuse from to (parts ++ more)) (reused after : ℕ) (one : Bool)
+  more-reused : (from now to : Moment) (parts more : List Part) (answered : AreAnswered tells reuse from now parts) (all : AreAnswered tells reuse from to (parts ++ more)) (reused after : ℕ)
+      (one : Bool)
       → AreReused parts answered.started reused → length more ≡ 1 → to.calls + one_if one ≡ now.calls + 1 → after ≡ min (reused + one_if one) (2 ^ 64 - 1) → AreReused (parts ++ more) all.started after
   more-reused from now to parts more answered all reused after one count long calls counted =
       let called = answered.counted.called in
@@ -82,7 +83,8 @@ module _ (tells : List (List ℕ) → List File → Outcome → Type 0) (reuse :
             (it.leads (part ∷ rest) out (follows rest out on));
       }
 
-  pub plan-run : (from to : Moment) (first plan : Plan) (ran : HooksRun) → PlanSoFar tells reuse from to ran.reused first plan → need_of plan ≡ Over → ran.out ≡ out_of_plan plan → IsPlanRun tells reuse from to first ran
+  pub plan-run : (from to : Moment) (first plan : Plan) (ran : HooksRun) → PlanSoFar tells reuse from to ran.reused first plan → need_of plan ≡ Over → ran.out ≡ out_of_plan plan
+      → IsPlanRun tells reuse from to first ran
   plan-run from to first plan ran it over is = record {
     parts = it.parts;
     answered = it.answered;
@@ -91,7 +93,8 @@ module _ (tells : List (List ℕ) → List File → Outcome → Type 0) (reuse :
   }
 
   -- what goes on from the plan goes on from the first
-  lead-on : (from to : Moment) (reused : ℕ) (first plan : Plan) (front : List Part) → (it : PlanSoFar tells reuse from to reused first plan) → CanComplete plan front → CanComplete first (it.parts ++ front)
+  lead-on : (from to : Moment) (reused : ℕ) (first plan : Plan) (front : List Part) → (it : PlanSoFar tells reuse from to reused first plan) → CanComplete plan front
+      → CanComplete first (it.parts ++ front)
   lead-on from to reused first plan front it can = record {
     rest = can.rest;
     out = can.out;
@@ -144,8 +147,10 @@ module _ (tells : List (List ℕ) → List File → Outcome → Type 0) (reuse :
         spent = λ spent. absurd (cc);
       }
 
-  pub plan-lost_if : {T : Type 0} (from now to : Moment) (reused : ℕ) (first plan : Plan) (outcome : Outcome) (unsteady : Bool) (result : Result T RunRefusal) → PlanSoFar tells reuse from now reused first plan
-      → AreAnswered tells reuse now to (part_with plan outcome unsteady ∷ []) → need_of plan ≡ Child → IsErrAnd result (λ refusal. refusal ≡ OutOfMemory) → IfErr result (IsPlanStopped tells reuse from to first)
+  pub plan-lost_if : {T : Type 0} (from now to : Moment) (reused : ℕ) (first plan : Plan) (outcome : Outcome) (unsteady : Bool) (result : Result T RunRefusal)
+      → PlanSoFar tells reuse from now reused first plan
+      → AreAnswered tells reuse now to (part_with plan outcome unsteady ∷ []) → need_of plan ≡ Child → IsErrAnd result (λ refusal. refusal ≡ OutOfMemory)
+      → IfErr result (IsPlanStopped tells reuse from to first)
   plan-lost_if from now to reused first plan outcome unsteady (Ok out) it answered need is = absurd is
   plan-lost_if from now to reused first plan outcome unsteady (Err refusal) it answered need is = plan-lost from now to reused first plan outcome unsteady refusal it answered need is
 
@@ -153,7 +158,8 @@ module _ (tells : List (List ℕ) → List File → Outcome → Type 0) (reuse :
 
 module _ (tells : List (List ℕ) → List File → Outcome → Type 0) (from to : Moment) (config : Config) (ask : RunAsk) (tree : List File) (plan : Plan) (of : IsPlanOf config ask tree plan) where
   -- parts that are the same are answered, and counted, as these
-  counted-run : (ran : HooksRun) (trace : List (List Part)) (parts : List Part) → all_parts trace ≡ parts → IsRunOut config ask tree trace ran.out → (answered : AreAnswered tells ask.reuse from to parts)
+  counted-run : (ran : HooksRun) (trace : List (List Part)) (parts : List Part) → all_parts trace ≡ parts → IsRunOut config ask tree trace ran.out
+      → (answered : AreAnswered tells ask.reuse from to parts)
       → AreReused parts answered.started ran.reused → IsCountedRun tells from to config ask tree ran
   counted-run ran trace parts same run answered count = record {
     over = record {
@@ -202,12 +208,14 @@ module _ (tells : List (List ℕ) → List File → Outcome → Type 0) (from to
     spent = on.spent;
   }
 
-  pub adds_if : (result : Result HooksRun RunRefusal) → IfOk result (IsPlanRun tells ask.reuse from to plan) → IfErr result (IsPlanStopped tells ask.reuse from to plan) → AddsTold tells from.remembered to.remembered
+  pub adds_if : (result : Result HooksRun RunRefusal) → IfOk result (IsPlanRun tells ask.reuse from to plan) → IfErr result (IsPlanStopped tells ask.reuse from to plan)
+      → AddsTold tells from.remembered to.remembered
   adds_if (Ok ran) run stopped = answered-adds tells ask.reuse from to run.parts run.answered
   adds_if (Err refusal) run stopped = so-far-adds tells ask.reuse from to stopped.parts stopped.answered
 
 -- a run of which there is no plan
-stopped-at-once : (tells : List (List ℕ) → List File → Outcome → Type 0) (at : Moment) (config : Config) (ask : RunAsk) (tree : List File) (refusal : RunRefusal) → refusal ≢ Spent → IsStoppedRun tells at at config ask tree refusal
+stopped-at-once : (tells : List (List ℕ) → List File → Outcome → Type 0) (at : Moment) (config : Config) (ask : RunAsk) (tree : List File) (refusal : RunRefusal) → refusal ≢ Spent
+    → IsStoppedRun tells at at config ask tree refusal
 stopped-at-once tells at config ask tree refusal countable = record {
   parts = [];
   answered = so-far tells ask.reuse at at [] (answered-none tells ask.reuse at);
@@ -236,15 +244,15 @@ pub not-book_if : {T : Type 0} (refuses : BookFault → Type 0) (result : Result
 not-book_if refuses (Ok out) isnt = tt
 not-book_if refuses (Err refusal) isnt = not-book refuses refusal isnt
 
-pub not-asked : (fault : BookFault) → of_book fault ≢ NoSuchHook
+pub not-asked : (fault : BookFault) → run_refusal_of_book fault ≢ NoSuchHook
 not-asked book.OutOfMemory = λ is. cc
 not-asked (book.Store fault) = λ is. cc
 
-pub not-spent : (fault : BookFault) → of_book fault ≢ Spent
+pub not-spent : (fault : BookFault) → run_refusal_of_book fault ≢ Spent
 not-spent book.OutOfMemory = λ is. cc
 not-spent (book.Store fault) = λ is. cc
 
-pub of-book : (refuses : BookFault → Type 0) (fault : BookFault) → refuses fault → IsOfBook refuses (of_book fault)
+pub of-book : (refuses : BookFault → Type 0) (fault : BookFault) → refuses fault → IsOfBook refuses (run_refusal_of_book fault)
 of-book refuses book.OutOfMemory refused = tt
 of-book refuses (book.Store fault) refused = (refused, refl)
 

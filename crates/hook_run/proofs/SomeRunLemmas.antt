@@ -67,11 +67,13 @@ some-parts answers whole further (words ∷ commands) tree =
       answered = (refl, rest.answered);
     }
 
-either-ending : (answers : Answers) (b : Bool) (P Q : List Part → Ending → Type 0) → SomeEnding answers P → SomeEnding answers Q → SomeEnding answers (λ parts ending. MatchBool b (P parts ending) (Q parts ending))
+either-ending : (answers : Answers) (b : Bool) (P Q : List Part → Ending → Type 0) → SomeEnding answers P → SomeEnding answers Q
+    → SomeEnding answers (λ parts ending. MatchBool b (P parts ending) (Q parts ending))
 either-ending answers true P Q first second = record { parts = first.parts; ending = first.ending; is = first.is; answered = first.answered }
 either-ending answers false P Q first second = record { parts = second.parts; ending = second.ending; is = second.is; answered = second.answered }
 
-option-ending : (answers : Answers) (o : Option ℕ) (P : List Part → Ending → Type 0) (Q : ℕ → List Part → Ending → Type 0) → (o ≡ None → SomeEnding answers P) → ((n : ℕ) → SomeEnding answers (Q n)) → SomeEnding answers (λ parts ending. MatchOption o (P parts ending) (λ n. Q n parts ending))
+option-ending : (answers : Answers) (o : Option ℕ) (P : List Part → Ending → Type 0) (Q : ℕ → List Part → Ending → Type 0) → (o ≡ None → SomeEnding answers P) → ((n : ℕ) → SomeEnding answers (Q n))
+    → SomeEnding answers (λ parts ending. MatchOption o (P parts ending) (λ n. Q n parts ending))
 option-ending answers None P Q first second =
     let some = first refl in
     record { parts = some.parts; ending = some.ending; is = some.is; answered = some.answered }

@@ -18,7 +18,8 @@ pub record IsCounted (from to : Moment) (started : List Part) : Type 0 where
 
 -- Each of the parts has its outcome. The children reported and counted the parts in `started`, and nothing
 -- else. What is cached changes as `Starts` says.
-pub record AreAnswered (tells : List (List ℕ) → List File → Outcome → Type 0) (reuse : Reuse) (from to : Moment) (parts : List Part) : Type 0 where
+pub record AreAnswered (tells : List (List ℕ) → List File → Outcome → Type 0) (reuse : Reuse) (from to : Moment)
+    (parts : List Part) : Type 0 where
   pub started : List Part
   pub starts : Starts reuse from.remembered to.remembered parts started
   pub told : AllTold tells started
@@ -33,7 +34,8 @@ pub record AreReused (parts started : List Part) (reused : ℕ) : Type 0 where
 -- A run is stopped at a part that needs a child. It was looked up, and the run may not use the cached result,
 -- if there is one. Either no child reported it, and `last` is empty; or one did, its answer isn't put, and
 -- `last` has the part.
-pub record IsCutOff (tells : List (List ℕ) → List File → Outcome → Type 0) (reuse : Reuse) (from to : Moment) (part : Part) (last : List Part) : Type 0 where
+pub record IsCutOff (tells : List (List ℕ) → List File → Outcome → Type 0) (reuse : Reuse) (from to : Moment)
+    (part : Part) (last : List Part) : Type 0 where
   pub found : Option Answer
   pub finds : Finds part.words part.seen from.remembered found
   pub needs : NeedsStart reuse found
@@ -43,7 +45,8 @@ pub record IsCutOff (tells : List (List ℕ) → List File → Outcome → Type 
   pub counted : IsCounted from to last
 
 -- The same of parts with which a run may be stopped: after a whole part, or at one that needs a child.
-pub record AreAnsweredSoFar (tells : List (List ℕ) → List File → Outcome → Type 0) (reuse : Reuse) (from to : Moment) (parts : List Part) : Type 0 where
+pub record AreAnsweredSoFar (tells : List (List ℕ) → List File → Outcome → Type 0) (reuse : Reuse) (from to : Moment)
+    (parts : List Part) : Type 0 where
   pub done : List Part
   pub last : List Part
   pub between : Moment

@@ -89,8 +89,10 @@ IsCommandRun hook words names tree parts ending =
 abbrev pub IsLanguageRun : Language → Hook → List (List ℕ) → List File → List Part → Ending → Type 0
 IsLanguageRun Fail hook names tree parts ending = AnswersItself (fail_answer hook.entry names) parts ending
 IsLanguageRun (Pygrep search) hook names tree parts ending = AnswersItself (grep_answer search names tree) parts ending
-IsLanguageRun (System words) hook names tree parts ending = IsCommandRun hook (command_of false words tree) names tree parts ending
-IsLanguageRun (Script words) hook names tree parts ending = IsCommandRun hook (command_of true words tree) names tree parts ending
+IsLanguageRun (System words) hook names tree parts ending =
+    IsCommandRun hook (command_of false words tree) names tree parts ending
+IsLanguageRun (Script words) hook names tree parts ending =
+    IsCommandRun hook (command_of true words tree) names tree parts ending
 
 -- a hook with these files ends so: without any it is skipped, unless it has `always_run`
 -- (`pre_commit.commands.run._run_single_hook`)
@@ -108,7 +110,8 @@ IsEnding config ask tree hook parts ending =
     (IsHookRun hook (selected (rules_of config hook) ask.candidates tree) tree parts ending)
 
 -- the result is the hook's on this tree, with these parts
-pub record IsResult (config : Config) (ask : RunAsk) (tree : List File) (hook : Hook) (parts : List Part) (result : HookResult) : Type 0 where
+pub record IsResult (config : Config) (ask : RunAsk) (tree : List File) (hook : Hook) (parts : List Part)
+    (result : HookResult) : Type 0 where
   pub name : result.name ≡ hook.name
   pub id : result.id ≡ hook.id
   pub verbose : result.verbose ≡ hook.verbose

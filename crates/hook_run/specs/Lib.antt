@@ -17,11 +17,11 @@ pub mod PartsEnding
 pub mod PlanBounds
 pub mod PlanLaws
 pub mod PlanRuns
+pub mod PlanStates
 pub mod Plans
 pub mod Refusals
 pub mod ReusedRuns
 pub mod Reuses
-pub mod Standing
 pub mod RunOuts
 pub mod SameRuns
 pub mod StageRun

@@ -14,10 +14,13 @@ use Rattle.hook_run.specs.SameRuns.{GiveSame, without_marks}
 
 -- two completed answers that may be reported for the same words and seen files are the same
 abbrev pub OneAnswer : (List (List ℕ) → List File → Outcome → Type 0) → Type 0
-OneAnswer tells = (words : List (List ℕ)) (seen : List File) (first second : Answer) → tells words seen (Done first) → tells words seen (Done second) → first ≡ second
+OneAnswer tells =
+    (words : List (List ℕ)) (seen : List File) (first second : Answer) → tells words seen (Done first)
+    → tells words seen (Done second) → first ≡ second
 
 -- a run of the hooks that are asked for gives this, each of its outcomes may be reported, and none is a fault
-pub record IsFaultless (tells : List (List ℕ) → List File → Outcome → Type 0) (config : Config) (ask : RunAsk) (tree : List File) (trace : List (List Part)) (out : RunOut) : Type 0 where
+pub record IsFaultless (tells : List (List ℕ) → List File → Outcome → Type 0) (config : Config) (ask : RunAsk)
+    (tree : List File) (trace : List (List Part)) (out : RunOut) : Type 0 where
   pub run : IsRunOut config ask tree trace out
   pub told : AllTold tells (all_parts trace)
   pub no_fault : faults_of (all_parts trace) ≡ 0

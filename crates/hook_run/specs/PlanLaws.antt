@@ -8,7 +8,7 @@ use Rattle.hook_run.specs.declared.need.Need.TheVariants.{Child, Over}
 use Rattle.hook_run.specs.declared.run_ask.RunAsk.{RunAsk}
 use Rattle.hook_run.specs.declared.run_out.RunOut.{RunOut}
 use Rattle.hook_run.specs.Parts.{Part, after_parts, all_parts}
-use Rattle.hook_run.specs.Plans.{Completes, IsPlanAfter, Plan, need_of, out_of_plan, part_with, seen_of_plan, tree_of_plan, words_of}
+use Rattle.hook_run.specs.Plans.{Completes, IsPlanAfter, Plan, need_of, out_of_plan, part_with, seen_of_plan, tree_of_plan, words_of_plan}
 use Rattle.hook_run.specs.RunOuts.{IsBegun, IsRunOut}
 use Rattle.hook_run.specs.SameRuns.{GiveSame}
 
@@ -29,7 +29,7 @@ HasTold first (part ∷ parts) last =
 -- The rest of a run is as the plan says. It goes on with the part that the plan needs, whatever becomes of
 -- its child. Or it is over, and gives what the plan does, except for the ids of unsteady hooks.
 abbrev pub IsNextBy : Plan → Need → List Part → RunOut → Type 0
-IsNextBy plan Child (part ∷ rest) out = (part.words ≡ words_of plan) × (part.seen ≡ seen_of_plan plan)
+IsNextBy plan Child (part ∷ rest) out = (part.words ≡ words_of_plan plan) × (part.seen ≡ seen_of_plan plan)
 IsNextBy plan Over [] out = GiveSame out (out_of_plan plan)
 IsNextBy plan need rest out = ⊥
 
@@ -43,9 +43,12 @@ pub record IsWhole (config : Config) (ask : RunAsk) (tree : List File) (parts : 
 -- on the tree that they leave. Whatever becomes of it, there is a run that begins with these parts and that
 -- one. If the plan is over, a run with just these parts gives what it does, without unsteady hooks if no part
 -- is marked. No run that begins with these parts goes on otherwise.
-pub record IsWhatComesNext (config : Config) (ask : RunAsk) (tree : List File) (parts : List Part) (plan : Plan) : Type 0 where
+pub record IsWhatComesNext (config : Config) (ask : RunAsk) (tree : List File) (parts : List Part)
+    (plan : Plan) : Type 0 where
   pub on_tree : tree_of_plan plan ≡ after_parts tree parts
-  pub next : need_of plan ≡ Child → (outcome : Outcome) (unsteady : Bool) → IsBegun config ask tree (parts ++ part_with plan outcome unsteady ∷ [])
+  pub next : need_of plan ≡ Child → (outcome : Outcome) (unsteady : Bool)
+      → IsBegun config ask tree (parts ++ part_with plan outcome unsteady ∷ [])
   pub over : need_of plan ≡ Over → IsWhole config ask tree parts (out_of_plan plan)
   pub steady : need_of plan ≡ Over → All (λ part. part.unsteady ≡ false) parts → (out_of_plan plan).unsteady ≡ []
-  pub only : (trace : List (List Part)) (out : RunOut) (rest : List Part) → IsRunOut config ask tree trace out → all_parts trace ≡ parts ++ rest → IsNextBy plan (need_of plan) rest out
+  pub only : (trace : List (List Part)) (out : RunOut) (rest : List Part) → IsRunOut config ask tree trace out
+      → all_parts trace ≡ parts ++ rest → IsNextBy plan (need_of plan) rest out

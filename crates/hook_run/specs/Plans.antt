@@ -9,7 +9,7 @@ use Rattle.hook_config.specs.declared.configuration.Hook.{Hook}
 use Rattle.report_text.specs.declared.hook_result.Ending.{Ending}
 use Rattle.report_text.specs.declared.hook_result.Ending.TheVariants.{Ran}
 use Rattle.report_text.specs.declared.hook_result.HookResult.{HookResult}
-use Rattle.hook_run.specs.declared.gathered.Gathered.{Gathered}
+use Rattle.hook_run.specs.declared.part_totals.PartTotals.{PartTotals}
 use Rattle.hook_run.specs.declared.need.Need.{Need}
 use Rattle.hook_run.specs.declared.need.Need.TheVariants.{Child, Over}
 use Rattle.hook_run.specs.declared.progress.Progress.{Progress}
@@ -24,12 +24,14 @@ use Rattle.hook_run.specs.StageRun.{IsRun, is_last}
 -- ---- between two hooks
 
 -- a run goes on with these hooks and parts, and gives this in the end
-pub record GoesOn (config : Config) (ask : RunAsk) (done : Progress) (hooks : List Hook) (parts : List Part) (out : RunOut) : Type 0 where
+pub record GoesOn (config : Config) (ask : RunAsk) (done : Progress) (hooks : List Hook) (parts : List Part)
+    (out : RunOut) : Type 0 where
   pub trace : List (List Part)
   pub results : List HookResult
   pub joined : parts ≡ all_parts trace
   pub run : IsRun config ask done.tree hooks trace results
-  pub is : out ≡ out_of config ask (done.results ++ results) (tree_after done.tree trace) (done.unsteady ++ unsteady_ids hooks trace)
+  pub is : out ≡ out_of config ask (done.results ++ results) (tree_after done.tree trace)
+      (done.unsteady ++ unsteady_ids hooks trace)
 
 -- the result of a hook that ends so
 abbrev pub result_of : Hook → Ending → HookResult
@@ -41,10 +43,10 @@ hooks_after config hook ending hooks = if is_last config hook ending then [] els
 
 -- ---- at a hook with children
 
-abbrev pub nothing_gathered : Gathered
+abbrev pub nothing_gathered : PartTotals
 nothing_gathered = record { status = 0; faults = []; output = []; unsteady = false }
 
-abbrev pub gathered_with : Gathered → Outcome → Bool → Gathered
+abbrev pub gathered_with : PartTotals → Outcome → Bool → PartTotals
 gathered_with so_far outcome unsteady = record {
   status = max so_far.status (status_in outcome);
   faults = so_far.faults ++ line_faults_in outcome;
@@ -52,15 +54,15 @@ gathered_with so_far outcome unsteady = record {
   unsteady = so_far.unsteady || unsteady;
 }
 
-abbrev pub gathered_parts : Gathered → List Part → Gathered
+abbrev pub gathered_parts : PartTotals → List Part → PartTotals
 gathered_parts so_far [] = so_far
 gathered_parts so_far (part ∷ parts) = gathered_parts (gathered_with so_far part.outcome part.unsteady) parts
 
 -- how a hook ends that began on the tree `before` and left the tree `after`
-abbrev pub ending_of_gathered : Gathered → List File → List File → Ending
+abbrev pub ending_of_gathered : PartTotals → List File → List File → Ending
 ending_of_gathered all before after = Ran all.status all.faults (is_modified before after) all.output
 
-abbrev pub id_of_gathered : Hook → Gathered → List (List ℕ)
+abbrev pub id_of_gathered : Hook → PartTotals → List (List ℕ)
 id_of_gathered hook all = if all.unsteady then hook.id ∷ [] else []
 
 -- the progress of the run after a hook that ends so
@@ -77,7 +79,7 @@ pub record AtHook : Type 0 where
   pub hook : Hook
   pub before : List File
   pub commands : List (List (List ℕ))
-  pub gathered : Gathered
+  pub gathered : PartTotals
 
 -- a hook with a part that waits for its outcome: the command of that part, and those of the parts after it
 pub record AtPart : Type 0 where
@@ -85,7 +87,7 @@ pub record AtPart : Type 0 where
   pub before : List File
   pub command : List (List ℕ)
   pub behind : List (List (List ℕ))
-  pub gathered : Gathered
+  pub gathered : PartTotals
 
 -- the hook, with that part among those that are left
 abbrev pub left_at : AtPart → AtHook
@@ -94,15 +96,18 @@ left_at at = record { hook = at.hook; before = at.before; commands = at.command 
 -- the progress of the run once the hook has these further parts
 abbrev pub progress_behind : Progress → AtHook → List Part → Progress
 progress_behind done at parts =
-    progress_with done at.hook (ending_of_gathered (gathered_parts at.gathered parts) at.before (after_parts done.tree parts))
+    progress_with done at.hook (ending_of_gathered (gathered_parts at.gathered parts) at.before
+    (after_parts done.tree parts))
     (id_of_gathered at.hook (gathered_parts at.gathered parts)) (after_parts done.tree parts)
 
 abbrev pub hooks_behind_parts : Config → Progress → AtHook → List Part → List Hook → List Hook
 hooks_behind_parts config done at parts hooks =
-    hooks_after config at.hook (ending_of_gathered (gathered_parts at.gathered parts) at.before (after_parts done.tree parts)) hooks
+    hooks_after config at.hook (ending_of_gathered (gathered_parts at.gathered parts) at.before
+    (after_parts done.tree parts)) hooks
 
 -- the hook goes on with parts of the commands that are left, and then the run goes on
-pub record GoesOnAt (config : Config) (ask : RunAsk) (done : Progress) (at : AtHook) (hooks : List Hook) (parts : List Part) (out : RunOut) : Type 0 where
+pub record GoesOnAt (config : Config) (ask : RunAsk) (done : Progress) (at : AtHook) (hooks : List Hook)
+    (parts : List Part) (out : RunOut) : Type 0 where
   pub here : List Part
   pub rest : List Part
   pub joined : parts ≡ here ++ rest
@@ -132,8 +137,8 @@ command_at None = []
 command_at (Some at) = at.command
 
 -- the command of the part that the plan needs, with its names
-abbrev pub words_of : Plan → List (List ℕ)
-words_of plan = command_at plan.waiting
+abbrev pub words_of_plan : Plan → List (List ℕ)
+words_of_plan plan = command_at plan.waiting
 
 abbrev pub seen_at : Option AtPart → List File → List File
 seen_at None tree = []
@@ -169,7 +174,7 @@ pub record CanComplete (plan : Plan) (front : List Part) : Type 0 where
 -- the part that the plan needs, with this outcome
 abbrev pub part_with : Plan → Outcome → Bool → Part
 part_with plan outcome unsteady =
-    record { words = words_of plan; seen = seen_of_plan plan; outcome = outcome; unsteady = unsteady }
+    record { words = words_of_plan plan; seen = seen_of_plan plan; outcome = outcome; unsteady = unsteady }
 
 -- whatever completes the plan is a run from this tree
 abbrev pub IsPlanOf : Config → RunAsk → List File → Plan → Type 0

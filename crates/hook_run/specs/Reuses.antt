@@ -28,7 +28,8 @@ NeedsStart reuse None = Unit {0}
 NeedsStart reuse (Some found) = serves reuse found ≡ false
 
 -- no result that the run may use is cached for the words and the seen files
-pub record LacksServing (reuse : Reuse) (words : List (List ℕ)) (seen : List File) (remembered : Contents) : Type 0 where
+pub record LacksServing (reuse : Reuse) (words : List (List ℕ)) (seen : List File)
+    (remembered : Contents) : Type 0 where
   pub found : Option Answer
   pub finds : Finds words seen remembered found
   pub needs : NeedsStart reuse found

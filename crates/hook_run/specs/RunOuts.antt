@@ -42,7 +42,8 @@ out_of config ask results tree unsteady = record {
 }
 
 -- a run of the hooks that are asked for, with these parts, gives this
-pub record IsRunOut (config : Config) (ask : RunAsk) (tree : List File) (trace : List (List Part)) (out : RunOut) : Type 0 where
+pub record IsRunOut (config : Config) (ask : RunAsk) (tree : List File) (trace : List (List Part))
+    (out : RunOut) : Type 0 where
   pub results : List HookResult
   pub run : IsStageRun config ask tree trace results
   pub is : out ≡ out_of config ask results (tree_after tree trace) (unsteady_ids (hooks_of_run config ask) trace)
@@ -57,28 +58,32 @@ pub record IsBegun (config : Config) (ask : RunAsk) (tree : List File) (front : 
 
 -- the run has a further part after these that needs a child: the run may not use the cached result, if there
 -- is one
-pub record NeedsChild (remembered : Contents) (config : Config) (ask : RunAsk) (tree : List File) (front : List Part) : Type 0 where
+pub record NeedsChild (remembered : Contents) (config : Config) (ask : RunAsk) (tree : List File)
+    (front : List Part) : Type 0 where
   pub part : Part
   pub begun : IsBegun config ask tree (front ++ part ∷ [])
   pub lacks : LacksServing ask.reuse part.words part.seen remembered
 
 -- A run of the hooks that are asked for, between two moments. If the children may report each result that was
 -- cached before, they may report each outcome.
-pub record IsRunOver (tells : List (List ℕ) → List File → Outcome → Type 0) (from to : Moment) (config : Config) (ask : RunAsk) (tree : List File) (out : RunOut) : Type 0 where
+pub record IsRunOver (tells : List (List ℕ) → List File → Outcome → Type 0) (from to : Moment) (config : Config)
+    (ask : RunAsk) (tree : List File) (out : RunOut) : Type 0 where
   pub trace : List (List Part)
   pub run : IsRunOut config ask tree trace out
   pub answered : AreAnswered tells ask.reuse from to (all_parts trace)
   pub told : IsTold tells from.remembered → AllTold tells (all_parts trace)
 
 -- the same, with how many of its parts used a cached result
-pub record IsCountedRun (tells : List (List ℕ) → List File → Outcome → Type 0) (from to : Moment) (config : Config) (ask : RunAsk) (tree : List File) (ran : HooksRun) : Type 0 where
+pub record IsCountedRun (tells : List (List ℕ) → List File → Outcome → Type 0) (from to : Moment) (config : Config)
+    (ask : RunAsk) (tree : List File) (ran : HooksRun) : Type 0 where
   pub over : IsRunOver tells from to config ask tree ran.out
   pub reused : AreReused (all_parts over.trace) over.answered.started ran.reused
 
 -- A run that is refused between two moments, with the parts up to there. There are none if no hook has the
 -- name; otherwise a run begins with them. If the refusal is `Spent`, there is a further part that needs a
 -- child, and the children have reported as many outcomes as can be counted, 2^64 - 1.
-pub record IsStoppedRun (tells : List (List ℕ) → List File → Outcome → Type 0) (from to : Moment) (config : Config) (ask : RunAsk) (tree : List File) (refusal : RunRefusal) : Type 0 where
+pub record IsStoppedRun (tells : List (List ℕ) → List File → Outcome → Type 0) (from to : Moment) (config : Config)
+    (ask : RunAsk) (tree : List File) (refusal : RunRefusal) : Type 0 where
   pub parts : List Part
   pub answered : AreAnsweredSoFar tells ask.reuse from to parts
   pub told : IsTold tells from.remembered → AllTold tells parts

@@ -10,12 +10,12 @@ abbrev pub outcomes_of : List Part → List Outcome
 outcomes_of parts = map (λ part. part.outcome) parts
 
 -- the part without its mark
-abbrev pub without_mark : Part → Part
-without_mark part = record part { unsteady = false }
+abbrev pub without_unsteady_mark : Part → Part
+without_unsteady_mark part = record part { unsteady = false }
 
 -- the parts without their marks
 abbrev pub without_marks : List Part → List Part
-without_marks parts = map without_mark parts
+without_marks parts = map without_unsteady_mark parts
 
 -- the two give the same, except for the ids of unsteady hooks
 pub record GiveSame (first second : RunOut) : Type 0 where

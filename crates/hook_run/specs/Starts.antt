@@ -16,17 +16,18 @@ use Rattle.hook_run.specs.Reuses.{serves}
 -- What is cached after a child with this outcome. A completed answer that changes only seen files is put in
 -- front, and an earlier one for the same words and seen files is gone. No other outcome is put.
 abbrev pub AfterOutcome : List (List ℕ) → List File → Outcome → Contents → Contents → Type 0
-AfterOutcome words seen (Done answer) before after = MatchBool (is_stray answer seen) (after ≡ before) (AfterPut words seen answer before after)
+AfterOutcome words seen (Done answer) before after =
+    MatchBool (is_stray answer seen) (after ≡ before) (AfterPut words seen answer before after)
 AfterOutcome words seen (Failed fault) before after = after ≡ before
 
 -- the mark says whether a completed answer differs from the one that was found
-abbrev pub IsMarked : Option Answer → Outcome → Bool → Type 0
-IsMarked (Some found) (Done answer) mark = IsTrue mark ↔ (answer ≢ found)
-IsMarked found outcome mark = mark ≡ false
+abbrev pub IsUnsteadyMark : Option Answer → Outcome → Bool → Type 0
+IsUnsteadyMark (Some found) (Done answer) mark = IsTrue mark ↔ (answer ≢ found)
+IsUnsteadyMark found outcome mark = mark ≡ false
 
 -- a child is started for the part
 pub record IsStarted (found : Option Answer) (before after : Contents) (part : Part) : Type 0 where
-  pub marked : IsMarked found part.outcome part.unsteady
+  pub marked : IsUnsteadyMark found part.outcome part.unsteady
   pub put : AfterOutcome part.words part.seen part.outcome before after
 
 -- the part has the answer that was found, and nothing is put
@@ -53,7 +54,8 @@ pub record StartsOne (reuse : Reuse) (before after : Contents) (part : Part) (st
   pub starts : StartsFor reuse found looked_up after part started
 
 -- One part, and then more: `rest` says what is cached before these and which of them are started.
-pub record StartsThen (reuse : Reuse) (before : Contents) (part : Part) (started : List Part) (rest : Contents → List Part → Type 0) : Type 0 where
+pub record StartsThen (reuse : Reuse) (before : Contents) (part : Part) (started : List Part)
+    (rest : Contents → List Part → Type 0) : Type 0 where
   pub between : Contents
   pub first : List Part
   pub others : List Part

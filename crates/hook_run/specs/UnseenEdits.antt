@@ -57,7 +57,8 @@ strays (Failed fault) seen = false
 
 -- The second tree differs from the first only in the files at these paths, and a run on the first looks at
 -- none of them. No answer of that run changes a file that its child hasn't seen.
-pub record IsUnseenEdit (config : Config) (ask : RunAsk) (paths : List (List ℕ)) (tree other : List File) (trace : List (List Part)) (out : RunOut) : Type 0 where
+pub record IsUnseenEdit (config : Config) (ask : RunAsk) (paths : List (List ℕ)) (tree other : List File)
+    (trace : List (List Part)) (out : RunOut) : Type 0 where
   pub is_tree : IsRising tree
   pub differ : DifferOnlyIn paths tree other
   pub run : IsRunOut config ask tree trace out
@@ -81,7 +82,8 @@ pub record EndAlike (paths : List (List ℕ)) (tree other : List File) (first se
   pub left_there : HoldAlike paths other second.tree
 
 -- a run on the second tree has the parts of the one on the first, and ends alike
-pub record HasRunAlike (config : Config) (ask : RunAsk) (paths : List (List ℕ)) (tree other : List File) (trace : List (List Part)) (out : RunOut) : Type 0 where
+pub record HasRunAlike (config : Config) (ask : RunAsk) (paths : List (List ℕ)) (tree other : List File)
+    (trace : List (List Part)) (out : RunOut) : Type 0 where
   pub there : RunOut
   pub run : IsRunOut config ask other trace there
   pub alike : EndAlike paths tree other out there

@@ -5,15 +5,15 @@ ghost use Rattle.hook_run.specs.CandidateFiles.{files_at};
 ghost use Rattle.hook_run.specs.PlanBounds.{most_left, most_of_hooks};
 ghost use Rattle.hook_run.specs.Plans.{hooks_after};
 ghost use Rattle.hook_run.specs.StageRun.{is_last};
-ghost use Rattle.hook_run.specs.Standing.{FitsName, FitsResults, IsCourse, IsPlanFrom, hooks_from};
+ghost use Rattle.hook_run.specs.PlanStates.{FitsName, FitsResults, IsCourse, IsPlanFrom, hooks_from};
 
 use crate::RunPlan;
 use crate::begin::begin_hook;
-use crate::begun::Begun;
 use crate::candidate_files::CandidateFiles;
-use crate::course::Course;
+use crate::hook_state::HookState;
+use crate::plan_state::PlanState;
 use crate::progress::{Progress, progress_with};
-use crate::standing::Standing;
+use crate::run_context::RunContext;
 use hook_base::{Bytes, OutOfMemory};
 use hook_config::{Config, Hook};
 use report_text::{Ending, hook_texts};
@@ -22,7 +22,7 @@ use std::alloc::Global;
 /// The plan of the hooks from this place on, after those that are done.
 pub(crate) fn advance<'a>(
     alloc: Global,
-    course: Course<'a>,
+    course: RunContext<'a>,
     done: Progress,
     files: CandidateFiles,
     place: usize,
@@ -39,16 +39,16 @@ pub(crate) fn advance<'a>(
         let hook = hook_at(&course, place);
         place += 1;
         match begin_hook(alloc, &course, hook, &done.tree, &files)? {
-            Begun::Waits(waiting) => {
+            HookState::Waits(waiting) => {
                 return Ok(RunPlan {
                     course,
                     done,
                     files,
                     place,
-                    standing: Standing::Waits(waiting),
+                    standing: PlanState::Waits(waiting),
                 });
             }
-            Begun::Ended(ending, unsteady) => {
+            HookState::Ended(ending, unsteady) => {
                 place = place_behind(&course, hook, &ending, place);
                 done = progress_with(alloc, done, hook, ending, unsteady)?;
             }
@@ -57,7 +57,7 @@ pub(crate) fn advance<'a>(
     over(alloc, course, done, files, place)
 }
 
-fn hook_at<'a>(course: &Course<'a>, place: usize) -> &'a Hook
+fn hook_at<'a>(course: &RunContext<'a>, place: usize) -> &'a Hook
     requires { place < length course.now.hooks.items }
     ensures left { hooks_from course.now place ≡ result.now ∷ hooks_from course.now (place + 1) }
     ensures fits { FitsName course.now result.now.name }
@@ -67,9 +67,10 @@ fn hook_at<'a>(course: &Course<'a>, place: usize) -> &'a Hook
 
 /// The place at which the run goes on after a hook that ends so: this one, or the end if the hook is the
 /// last.
-pub(crate) fn place_behind(course: &Course, hook: &Hook, ending: &Ending, place: usize) -> usize
+pub(crate) fn place_behind(course: &RunContext, hook: &Hook, ending: &Ending, place: usize) -> usize
     ensures later { length course.now.hooks.items - result ≤ length course.now.hooks.items - place }
-    ensures left { hooks_from course.now result ≡ hooks_after course.now.config.now hook.now ending.now (hooks_from course.now place) }
+    ensures left { hooks_from course.now result
+        ≡ hooks_after course.now.config.now hook.now ending.now (hooks_from course.now place) }
 {
     if is_last(course.config, hook, ending) {
         course.hooks.len()
@@ -89,7 +90,7 @@ fn is_last(config: &Config, hook: &Hook, ending: &Ending) -> bool
 // The plan of a run that is over.
 fn over<'a>(
     alloc: Global,
-    course: Course<'a>,
+    course: RunContext<'a>,
     done: Progress,
     files: CandidateFiles,
     place: usize,
@@ -107,6 +108,6 @@ fn over<'a>(
         done,
         files,
         place,
-        standing: Standing::Over(Bytes::from(report)),
+        standing: PlanState::Over(Bytes::from(report)),
     })
 }

@@ -6,17 +6,17 @@ ghost use Rattle.path_select.specs.Selection.{texts_of_rules};
 ghost use Rattle.hook_run.specs.CandidateFiles.{files_at};
 ghost use Rattle.hook_run.specs.HookRun.{IsCommandRun, IsEnding, IsHookRun, IsLanguageRun, ending_of_answer, ending_of_misfit, most_names_of, names_for, rules_of};
 ghost use Rattle.hook_run.specs.Limits.{most_command_bytes};
-ghost use Rattle.hook_run.specs.Standing.{HasBegun, IsCourse};
+ghost use Rattle.hook_run.specs.PlanStates.{HasBegun, IsCourse};
 
 use crate::asked::is_skipped;
-use crate::begun::Begun;
 use crate::candidate_files::CandidateFiles;
 use crate::command::command_of;
-use crate::course::Course;
-use crate::further::further_of;
-use crate::gathered::nothing_gathered;
+use crate::further_files::further_of;
+use crate::hook_state::HookState;
 use crate::limits::{MOST_COMMAND_BYTES, MOST_NAMES};
-use crate::work::{Work, go_on};
+use crate::part_totals::nothing_gathered;
+use crate::run_context::RunContext;
+use crate::running_hook::{RunningHook, go_on};
 use arg_partition::{Cut, PartsFault, parts};
 use builtin_hooks::fail_answer;
 use child_port::Answer;
@@ -31,17 +31,18 @@ use std::alloc::Global;
 /// skipped comes first, and nothing is selected for it.
 pub(crate) fn begin_hook<'a>(
     alloc: Global,
-    course: &Course<'a>,
+    course: &RunContext<'a>,
     hook: &'a Hook,
     tree: &Tree,
     files: &CandidateFiles,
-) -> Result<Begun<'a>, OutOfMemory>
+) -> Result<HookState<'a>, OutOfMemory>
     requires course { IsCourse course.now }
     requires held { files.now ≡ files_at course.now.ask.now.candidates tree.now }
-    ensures begun { IfOk result (HasBegun (IsEnding course.now.config.now course.now.ask.now tree.now hook.now) hook.now tree.now) }
+    ensures begun { IfOk result (HasBegun (IsEnding course.now.config.now course.now.ask.now tree.now hook.now) hook.now
+        tree.now) }
 {
     if is_skipped(course.ask, hook) {
-        return Ok(Begun::Ended(Ending::SkippedAsked, false));
+        return Ok(HookState::Ended(Ending::SkippedAsked, false));
     }
     let rules = rules_of(course.config, hook);
     let chosen = files.select(alloc, &rules, &course.among)?;
@@ -69,11 +70,11 @@ fn begin_with<'a>(
     hook: &'a Hook,
     files: Items<RepoPath>,
     tree: &Tree,
-) -> Result<Begun<'a>, OutOfMemory>
+) -> Result<HookState<'a>, OutOfMemory>
     ensures { IfOk result (HasBegun (IsHookRun hook.now files tree.now) hook.now tree.now) }
 {
     if files.is_empty() && !hook.always_run {
-        return Ok(Begun::Ended(Ending::SkippedNoFiles, false));
+        return Ok(HookState::Ended(Ending::SkippedNoFiles, false));
     }
     let names = names_for(alloc, hook, files);
     begin_language(alloc, hook, names, tree)
@@ -96,17 +97,17 @@ fn begin_language<'a>(
     hook: &'a Hook,
     names: Items<RepoPath>,
     tree: &Tree,
-) -> Result<Begun<'a>, OutOfMemory>
+) -> Result<HookState<'a>, OutOfMemory>
     ensures { IfOk result (HasBegun (IsLanguageRun hook.now.language hook.now names tree.now) hook.now tree.now) }
 {
     match &hook.language {
         Language::Fail => {
             let answer = fail_answer(alloc, hook.entry.as_str(), names.as_slice())?;
-            Ok(Begun::Ended(ending_of_answer(alloc, answer), false))
+            Ok(HookState::Ended(ending_of_answer(alloc, answer), false))
         }
         Language::Pygrep(grep) => {
             let answer = grep.answer(alloc, names.as_slice(), tree)?;
-            Ok(Begun::Ended(ending_of_answer(alloc, answer), false))
+            Ok(HookState::Ended(ending_of_answer(alloc, answer), false))
         }
         Language::System(words) => {
             let command = command_of(alloc, false, words.as_slice(), tree)?;
@@ -137,16 +138,16 @@ fn begin_command<'a>(
     words: Items<Text>,
     names: Items<RepoPath>,
     tree: &Tree,
-) -> Result<Begun<'a>, OutOfMemory>
+) -> Result<HookState<'a>, OutOfMemory>
     ensures { IfOk result (HasBegun (IsCommandRun hook.now words names tree.now) hook.now tree.now) }
 {
     let Some(cuts) = cuts_of(alloc, hook, &words, &names)? else {
-        return Ok(Begun::Ended(ending_of_misfit(alloc)?, false));
+        return Ok(HookState::Ended(ending_of_misfit(alloc)?, false));
     };
     let before = tree.copy()?;
     let further = further_of(alloc, hook, tree)?;
     let gathered = nothing_gathered(alloc);
-    let work = Work {
+    let work = RunningHook {
         hook,
         before,
         further,
@@ -167,7 +168,9 @@ fn cuts_of(
     words: &Items<Text>,
     names: &Items<RepoPath>,
 ) -> Result<Option<Items<Cut>>, OutOfMemory>
-    ensures { IfOk result (λ cuts. MatchOption cuts (IsSome (too_long_at (fits words.now most_command_bytes) names.now)) (λ cuts. (too_long_at (fits words.now most_command_bytes) names.now ≡ None) × AreParts (fits words.now most_command_bytes) (most_names_of hook.now) names.now cuts)) }
+    ensures { IfOk result (λ cuts. MatchOption cuts (IsSome (too_long_at (fits words.now most_command_bytes) names.now))
+        (λ cuts. (too_long_at (fits words.now most_command_bytes) names.now ≡ None)
+        × AreParts (fits words.now most_command_bytes) (most_names_of hook.now) names.now cuts)) }
 {
     let limit = MOST_COMMAND_BYTES;
     let most = most_names_of(hook);

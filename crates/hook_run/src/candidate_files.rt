@@ -81,7 +81,8 @@ impl CandidateFiles {
 // The paths in their order, so that each file is put after those before it. Paths that are already in order
 // aren't moved.
 fn in_order<'a>(alloc: Global, paths: &'a [RepoPath]) -> Result<Vec<&'a RepoPath>, OutOfMemory>
-    ensures { IfOk result (λ ordered. (path : List ℕ) → is_candidate (paths_of ordered.items) path ≡ is_candidate paths.now path) }
+    ensures { IfOk result (λ ordered. (path : List ℕ)
+        → is_candidate (paths_of ordered.items) path ≡ is_candidate paths.now path) }
 {
     let mut ordered = borrowed(alloc, paths)?;
     ordered.sort_unstable();

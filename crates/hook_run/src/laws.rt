@@ -31,32 +31,43 @@ pub fn the_limits_are_those_defined()
 /// Whatever is asked of a configuration on a tree, and whatever outcomes its children give for their words
 /// and what they see, there is a run with these outcomes.
 pub fn there_is_a_run()
-    ensures { (config : Config) (ask : RunAsk) (tree : List File) (answers : List (List ℕ) → List File → Outcome) → (trace : List (List Part)) × (out : RunOut) × IsRunOut config ask tree trace out × AllTold (λ words seen outcome. outcome ≡ answers words seen) (all_parts trace) }
+    ensures { (config : Config) (ask : RunAsk) (tree : List File) (answers : List (List ℕ) → List File → Outcome)
+        → (trace : List (List Part)) × (out : RunOut) × IsRunOut config ask tree trace out
+        × AllTold (λ words seen outcome. outcome ≡ answers words seen) (all_parts trace) }
 {}
 
 /// The results of a run report as many faults of children as its parts have. A name that doesn't fit is no
 /// such fault. A hook that was skipped, or that starts no child, has none.
 pub fn each_fault_is_reported()
-    ensures { (config : Config) (ask : RunAsk) (tree : List File) (trace : List (List Part)) (out : RunOut) → IsRunOut config ask tree trace out → child_faults out.results ≡ faults_of (all_parts trace) }
+    ensures { (config : Config) (ask : RunAsk) (tree : List File) (trace : List (List Part)) (out : RunOut)
+        → IsRunOut config ask tree trace out → child_faults out.results ≡ faults_of (all_parts trace) }
 {}
 
 /// Take two runs of one configuration, asked the same, on one tree. The outcomes so far decide the words of
 /// each child so far and what it saw. They also decide what comes next: the words of the next part and what
 /// its child sees, or the end with what the run gives. Only the ids of unsteady hooks aren't decided.
 pub fn outcomes_decide_a_run()
-    ensures { (config : Config) (ask : RunAsk) (tree : List File) (trace others : List (List Part)) (first second : RunOut) (front begun rest more : List Part) → IsRunOut config ask tree trace first → IsRunOut config ask tree others second → all_parts trace ≡ front ++ rest → all_parts others ≡ begun ++ more → outcomes_of front ≡ outcomes_of begun → (without_marks front ≡ without_marks begun) × IsNextOf first second rest more }
+    ensures { (config : Config) (ask : RunAsk) (tree : List File) (trace others : List (List Part))
+        (first second : RunOut) (front begun rest more : List Part) → IsRunOut config ask tree trace first
+        → IsRunOut config ask tree others second → all_parts trace ≡ front ++ rest → all_parts others ≡ begun ++ more
+        → outcomes_of front ≡ outcomes_of begun
+        → (without_marks front ≡ without_marks begun) × IsNextOf first second rest more }
 {}
 
 /// The parts of a run, with their `unsteady` marks, decide all that it gives.
 pub fn parts_decide_what_is_given()
-    ensures { (config : Config) (ask : RunAsk) (tree : List File) (trace others : List (List Part)) (first second : RunOut) → IsRunOut config ask tree trace first → IsRunOut config ask tree others second → all_parts trace ≡ all_parts others → first ≡ second }
+    ensures { (config : Config) (ask : RunAsk) (tree : List File) (trace others : List (List Part))
+        (first second : RunOut) → IsRunOut config ask tree trace first → IsRunOut config ask tree others second
+        → all_parts trace ≡ all_parts others → first ≡ second }
 {}
 
 /// Each part of a run has an answer that the run may take from the cache, or a child was started for it. If
 /// only results that passed may be used, a child of this run reported each outcome that is a failure or a
 /// fault. If none may be used, a child of this run reported each outcome.
 pub fn each_part_is_served_or_started<C: Children>(children: &C)
-    ensures { (from to : Moment) (config : Config) (ask : RunAsk) (tree : List File) (out : RunOut) → (over : IsRunOver (C.tells children.now) from to config ask tree out) → AreServedOrStarted ask.reuse (all_parts over.trace) over.answered.started }
+    ensures { (from to : Moment) (config : Config) (ask : RunAsk) (tree : List File) (out : RunOut)
+        → (over : IsRunOver (C.tells children.now) from to config ask tree out)
+        → AreServedOrStarted ask.reuse (all_parts over.trace) over.answered.started }
 {}
 
 /// Children that give one answer to the same words on the same seen files leave no choice. Take two runs of
@@ -64,13 +75,19 @@ pub fn each_part_is_served_or_started<C: Children>(children: &C)
 /// outcome of both may be reported and none is a fault, they have the same parts and give the same. The marks
 /// of the parts, and so the ids of unsteady hooks, are left out: they depend on what was cached.
 pub fn one_answer_makes_one_run<C: Children, D: Children>(children: &C, others: &D)
-    ensures { SameTells (C.tells children.now) (D.tells others.now) → OneAnswer (C.tells children.now) → (config : Config) (ask : RunAsk) (tree : List File) (trace theirs : List (List Part)) (first second : RunOut) → IsFaultless (C.tells children.now) config ask tree trace first → IsFaultless (D.tells others.now) config ask tree theirs second → AreSameRuns trace theirs first second }
+    ensures { SameTells (C.tells children.now) (D.tells others.now) → OneAnswer (C.tells children.now)
+        → (config : Config) (ask : RunAsk) (tree : List File) (trace theirs : List (List Part)) (first second : RunOut)
+        → IsFaultless (C.tells children.now) config ask tree trace first
+        → IsFaultless (D.tells others.now) config ask tree theirs second → AreSameRuns trace theirs first second }
 {}
 
 /// Over such children no hook of a run is unsteady, if the children may report each result that was cached
 /// before.
 pub fn one_answer_leaves_no_hook_unsteady<C: Children>(children: &C)
-    ensures { OneAnswer (C.tells children.now) → (from to : Moment) (config : Config) (ask : RunAsk) (tree : List File) (out : RunOut) → IsTold (C.tells children.now) from.remembered → IsRunOver (C.tells children.now) from to config ask tree out → out.unsteady ≡ [] }
+    ensures { OneAnswer (C.tells children.now)
+        → (from to : Moment) (config : Config) (ask : RunAsk) (tree : List File) (out : RunOut)
+        → IsTold (C.tells children.now) from.remembered → IsRunOver (C.tells children.now) from to config ask tree out
+        → out.unsteady ≡ [] }
 {}
 
 /// An edit of files that a run doesn't look at changes none of its results. Let two trees hold the same paths
@@ -81,13 +98,23 @@ pub fn one_answer_leaves_no_hook_unsteady<C: Children>(children: &C)
 /// results. So its outcomes may be reported if those of the first run may. The trees that the two runs leave
 /// differ only in those files, and each leaves them as they were when it began.
 pub fn an_unseen_edit_changes_no_result()
-    ensures { (config : Config) (ask : RunAsk) (paths : List (List ℕ)) (tree other : List File) (trace : List (List Part)) (out : RunOut) → IsUnseenEdit config ask paths tree other trace out → HasRunAlike config ask paths tree other trace out }
+    ensures { (config : Config) (ask : RunAsk) (paths : List (List ℕ)) (tree other : List File)
+        (trace : List (List Part)) (out : RunOut) → IsUnseenEdit config ask paths tree other trace out
+        → HasRunAlike config ask paths tree other trace out }
 {}
 
 /// It starts no child either. Let the answer of each part of the run on the first tree be cached, and let a
 /// run on the second tree use every cached result. That run ends in the same way, whatever children it is
 /// over, and calls none of them.
 pub fn an_unseen_edit_starts_no_child<C: Children>(children: &C)
-    ensures alike { (config : Config) (ask : RunAsk) (paths : List (List ℕ)) (tree other : List File) (trace : List (List Part)) (out there : RunOut) (from to : Moment) → IsUnseenEdit config ask paths tree other trace out → HoldsAll (all_parts trace) from.remembered → IsRunOver (C.tells children.now) from to config (reusing_all ask) other there → EndAlike paths tree other out there }
-    ensures unstarted { (config : Config) (ask : RunAsk) (paths : List (List ℕ)) (tree other : List File) (trace : List (List Part)) (out there : RunOut) (from to : Moment) → IsUnseenEdit config ask paths tree other trace out → HoldsAll (all_parts trace) from.remembered → (over : IsRunOver (C.tells children.now) from to config (reusing_all ask) other there) → (over.answered.started ≡ []) × (to.calls ≡ from.calls) }
+    ensures alike { (config : Config) (ask : RunAsk) (paths : List (List ℕ)) (tree other : List File)
+        (trace : List (List Part)) (out there : RunOut) (from to : Moment)
+        → IsUnseenEdit config ask paths tree other trace out → HoldsAll (all_parts trace) from.remembered
+        → IsRunOver (C.tells children.now) from to config (reusing_all ask) other there
+        → EndAlike paths tree other out there }
+    ensures unstarted { (config : Config) (ask : RunAsk) (paths : List (List ℕ)) (tree other : List File)
+        (trace : List (List Part)) (out there : RunOut) (from to : Moment)
+        → IsUnseenEdit config ask paths tree other trace out → HoldsAll (all_parts trace) from.remembered
+        → (over : IsRunOver (C.tells children.now) from to config (reusing_all ask) other there)
+        → (over.answered.started ≡ []) × (to.calls ≡ from.calls) }
 {}

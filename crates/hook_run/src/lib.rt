@@ -18,7 +18,7 @@
 //! them) and `specs/Commands.antt` (its command). The children of a hook are in `specs/Parts.antt`, and how
 //! they end the hook in `specs/PartsEnding.antt`. `specs/Asks.antt` says which hooks a run goes through, and
 //! has `names_no_hook`; `specs/Limits.antt` has the limits, `specs/Refusals.antt` the numbers.
-//! `specs/Standing.antt`, `specs/CandidateFiles.antt` and `specs/PlanRuns.antt` are used only by private
+//! `specs/PlanStates.antt`, `specs/CandidateFiles.antt` and `specs/PlanRuns.antt` are used only by private
 //! functions.
 //!
 //! [`laws`] says that the outcomes decide everything else of a run (`specs/SameRuns.antt`). So there is only
@@ -35,12 +35,10 @@
 mod advance;
 mod asked;
 mod begin;
-mod begun;
 mod candidate_files;
 mod command;
-mod course;
-mod further;
-mod gathered;
+mod further_files;
+mod hook_state;
 mod hooks_run;
 pub mod laws;
 mod limits;
@@ -49,18 +47,20 @@ mod need;
 mod news;
 mod part_answer;
 mod part_outcome;
+mod part_totals;
+mod pending_part;
 mod plan;
 pub mod plan_laws;
+mod plan_state;
 mod progress;
 mod report;
 mod reuse;
 mod run_ask;
+mod run_context;
 mod run_out;
 mod run_over;
 mod run_refusal;
-mod standing;
-mod waiting;
-mod work;
+mod running_hook;
 
 pub use hooks_run::HooksRun;
 pub use limits::{MOST_COMMAND_BYTES, MOST_NAMES};

@@ -4,8 +4,8 @@ ghost use Rattle.std.specs.Prelude.{◌≡◌};
 ghost use Rattle.child_port.specs.Telling.{SameTells};
 
 use crate::RunPlan;
-use crate::standing::Standing;
-use crate::waiting::Waiting;
+use crate::pending_part::PendingPart;
+use crate::plan_state::PlanState;
 use child_port::{Children, News};
 use hook_base::OutOfMemory;
 use report_text::hook_texts;
@@ -25,7 +25,7 @@ pub(crate) fn tell_news<C: Children>(children: &mut C, plan: &RunPlan, ended: us
     if let Ok(text) = report_from(plan, ended) {
         children.hear(News::Report(text.as_slice()));
     }
-    if let Standing::Waits(waiting) = &plan.standing {
+    if let PlanState::Waits(waiting) = &plan.standing {
         children.hear(hook_news(plan, waiting));
     }
     plan.done.results.len()
@@ -43,7 +43,7 @@ fn report_from(plan: &RunPlan, ended: usize) -> Result<Vec<u8>, OutOfMemory> {
 }
 
 // Says that the next child belongs to the hook that waits.
-fn hook_news<'n>(plan: &RunPlan, waiting: &'n Waiting) -> News<'n> {
+fn hook_news<'n>(plan: &RunPlan, waiting: &'n PendingPart) -> News<'n> {
     News::Hook {
         place: plan.place,
         hooks: plan.course.hooks.len(),

@@ -8,9 +8,9 @@ ghost use Rattle.result_book.specs.Told.{AddsTold};
 ghost use Rattle.hook_run.specs.Answers.{AreAnswered};
 ghost use Rattle.hook_run.specs.Moments.{moment};
 ghost use Rattle.hook_run.specs.PlanRuns.{IsPartStarted, IsPartStopped, IsPartUnput, one_if, part_of};
-ghost use Rattle.hook_run.specs.Plans.{need_of, seen_of_plan, words_of};
+ghost use Rattle.hook_run.specs.Plans.{need_of, seen_of_plan, words_of_plan};
 ghost use Rattle.hook_run.specs.Refusals.{IsOfBook, is_of_book};
-ghost use Rattle.hook_run.specs.Starts.{AfterOutcome, IsMarked};
+ghost use Rattle.hook_run.specs.Starts.{AfterOutcome, IsUnsteadyMark};
 
 use crate::part_outcome::PartOutcome;
 use crate::{Need, Reuse, RunPlan, RunRefusal};
@@ -27,11 +27,18 @@ pub(crate) fn answer_part<C: Children, B: Book>(
     plan: &RunPlan,
 ) -> Result<PartOutcome, RunRefusal>
     requires { need_of plan.now ≡ Need.Child }
-    ensures answered { IfOk result (λ came. AreAnswered (C.tells children.old) reuse (moment (C.call_count children.old) (C.fault_count children.old) (B.contents book.old)) (moment (C.call_count children.new) (C.fault_count children.new) (B.contents book.new)) (part_of plan.now came ∷ [])) }
-    ensures reused { IfOk result (λ came. C.call_count children.new + one_if came.reused ≡ C.call_count children.old + 1) }
-    ensures stopped { IfErr result (IsPartStopped (C.tells children.old) reuse (moment (C.call_count children.old) (C.fault_count children.old) (B.contents book.old)) (moment (C.call_count children.new) (C.fault_count children.new) (B.contents book.new)) plan.now) }
+    ensures answered { IfOk result (λ came. AreAnswered (C.tells children.old) reuse
+        (moment (C.call_count children.old) (C.fault_count children.old) (B.contents book.old))
+        (moment (C.call_count children.new) (C.fault_count children.new) (B.contents book.new))
+        (part_of plan.now came ∷ [])) }
+    ensures reused { IfOk result (λ came. C.call_count children.new + one_if came.reused
+        ≡ C.call_count children.old + 1) }
+    ensures stopped { IfErr result (IsPartStopped (C.tells children.old) reuse
+        (moment (C.call_count children.old) (C.fault_count children.old) (B.contents book.old))
+        (moment (C.call_count children.new) (C.fault_count children.new) (B.contents book.new)) plan.now) }
     ensures refused { IfErr result (IsOfBook B.refuses) }
-    ensures left { (left : Contents) → B.leaves book.new left → B.leaves book.old left ⊎ AddsTold (C.tells children.old) (B.contents book.old) left }
+    ensures left { (left : Contents) → B.leaves book.new left
+        → B.leaves book.old left ⊎ AddsTold (C.tells children.old) (B.contents book.old) left }
     ensures rest { B.rests book.old book.new }
     ensures same { SameTells (C.tells children.old) (C.tells children.new) }
 {
@@ -57,11 +64,17 @@ fn start_part<C: Children, B: Book>(
     found: &Option<Answer>,
 ) -> Result<PartOutcome, RunRefusal>
     requires { need_of plan.now ≡ Need.Child }
-    ensures started { IfOk result (λ came. IsPartStarted (C.tells children.old) found.now (moment (C.call_count children.old) (C.fault_count children.old) (B.contents book.old)) (moment (C.call_count children.new) (C.fault_count children.new) (B.contents book.new)) (part_of plan.now came)) }
-    ensures reused { IfOk result (λ came. C.call_count children.new + one_if came.reused ≡ C.call_count children.old + 1) }
-    ensures unput { IfErr result (IsPartUnput (C.tells children.old) (moment (C.call_count children.old) (C.fault_count children.old) (B.contents book.old)) (moment (C.call_count children.new) (C.fault_count children.new) (B.contents book.new)) plan.now) }
+    ensures started { IfOk result (λ came. IsPartStarted (C.tells children.old) found.now
+        (moment (C.call_count children.old) (C.fault_count children.old) (B.contents book.old))
+        (moment (C.call_count children.new) (C.fault_count children.new) (B.contents book.new)) (part_of plan.now came)) }
+    ensures reused { IfOk result (λ came. C.call_count children.new + one_if came.reused
+        ≡ C.call_count children.old + 1) }
+    ensures unput { IfErr result (IsPartUnput (C.tells children.old)
+        (moment (C.call_count children.old) (C.fault_count children.old) (B.contents book.old))
+        (moment (C.call_count children.new) (C.fault_count children.new) (B.contents book.new)) plan.now) }
     ensures refused { IfErr result (IsOfBook B.refuses) }
-    ensures left { (left : Contents) → B.leaves book.new left → B.leaves book.old left ⊎ AddsTold (C.tells children.old) (B.contents book.old) left }
+    ensures left { (left : Contents) → B.leaves book.new left
+        → B.leaves book.old left ⊎ AddsTold (C.tells children.old) (B.contents book.old) left }
     ensures rest { B.rests book.old book.new }
     ensures same { SameTells (C.tells children.old) (C.tells children.new) }
 {
@@ -77,9 +90,11 @@ fn start_part<C: Children, B: Book>(
 // The outcome of the child that the plan needs.
 fn outcome_of<C: Children>(children: &mut C, plan: &RunPlan) -> Result<Outcome, RunRefusal>
     requires { need_of plan.now ≡ Need.Child }
-    ensures told { IfOk result (λ outcome. C.tells children.old (words_of plan.now) (seen_of_plan plan.now) outcome) }
+    ensures told { IfOk result (λ outcome. C.tells children.old (words_of_plan plan.now) (seen_of_plan plan.now)
+        outcome) }
     ensures calls { OnOk result (C.call_count children.new ≡ C.call_count children.old + 1) }
-    ensures faults { IfOk result (λ outcome. C.fault_count children.new ≡ C.fault_count children.old + faults_in outcome) }
+    ensures faults { IfOk result (λ outcome. C.fault_count children.new
+        ≡ C.fault_count children.old + faults_in outcome) }
     ensures refused_calls { OnErr result (C.call_count children.new ≡ C.call_count children.old) }
     ensures refused_faults { OnErr result (C.fault_count children.new ≡ C.fault_count children.old) }
     ensures asked { IfErr result (λ refusal. refusal ≢ RunRefusal.NoSuchHook) }
@@ -101,10 +116,12 @@ fn put_outcome<B: Book>(
     seen: &Tree,
     outcome: &Outcome,
 ) -> Result<(), BookFault>
-    ensures after { OnOk result (AfterOutcome words.now seen.now outcome.now (B.contents book.old) (B.contents book.new)) }
+    ensures after { OnOk result (AfterOutcome words.now seen.now outcome.now (B.contents book.old)
+        (B.contents book.new)) }
     ensures kept { OnErr result (B.contents book.new ≡ B.contents book.old) }
     ensures refused { IfErr result (λ fault. B.refuses fault) }
-    ensures left { (left : Contents) → B.leaves book.new left → B.leaves book.old left ⊎ AfterOutcome words.now seen.now outcome.now (B.contents book.old) left }
+    ensures left { (left : Contents) → B.leaves book.new left
+        → B.leaves book.old left ⊎ AfterOutcome words.now seen.now outcome.now (B.contents book.old) left }
     ensures rest { B.rests book.old book.new }
 {
     match outcome {
@@ -120,7 +137,7 @@ fn put_outcome<B: Book>(
 
 // Whether a completed answer differs from the one that was found.
 fn is_other(found: &Option<Answer>, outcome: &Outcome) -> bool
-    ensures { IsMarked found.now outcome.now result }
+    ensures { IsUnsteadyMark found.now outcome.now result }
 {
     match (found, outcome) {
         (Some(found), Outcome::Done(answer)) => answer != found,

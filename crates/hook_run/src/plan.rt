@@ -4,20 +4,20 @@ ghost use Rattle.std.specs.Prelude.{◌≡◌, ◌≢◌, ◌↔◌, ◌+◌, �
 ghost use Rattle.hook_run.specs.Asks.{names_no_hook};
 ghost use Rattle.hook_run.specs.CandidateFiles.{files_at};
 ghost use Rattle.hook_run.specs.PlanBounds.{most_left, most_of_hooks, parts_at};
-ghost use Rattle.hook_run.specs.Plans.{IsPlanAfter, IsPlanOf, need_of, out_of_plan, seen_of_plan, tree_of_plan, words_of};
+ghost use Rattle.hook_run.specs.Plans.{IsPlanAfter, IsPlanOf, need_of, out_of_plan, seen_of_plan, tree_of_plan, words_of_plan};
 ghost use Rattle.hook_run.specs.Refusals.{is_of_book};
-ghost use Rattle.hook_run.specs.Standing.{AreFurther, FitsName, FitsResults, IsCourse, IsPlanAt, IsPlanBehindHook, IsToldFrom, at_part, at_work, hooks_from};
+ghost use Rattle.hook_run.specs.PlanStates.{AreFurther, FitsName, FitsResults, IsCourse, IsPlanAt, IsPlanBehindHook, IsToldFrom, at_part, at_work, hooks_from};
 
 use crate::advance::{advance, place_behind};
 use crate::asked::{hooks_of_run, names_no_hook};
-use crate::begun::Begun;
 use crate::candidate_files::CandidateFiles;
-use crate::course::Course;
+use crate::hook_state::HookState;
+use crate::pending_part::PendingPart;
+use crate::plan_state::PlanState;
 use crate::progress::{Progress, files_after, progress_after, progress_with};
 use crate::report::{columns_of, has_passed};
-use crate::standing::Standing;
-use crate::waiting::Waiting;
-use crate::work::{Work, go_on, work_with};
+use crate::run_context::RunContext;
+use crate::running_hook::{RunningHook, go_on, work_with};
 use crate::{Need, RunAsk, RunOut, RunRefusal};
 use child_port::Outcome;
 use hook_base::{Items, OutOfMemory, Text, Tree};
@@ -32,21 +32,28 @@ use std::marker::Model;
 /// is done, what is left of the hook that waits, and the hooks after it.
 #[derive(Drop)]
 pub struct RunPlan<'a> {
-    pub(crate) course: Course<'a>,
+    pub(crate) course: RunContext<'a>,
     pub(crate) done: Progress,
     /// The candidates' files in the tree of `done`.
     pub(crate) files: CandidateFiles,
     pub(crate) place: usize,
-    pub(crate) standing: Standing<'a>,
+    pub(crate) standing: PlanState<'a>,
 }
 
 impl<'a> Model for RunPlan<'a> {
     ghost use Rattle.hook_run.specs.Plans.{Plan};
-    ghost use Rattle.hook_run.specs.Standing.{IsPlanned, hooks_from, waiting_at};
+    ghost use Rattle.hook_run.specs.PlanStates.{IsPlanned, hooks_from, waiting_at};
 
     ghost Value = { Plan };
 
-    ghost view = { λ plan. record { config = plan.course.config.now; ask = plan.course.ask.now; done = plan.done; waiting = waiting_at plan.standing; hooks = hooks_from plan.course plan.place } };
+    ghost view = { λ plan. record {
+      config = plan.course.config.now;
+      ask = plan.course.ask.now;
+      done = plan.done;
+      waiting =
+          waiting_at plan.standing;
+      hooks = hooks_from plan.course plan.place;
+    } };
 
     ghost invariant = { λ plan. IsPlanned plan.course plan.done plan.files plan.standing };
 }
@@ -83,19 +90,19 @@ impl<'a> RunPlan<'a> {
         ensures { result ≡ need_of self.now }
     {
         match &self.standing {
-            Standing::Waits(_) => Need::Child,
-            Standing::Over(_) => Need::Over,
+            PlanState::Waits(_) => Need::Child,
+            PlanState::Over(_) => Need::Over,
         }
     }
 
     /// The command of the child that the plan needs, with its names. It takes no memory.
     pub fn words(&self) -> &[Text]
         requires { need_of self.now ≡ Need.Child }
-        ensures { result.now ≡ words_of self.now }
+        ensures { result.now ≡ words_of_plan self.now }
     {
         match &self.standing {
-            Standing::Waits(waiting) => waiting.command.as_slice(),
-            Standing::Over(_) => unreachable!(),
+            PlanState::Waits(waiting) => waiting.command.as_slice(),
+            PlanState::Over(_) => unreachable!(),
         }
     }
 
@@ -105,8 +112,8 @@ impl<'a> RunPlan<'a> {
         ensures { result.now ≡ seen_of_plan self.now }
     {
         match &self.standing {
-            Standing::Waits(waiting) => &waiting.seen,
-            Standing::Over(_) => unreachable!(),
+            PlanState::Waits(waiting) => &waiting.seen,
+            PlanState::Over(_) => unreachable!(),
         }
     }
 
@@ -147,8 +154,8 @@ impl<'a> RunPlan<'a> {
             standing,
         } = self;
         let waiting = match standing {
-            Standing::Waits(waiting) => waiting,
-            Standing::Over(_) => unreachable!(),
+            PlanState::Waits(waiting) => waiting,
+            PlanState::Over(_) => unreachable!(),
         };
         told(course, done, files, place, waiting, outcome, unsteady)
     }
@@ -160,8 +167,8 @@ impl<'a> RunPlan<'a> {
     {
         let RunPlan { done, standing, .. } = self;
         let report = match standing {
-            Standing::Waits(_) => unreachable!(),
-            Standing::Over(report) => report,
+            PlanState::Waits(_) => unreachable!(),
+            PlanState::Over(report) => report,
         };
         let Progress {
             results,
@@ -195,7 +202,7 @@ fn plan_of<'a>(
     let files = CandidateFiles::of(alloc, candidates, tree)?;
     let tree = tree.copy()?;
     let columns = columns_of(alloc, hooks.as_slice())?;
-    let course = Course {
+    let course = RunContext {
         config,
         ask,
         hooks,
@@ -212,11 +219,11 @@ fn plan_of<'a>(
 
 // The plan after an outcome of the part that waits.
 fn told<'a>(
-    course: Course<'a>,
+    course: RunContext<'a>,
     done: Progress,
     files: CandidateFiles,
     place: usize,
-    waiting: Waiting<'a>,
+    waiting: PendingPart<'a>,
     outcome: Outcome,
     unsteady: bool,
 ) -> Result<RunPlan<'a>, OutOfMemory>
@@ -226,10 +233,11 @@ fn told<'a>(
     requires fits_at { FitsName course waiting.work.hook.now.name }
     requires further { AreFurther waiting.work.hook.now waiting.work.further done.tree }
     ensures from { IfOk result (IsToldFrom course.entry done place waiting.entry outcome unsteady) }
-    ensures fewer { IfOk result (λ plan. most_left plan < parts_at (Some (at_part waiting.entry)) + most_of_hooks (hooks_from course.entry place) done.tree) }
+    ensures fewer { IfOk result (λ plan. most_left plan < parts_at (Some (at_part waiting.entry)) + most_of_hooks
+        (hooks_from course.entry place) done.tree) }
 {
     let alloc = *course.hooks.allocator();
-    let Waiting { work, .. } = waiting;
+    let PendingPart { work, .. } = waiting;
     let work = work_with(work, &outcome, unsteady)?;
     let files = files_after(files, &outcome)?;
     let done = progress_after(done, outcome)?;
@@ -239,11 +247,11 @@ fn told<'a>(
 // The plan in which this hook goes on.
 fn plan_at<'a>(
     alloc: Global,
-    course: Course<'a>,
+    course: RunContext<'a>,
     done: Progress,
     files: CandidateFiles,
     place: usize,
-    work: Work<'a>,
+    work: RunningHook<'a>,
 ) -> Result<RunPlan<'a>, OutOfMemory>
     requires course { IsCourse course }
     requires fits { FitsResults course done.results }
@@ -251,18 +259,19 @@ fn plan_at<'a>(
     requires fits_at { FitsName course work.hook.now.name }
     requires further { AreFurther work.hook.now work.further done.tree }
     ensures from { IfOk result (IsPlanAt course.entry done place (at_work work.entry)) }
-    ensures within { IfOk result (λ plan. most_left plan ≤ length (at_work work.entry).commands + most_of_hooks (hooks_from course.entry place) done.tree) }
+    ensures within { IfOk result (λ plan. most_left plan ≤ length (at_work work.entry).commands + most_of_hooks
+        (hooks_from course.entry place) done.tree) }
 {
     let hook = work.hook;
     match go_on(alloc, work, &done.tree)? {
-        Begun::Waits(waiting) => Ok(RunPlan {
+        HookState::Waits(waiting) => Ok(RunPlan {
             course,
             done,
             files,
             place,
-            standing: Standing::Waits(waiting),
+            standing: PlanState::Waits(waiting),
         }),
-        Begun::Ended(ending, unsteady) => {
+        HookState::Ended(ending, unsteady) => {
             plan_behind_hook(alloc, course, done, files, place, hook, ending, unsteady)
         }
     }
@@ -271,7 +280,7 @@ fn plan_at<'a>(
 // The plan after a hook that ends so.
 fn plan_behind_hook<'a>(
     alloc: Global,
-    course: Course<'a>,
+    course: RunContext<'a>,
     done: Progress,
     files: CandidateFiles,
     place: usize,

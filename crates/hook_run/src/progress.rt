@@ -3,7 +3,7 @@
 ghost use Rattle.std.specs.Prelude.{◌≡◌, IfOk};
 ghost use Rattle.child_port.specs.Outcomes.{after_outcome};
 ghost use Rattle.hook_run.specs.Plans.{progress_with, result_of};
-ghost use Rattle.hook_run.specs.Standing.{id_if, on_tree};
+ghost use Rattle.hook_run.specs.PlanStates.{id_if, on_tree};
 
 use crate::candidate_files::CandidateFiles;
 use child_port::Outcome;

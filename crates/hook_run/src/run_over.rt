@@ -47,17 +47,28 @@ pub fn run_hooks<C: Children, B: Book>(
     ask: &RunAsk,
     tree: &Tree,
 ) -> Result<HooksRun, RunRefusal>
-    ensures run { IfOk result (λ ran. IsRunOver (C.tells children.old) (moment (C.call_count children.old) (C.fault_count children.old) (B.contents book.old)) (moment (C.call_count children.new) (C.fault_count children.new) (B.contents book.new)) config.now ask.now tree.now ran.out) }
-    ensures reused { IfOk result (IsCountedRun (C.tells children.old) (moment (C.call_count children.old) (C.fault_count children.old) (B.contents book.old)) (moment (C.call_count children.new) (C.fault_count children.new) (B.contents book.new)) config.now ask.now tree.now) }
-    ensures stopped { IfErr result (IsStoppedRun (C.tells children.old) (moment (C.call_count children.old) (C.fault_count children.old) (B.contents book.old)) (moment (C.call_count children.new) (C.fault_count children.new) (B.contents book.new)) config.now ask.now tree.now) }
-    ensures reported { IfOk result (λ ran. C.fault_count children.new ≡ C.fault_count children.old + child_faults ran.out.results) }
+    ensures run { IfOk result (λ ran. IsRunOver (C.tells children.old)
+        (moment (C.call_count children.old) (C.fault_count children.old) (B.contents book.old))
+        (moment (C.call_count children.new) (C.fault_count children.new) (B.contents book.new)) config.now ask.now
+        tree.now ran.out) }
+    ensures reused { IfOk result (IsCountedRun (C.tells children.old)
+        (moment (C.call_count children.old) (C.fault_count children.old) (B.contents book.old))
+        (moment (C.call_count children.new) (C.fault_count children.new) (B.contents book.new)) config.now ask.now
+        tree.now) }
+    ensures stopped { IfErr result (IsStoppedRun (C.tells children.old)
+        (moment (C.call_count children.old) (C.fault_count children.old) (B.contents book.old))
+        (moment (C.call_count children.new) (C.fault_count children.new) (B.contents book.new)) config.now ask.now
+        tree.now) }
+    ensures reported { IfOk result (λ ran. C.fault_count children.new
+        ≡ C.fault_count children.old + child_faults ran.out.results) }
     ensures no_hook { (result ≡ Err RunRefusal.NoSuchHook) ↔ (names_no_hook config.now ask.now ≡ true) }
     ensures refused { IfErr result (IsOfBook B.refuses) }
 
     // What the book caches afterwards was cached before or was reported, even after a refusal. The same holds
     // for what a crash leaves.
     ensures told { AddsTold (C.tells children.old) (B.contents book.old) (B.contents book.new) }
-    ensures left { (left : Contents) → B.leaves book.new left → B.leaves book.old left ⊎ AddsTold (C.tells children.old) (B.contents book.old) left }
+    ensures left { (left : Contents) → B.leaves book.new left
+        → B.leaves book.old left ⊎ AddsTold (C.tells children.old) (B.contents book.old) left }
     ensures rest { B.rests book.old book.new }
     ensures same { SameTells (C.tells children.old) (C.tells children.new) }
 {
@@ -72,10 +83,15 @@ fn run_plan<C: Children, B: Book>(
     reuse: Reuse,
     plan: RunPlan,
 ) -> Result<HooksRun, RunRefusal>
-    ensures run { IfOk result (IsPlanRun (C.tells children.old) reuse (moment (C.call_count children.old) (C.fault_count children.old) (B.contents book.old)) (moment (C.call_count children.new) (C.fault_count children.new) (B.contents book.new)) plan.entry) }
-    ensures stopped { IfErr result (IsPlanStopped (C.tells children.old) reuse (moment (C.call_count children.old) (C.fault_count children.old) (B.contents book.old)) (moment (C.call_count children.new) (C.fault_count children.new) (B.contents book.new)) plan.entry) }
+    ensures run { IfOk result (IsPlanRun (C.tells children.old) reuse
+        (moment (C.call_count children.old) (C.fault_count children.old) (B.contents book.old))
+        (moment (C.call_count children.new) (C.fault_count children.new) (B.contents book.new)) plan.entry) }
+    ensures stopped { IfErr result (IsPlanStopped (C.tells children.old) reuse
+        (moment (C.call_count children.old) (C.fault_count children.old) (B.contents book.old))
+        (moment (C.call_count children.new) (C.fault_count children.new) (B.contents book.new)) plan.entry) }
     ensures refused { IfErr result (IsOfBook B.refuses) }
-    ensures left { (left : Contents) → B.leaves book.new left → B.leaves book.old left ⊎ AddsTold (C.tells children.old) (B.contents book.old) left }
+    ensures left { (left : Contents) → B.leaves book.new left
+        → B.leaves book.old left ⊎ AddsTold (C.tells children.old) (B.contents book.old) left }
     ensures rest { B.rests book.old book.new }
     ensures same { SameTells (C.tells children.old) (C.tells children.new) }
 {
@@ -104,11 +120,18 @@ fn answer_told<C: Children, B: Book>(
     ended: &mut usize,
 ) -> Result<PartOutcome, RunRefusal>
     requires { need_of plan.now ≡ Need.Child }
-    ensures answered { IfOk result (λ came. AreAnswered (C.tells children.old) reuse (moment (C.call_count children.old) (C.fault_count children.old) (B.contents book.old)) (moment (C.call_count children.new) (C.fault_count children.new) (B.contents book.new)) (part_of plan.now came ∷ [])) }
-    ensures reused { IfOk result (λ came. C.call_count children.new + one_if came.reused ≡ C.call_count children.old + 1) }
-    ensures stopped { IfErr result (IsPartStopped (C.tells children.old) reuse (moment (C.call_count children.old) (C.fault_count children.old) (B.contents book.old)) (moment (C.call_count children.new) (C.fault_count children.new) (B.contents book.new)) plan.now) }
+    ensures answered { IfOk result (λ came. AreAnswered (C.tells children.old) reuse
+        (moment (C.call_count children.old) (C.fault_count children.old) (B.contents book.old))
+        (moment (C.call_count children.new) (C.fault_count children.new) (B.contents book.new))
+        (part_of plan.now came ∷ [])) }
+    ensures reused { IfOk result (λ came. C.call_count children.new + one_if came.reused
+        ≡ C.call_count children.old + 1) }
+    ensures stopped { IfErr result (IsPartStopped (C.tells children.old) reuse
+        (moment (C.call_count children.old) (C.fault_count children.old) (B.contents book.old))
+        (moment (C.call_count children.new) (C.fault_count children.new) (B.contents book.new)) plan.now) }
     ensures refused { IfErr result (IsOfBook B.refuses) }
-    ensures left { (left : Contents) → B.leaves book.new left → B.leaves book.old left ⊎ AddsTold (C.tells children.old) (B.contents book.old) left }
+    ensures left { (left : Contents) → B.leaves book.new left
+        → B.leaves book.old left ⊎ AddsTold (C.tells children.old) (B.contents book.old) left }
     ensures rest { B.rests book.old book.new }
     ensures same { SameTells (C.tells children.old) (C.tells children.new) }
 {

@@ -1,7 +1,7 @@
 //! Why a run is refused.
 
 ghost use Rattle.std.specs.Prelude.{◌≡◌};
-ghost use Rattle.hook_run.specs.Refusals.{name_of, number_of};
+ghost use Rattle.hook_run.specs.Refusals.{run_refusal_name, run_refusal_number};
 ghost use Rattle.hook_run.specs.declared.run_refusal.RunRefusal.TheVariants.{OutOfMemory};
 
 use hook_base::OutOfMemory;
@@ -29,7 +29,7 @@ pub enum RunRefusal {
 impl RunRefusal {
     /// The refusal's number, from 1 to 4 (docs/REFERENCE.md, "A run that is asked for").
     pub fn number(&self) -> u8
-        ensures { result ≡ number_of self.now }
+        ensures { result ≡ run_refusal_number self.now }
     {
         match self {
             RunRefusal::OutOfMemory => 1,
@@ -41,7 +41,7 @@ impl RunRefusal {
 
     /// The refusal's name, as it is printed after its number.
     pub fn name(&self) -> &'static str
-        ensures { result.now ≡ name_of self.now }
+        ensures { result.now ≡ run_refusal_name self.now }
     {
         match self {
             RunRefusal::OutOfMemory => "OutOfMemory",
@@ -61,9 +61,9 @@ impl From<OutOfMemory> for RunRefusal {
 }
 
 impl From<BookFault> for RunRefusal {
-    ghost use Rattle.hook_run.specs.Refusals.{of_book};
+    ghost use Rattle.hook_run.specs.Refusals.{run_refusal_of_book};
 
-    ghost from_gives = { λ fault refusal. refusal ≡ of_book fault };
+    ghost from_gives = { λ fault refusal. refusal ≡ run_refusal_of_book fault };
 
     /// Lack of memory is `OutOfMemory`, and every other fault `Book`.
     fn from(fault: BookFault) -> Self {

@@ -2,37 +2,37 @@
 
 use hook_base::{Mode, Text};
 use hook_cli::{
-    ColorChoice, FileChoice, FileVersion, Line, LookUp, PathSource, RunChoice, StageChoice,
+    ColorChoice, CommandLine, FileChoice, FileVersion, LookUp, PathSource, RunChoice, StageChoice,
     Standalone, Update, line_of,
 };
 use std::alloc::Global;
-use trial_rows::{Answer, Stop, texts_of};
+use trial_rows::{AnswerBytes, Stop, texts_of};
 
 /// `line_of WORD..`: the command with its words, a line each, or the kind of `clap`'s error and its text. For
 /// a run the stage and the files come first, and then how it is made. A color other than `auto` is at the end
 /// of the first line.
-pub(crate) fn asked(alloc: Global, arguments: &[Vec<u8>]) -> Result<Answer, Stop> {
+pub(crate) fn asked(alloc: Global, arguments: &[Vec<u8>]) -> Result<AnswerBytes, Stop> {
     let words = texts_of(alloc, arguments)?;
     match line_of(alloc, words.as_slice()) {
-        Ok(line) => Ok(told(Answer::new(alloc), &line)),
-        Err(error) => Ok(refused(Answer::new(alloc), &error)),
+        Ok(line) => Ok(told(AnswerBytes::new(alloc), &line)),
+        Err(error) => Ok(refused(AnswerBytes::new(alloc), &error)),
     }
 }
 
-fn refused(answer: Answer, error: &clap::Error) -> Answer {
+fn refused(answer: AnswerBytes, error: &clap::Error) -> AnswerBytes {
     let answer = answer.text("refused ").debug(error.kind());
     answer.text("\n").shown(error)
 }
 
-fn told(answer: Answer, line: &Line) -> Answer {
+fn told(answer: AnswerBytes, line: &CommandLine) -> AnswerBytes {
     match line {
-        Line::Standalone(asked) => told_alone(answer, asked),
-        Line::LookUp(asked) => told_look_up(answer, asked),
-        Line::Update(update) => told_update(answer, update),
+        CommandLine::Standalone(asked) => told_alone(answer, asked),
+        CommandLine::LookUp(asked) => told_look_up(answer, asked),
+        CommandLine::Update(update) => told_update(answer, update),
     }
 }
 
-fn told_alone(answer: Answer, asked: &Standalone) -> Answer {
+fn told_alone(answer: AnswerBytes, asked: &Standalone) -> AnswerBytes {
     match asked {
         Standalone::Init => answer.text("init\n"),
         Standalone::Try {
@@ -48,7 +48,7 @@ fn told_alone(answer: Answer, asked: &Standalone) -> Answer {
     }
 }
 
-fn told_look_up(answer: Answer, asked: &LookUp) -> Answer {
+fn told_look_up(answer: AnswerBytes, asked: &LookUp) -> AnswerBytes {
     match asked {
         LookUp::Status => answer.text("status\n"),
         LookUp::Fixes => answer.text("fixes\n"),
@@ -59,7 +59,7 @@ fn told_look_up(answer: Answer, asked: &LookUp) -> Answer {
     }
 }
 
-fn told_update(answer: Answer, update: &Update) -> Answer {
+fn told_update(answer: AnswerBytes, update: &Update) -> AnswerBytes {
     match update {
         Update::Add { paths, mode } => with_paths(
             answer.texts(&["add", word_of_mode(*mode)]),
@@ -91,7 +91,7 @@ fn told_update(answer: Answer, update: &Update) -> Answer {
     }
 }
 
-fn with_version(answer: Answer, version: FileVersion) -> Answer {
+fn with_version(answer: AnswerBytes, version: FileVersion) -> AnswerBytes {
     match version {
         FileVersion::Staged => answer.text("cat\n"),
         FileVersion::Fixed => answer.text("cat fixed\n"),
@@ -107,7 +107,7 @@ fn word_of_mode(mode: Option<Mode>) -> &'static str {
     }
 }
 
-fn with_paths(answer: Answer, paths: &PathSource) -> Answer {
+fn with_paths(answer: AnswerBytes, paths: &PathSource) -> AnswerBytes {
     match paths {
         PathSource::Words(words) => with_lines(answer.text("\n"), words.as_slice()),
         PathSource::Listed(from) => with_line(answer.text(" listed\n"), from),
@@ -123,7 +123,7 @@ fn word_of_commit(no_verify: bool) -> &'static str {
 }
 
 // How a run is made, after its stage and its files.
-fn with_how(answer: Answer, fresh: bool, options: RunChoice) -> Answer {
+fn with_how(answer: AnswerBytes, fresh: bool, options: RunChoice) -> AnswerBytes {
     let fresh = if fresh { " fresh" } else { "" };
     let cautious = if options.cautious { " cautious" } else { "" };
     let verbose = if options.verbose { " verbose" } else { "" };
@@ -155,7 +155,7 @@ fn word_of_files(files: &FileChoice) -> &'static str {
     }
 }
 
-fn with_files(answer: Answer, files: &FileChoice) -> Answer {
+fn with_files(answer: AnswerBytes, files: &FileChoice) -> AnswerBytes {
     match files {
         FileChoice::Changed | FileChoice::All => answer,
         FileChoice::Named(paths) => with_lines(answer, paths.as_slice()),
@@ -163,14 +163,14 @@ fn with_files(answer: Answer, files: &FileChoice) -> Answer {
     }
 }
 
-fn with_name(answer: Answer, name: &Option<Text>) -> Answer {
+fn with_name(answer: AnswerBytes, name: &Option<Text>) -> AnswerBytes {
     match name {
         Some(name) => with_line(answer, name),
         None => answer,
     }
 }
 
-fn with_lines(answer: Answer, words: &[Text]) -> Answer {
+fn with_lines(answer: AnswerBytes, words: &[Text]) -> AnswerBytes {
     let mut answer = answer;
     for word in words {
         answer = with_line(answer, word);
@@ -178,6 +178,6 @@ fn with_lines(answer: Answer, words: &[Text]) -> Answer {
     answer
 }
 
-fn with_line(answer: Answer, word: &Text) -> Answer {
+fn with_line(answer: AnswerBytes, word: &Text) -> AnswerBytes {
     answer.texts(&[word.as_str(), "\n"])
 }

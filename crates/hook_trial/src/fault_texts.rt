@@ -7,14 +7,14 @@ use hook_config::{ConfigFault, ConfigKind};
 use repo_store::StoreFault;
 use result_book::BookFault;
 use std::alloc::Global;
-use trial_rows::{Answer, Stop};
+use trial_rows::{AnswerBytes, Stop};
 
 /// `fault_texts`: the number and the text of each refusal of words, of a book and of a host, a line each.
-pub(crate) fn told(alloc: Global) -> Result<Answer, Stop> {
-    Ok(with_hosts(with_books(with_words(Answer::new(alloc)))))
+pub(crate) fn told(alloc: Global) -> Result<AnswerBytes, Stop> {
+    Ok(with_hosts(with_books(with_words(AnswerBytes::new(alloc)))))
 }
 
-fn with_words(answer: Answer) -> Answer {
+fn with_words(answer: AnswerBytes) -> AnswerBytes {
     let mut answer = answer;
     for fault in [
         WordsFault::OpenQuote,
@@ -30,7 +30,7 @@ fn with_words(answer: Answer) -> Answer {
     answer
 }
 
-fn with_books(answer: Answer) -> Answer {
+fn with_books(answer: AnswerBytes) -> AnswerBytes {
     let mut answer = answer;
     for fault in [
         BookFault::OutOfMemory,
@@ -45,7 +45,7 @@ fn with_books(answer: Answer) -> Answer {
     answer
 }
 
-fn with_hosts(answer: Answer) -> Answer {
+fn with_hosts(answer: AnswerBytes) -> AnswerBytes {
     let mut answer = answer;
     for refusal in [
         HostRefusal::OutOfMemory,

@@ -36,7 +36,7 @@ use repo_store::{FileRef, Store, StoreFault};
 use sqlite::{Connection, MemStore};
 use std::alloc::Global;
 use std::mem;
-use trial_rows::{Answer, Stop, Words, mode_of, text_of};
+use trial_rows::{AnswerBytes, Stop, Words, mode_of, text_of};
 
 /// The host of a row.
 pub(crate) type Played = Host<MemStore>;
@@ -45,11 +45,11 @@ pub(crate) type Played = Host<MemStore>;
 type Kept = Store<MemStore>;
 
 /// `command_over STEP..`: what the lines and the store answer, one after the other.
-pub(crate) fn played(alloc: Global, arguments: &[Vec<u8>]) -> Result<Answer, Stop> {
+pub(crate) fn played(alloc: Global, arguments: &[Vec<u8>]) -> Result<AnswerBytes, Stop> {
     let mut words = Words { left: arguments };
     let mut children = children_of(alloc, &mut words)?;
     let mut host = Host::over(empty_store(alloc)?);
-    let mut told = Answer::new(alloc);
+    let mut told = AnswerBytes::new(alloc);
     for _ in 0..arguments.len() {
         match words.next() {
             Some(step) => {
@@ -83,7 +83,7 @@ fn stepped(
     words: &mut Words<'_>,
     children: &mut TurnChildren,
     host: Played,
-    told: &mut Answer,
+    told: &mut AnswerBytes,
 ) -> Result<Played, Stop> {
     let mut host = host;
     match step {
@@ -163,29 +163,29 @@ fn fix_of(alloc: Global, line: &str) -> Result<Change, Stop> {
     }
 }
 
-fn tell_store(store: &Kept, told: &mut Answer) {
+fn tell_store(store: &Kept, told: &mut AnswerBytes) {
     let answer = with_head(with_staged(taken(told), store), store);
     let answer = answer.text("fixes ").shown(store.count_fixes());
     let answer = answer.text(", commits ").shown(store.count_commits());
     *told = answer.text("\n");
 }
 
-fn tell_counts(children: &mut TurnChildren, host: &Played, told: &mut Answer) {
+fn tell_counts(children: &mut TurnChildren, host: &Played, told: &mut AnswerBytes) {
     let answer = with_counts(taken(told), children, host);
     *told = with_rows(answer, children);
 }
 
-fn tell_forgotten(host: &mut Played, told: &mut Answer) {
+fn tell_forgotten(host: &mut Played, told: &mut AnswerBytes) {
     *told = with_forgotten(taken(told), host);
 }
 
 // Takes the answer so far by value, so that more can be added to it.
-fn taken(told: &mut Answer) -> Answer {
-    let fresh = Answer::new(told.alloc());
+fn taken(told: &mut AnswerBytes) -> AnswerBytes {
+    let fresh = AnswerBytes::new(told.alloc());
     mem::replace(told, fresh)
 }
 
-fn with_staged(answer: Answer, store: &Kept) -> Answer {
+fn with_staged(answer: AnswerBytes, store: &Kept) -> AnswerBytes {
     let mut answer = answer;
     for index in 0..usize::MAX {
         match store.staged_file(index) {
@@ -196,7 +196,7 @@ fn with_staged(answer: Answer, store: &Kept) -> Answer {
     answer
 }
 
-fn with_head(answer: Answer, store: &Kept) -> Answer {
+fn with_head(answer: AnswerBytes, store: &Kept) -> AnswerBytes {
     let mut answer = answer;
     for index in 0..usize::MAX {
         match store.head_file(index) {
@@ -207,6 +207,6 @@ fn with_head(answer: Answer, store: &Kept) -> Answer {
     answer
 }
 
-fn with_ref(answer: Answer, list: &str, file: &FileRef<'_>) -> Answer {
+fn with_ref(answer: AnswerBytes, list: &str, file: &FileRef<'_>) -> AnswerBytes {
     with_file(answer, list, file.mode, file.path.as_str(), file.bytes)
 }

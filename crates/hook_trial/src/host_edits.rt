@@ -8,14 +8,14 @@ use commit_flow::StagingEdit;
 use hook_base::{Bytes, Text};
 use hook_cli::stage_over;
 use std::alloc::Global;
-use trial_rows::{Answer, Stop, Words, mode_of};
+use trial_rows::{AnswerBytes, Stop, Words, mode_of};
 
 /// Makes the changes. There must be at least one.
 pub(crate) fn several_played(
     alloc: Global,
     words: &mut Words<'_>,
     host: &mut Played,
-    told: &mut Answer,
+    told: &mut AnswerBytes,
 ) -> Result<(), Stop> {
     let out = HabitWriter::of(alloc, b"all")?;
     let mut err = HabitWriter::of(alloc, words.bytes()?)?;

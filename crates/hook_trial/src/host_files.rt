@@ -1,7 +1,7 @@
 //! What the rows show of a file.
 
 use hook_base::Mode;
-use trial_rows::Answer;
+use trial_rows::AnswerBytes;
 
 // The most bytes of a file that are shown whole, and how many are shown of each end of a longer one.
 const MOST_TOLD_BYTES: usize = 4096;
@@ -11,12 +11,12 @@ const END_BYTES: usize = 100;
 /// Adds a line with the mode, the path and the length of a file, and then its bytes; of a long file only the
 /// first and the last ones.
 pub(crate) fn with_file(
-    answer: Answer,
+    answer: AnswerBytes,
     list: &str,
     mode: Mode,
     path: &str,
     bytes: &[u8],
-) -> Answer {
+) -> AnswerBytes {
     let mode = match mode {
         Mode::Plain => " plain ",
         Mode::Executable => " executable ",
@@ -25,7 +25,7 @@ pub(crate) fn with_file(
     with_ends(answer.shown(bytes.len()).text("\n"), bytes)
 }
 
-fn with_ends(answer: Answer, bytes: &[u8]) -> Answer {
+fn with_ends(answer: AnswerBytes, bytes: &[u8]) -> AnswerBytes {
     if bytes.len() <= MOST_TOLD_BYTES {
         return answer.bytes(bytes);
     }

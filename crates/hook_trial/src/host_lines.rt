@@ -17,12 +17,12 @@ use crate::host_writers::HabitWriter;
 use crate::turn_children::TurnChildren;
 use hook_base::{Items, Text};
 use hook_cli::{
-    AnswerLimit, ColorChoice, FileVersion, Line, LookUp, PathSource, RunChoice, Update,
+    AnswerLimit, ColorChoice, CommandLine, FileVersion, LookUp, PathSource, RunChoice, Update,
     command_over, skip_list_of,
 };
 use std::alloc::Global;
 use std::mem;
-use trial_rows::{Answer, Stop, Words, mode_of};
+use trial_rows::{AnswerBytes, Stop, Words, mode_of};
 
 /// Plays one command.
 pub(crate) fn line_played(
@@ -30,7 +30,7 @@ pub(crate) fn line_played(
     words: &mut Words<'_>,
     children: &mut TurnChildren,
     host: &mut Played,
-    told: &mut Answer,
+    told: &mut AnswerBytes,
 ) -> Result<(), Stop> {
     let mut out = HabitWriter::of(alloc, words.bytes()?)?;
     let mut err = HabitWriter::of(alloc, words.bytes()?)?;
@@ -53,14 +53,14 @@ pub(crate) fn line_played(
 }
 
 // The command line, without the bytes of `add` and the hooks that runs skip.
-fn line_of(alloc: Global, command: &str, words: &mut Words<'_>) -> Result<Line, Stop>
+fn line_of(alloc: Global, command: &str, words: &mut Words<'_>) -> Result<CommandLine, Stop>
     ensures { IfOk result IsOverHost }
 {
     match command {
         "status" | "fixes" | "cat" | "cat_fixed" | "cat_commit" | "log" | "show" | "memory" => {
-            Ok(Line::LookUp(look_up_of(alloc, command, words)?))
+            Ok(CommandLine::LookUp(look_up_of(alloc, command, words)?))
         }
-        _ => Ok(Line::Update(update_of(alloc, command, words)?)),
+        _ => Ok(CommandLine::Update(update_of(alloc, command, words)?)),
     }
 }
 
@@ -169,8 +169,8 @@ fn zeros(alloc: Global, count: u32) -> Result<Vec<u8>, Stop> {
 }
 
 /// Adds how a command ended, and what is on its writers.
-pub(crate) fn tell_end(status: u8, out: HabitWriter, err: HabitWriter, told: &mut Answer) {
-    let fresh = Answer::new(told.alloc());
+pub(crate) fn tell_end(status: u8, out: HabitWriter, err: HabitWriter, told: &mut AnswerBytes) {
+    let fresh = AnswerBytes::new(told.alloc());
     let answer = mem::replace(told, fresh);
     let answer = answer.text("status ").shown(status).text(", out ");
     let answer = with_flushes(answer, out.told_flushes());
@@ -182,7 +182,7 @@ pub(crate) fn tell_end(status: u8, out: HabitWriter, err: HabitWriter, told: &mu
     *told = answer.bytes(out.as_slice()).bytes(err.as_slice());
 }
 
-fn with_flushes(answer: Answer, flushes: Option<u32>) -> Answer {
+fn with_flushes(answer: AnswerBytes, flushes: Option<u32>) -> AnswerBytes {
     match flushes {
         Some(count) => answer.text("flushed ").shown(count).text(" times "),
         None => answer,

@@ -16,21 +16,21 @@ use hook_base::{Bytes, Text, Tree};
 use hook_cli::skip_list_of;
 use run_options::RunOptions;
 use std::alloc::Global;
-use trial_rows::{Answer, Stop, Words, mode_of};
+use trial_rows::{AnswerBytes, Stop, Words, mode_of};
 
 /// `play COMMAND..`: the replies, the counts, and the repository.
-pub(crate) fn played(alloc: Global, arguments: &[Vec<u8>]) -> Result<Answer, Stop> {
+pub(crate) fn played(alloc: Global, arguments: &[Vec<u8>]) -> Result<AnswerBytes, Stop> {
     let mut words = Words { left: arguments };
     let mut children = fused_children_of(alloc, &mut words)?;
     let commands = commands_of(alloc, &mut words)?;
     let mut host = Host::over(empty_store(alloc)?);
     let replies = host.play(alloc, &mut children, commands.as_slice())?;
-    let answer = with_replies(Answer::new(alloc), replies.as_slice());
+    let answer = with_replies(AnswerBytes::new(alloc), replies.as_slice());
     let answer = with_forgotten(with_counts(answer, &children, &host), &mut host);
     with_repository(answer, &host)
 }
 
-fn with_replies(answer: Answer, replies: &[Reply]) -> Answer {
+fn with_replies(answer: AnswerBytes, replies: &[Reply]) -> AnswerBytes {
     let mut answer = answer;
     for reply in replies {
         answer = with_reply(answer, reply);
@@ -92,14 +92,14 @@ fn ask_of(alloc: Global, words: &mut Words<'_>) -> Result<HostAsk, Stop> {
 }
 
 // Adds the staged files, those of HEAD, the fixes, and each commit with its files.
-fn with_repository(answer: Answer, host: &Played) -> Result<Answer, Stop> {
+fn with_repository(answer: AnswerBytes, host: &Played) -> Result<AnswerBytes, Stop> {
     let answer = with_tree(answer, "staged", &host.staged()?);
     let answer = with_tree(answer, "head", &host.head()?);
     let answer = with_changes(answer, "fix", host.fixes()?.as_slice());
     with_commits(answer, host)
 }
 
-fn with_commits(answer: Answer, host: &Played) -> Result<Answer, Stop> {
+fn with_commits(answer: AnswerBytes, host: &Played) -> Result<AnswerBytes, Stop> {
     let mut answer = answer;
     for entry in host.log()?.as_slice() {
         answer = answer.text("commit ").shown(entry.number);
@@ -110,20 +110,20 @@ fn with_commits(answer: Answer, host: &Played) -> Result<Answer, Stop> {
 }
 
 // Shows that there is no commit with the number 0, and none after the last one.
-fn with_no_commits(answer: Answer, host: &Played) -> Result<Answer, Stop> {
+fn with_no_commits(answer: AnswerBytes, host: &Played) -> Result<AnswerBytes, Stop> {
     let last = host.store().count_commits();
     let answer = with_committed(answer, &host.tree_of(0)?);
     Ok(with_committed(answer, &host.tree_of(last.saturating_add(1))?))
 }
 
-fn with_committed(answer: Answer, tree: &Option<Tree>) -> Answer {
+fn with_committed(answer: AnswerBytes, tree: &Option<Tree>) -> AnswerBytes {
     match tree {
         Some(tree) => with_tree(answer, "committed", tree),
         None => answer.text("no files\n"),
     }
 }
 
-fn with_tree(answer: Answer, list: &str, tree: &Tree) -> Answer {
+fn with_tree(answer: AnswerBytes, list: &str, tree: &Tree) -> AnswerBytes {
     let mut answer = answer;
     for index in 0..tree.len() {
         let file = tree.entry(index);

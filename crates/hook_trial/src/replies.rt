@@ -3,9 +3,9 @@
 use commit_flow::{HostRefusal, PostCommit, Reply};
 use hook_base::{Bytes, Change, Items, Text};
 use std::fmt::Display;
-use trial_rows::{Answer, verdict_of};
+use trial_rows::{AnswerBytes, verdict_of};
 
-pub(crate) fn with_reply(answer: Answer, reply: &Reply) -> Answer {
+pub(crate) fn with_reply(answer: AnswerBytes, reply: &Reply) -> AnswerBytes {
     match reply {
         Reply::Added => answer.text("added\n"),
         Reply::Removed => answer.text("removed\n"),
@@ -33,24 +33,24 @@ pub(crate) fn with_reply(answer: Answer, reply: &Reply) -> Answer {
     }
 }
 
-fn with_number(answer: Answer, word: &str, number: impl Display + Drop) -> Answer {
+fn with_number(answer: AnswerBytes, word: &str, number: impl Display + Drop) -> AnswerBytes {
     answer.text(word).shown(number).text("\n")
 }
 
 fn with_run(
-    answer: Answer,
+    answer: AnswerBytes,
     passed: bool,
     report: &Bytes,
     changes: &[Change],
     unsteady: &Items<Text>,
-) -> Answer {
+) -> AnswerBytes {
     let answer = answer.texts(&["ran, ", verdict_of(passed), ", "]);
     let answer = answer.shown(unsteady.len()).text(" unsteady\n");
     with_report(with_changes(answer, "change", changes), "report", report)
 }
 
 /// Adds the path of each change and its bytes, or that the file is gone.
-pub(crate) fn with_changes(answer: Answer, list: &str, changes: &[Change]) -> Answer {
+pub(crate) fn with_changes(answer: AnswerBytes, list: &str, changes: &[Change]) -> AnswerBytes {
     let mut answer = answer;
     for change in changes {
         answer = with_change(answer.texts(&[list, " ", change.path.as_str()]), change);
@@ -58,7 +58,7 @@ pub(crate) fn with_changes(answer: Answer, list: &str, changes: &[Change]) -> An
     answer
 }
 
-fn with_change(answer: Answer, change: &Change) -> Answer {
+fn with_change(answer: AnswerBytes, change: &Change) -> AnswerBytes {
     match &change.now {
         Some(bytes) => with_length(answer, bytes.as_slice()),
         None => answer.text(" gone\n"),
@@ -66,12 +66,12 @@ fn with_change(answer: Answer, change: &Change) -> Answer {
 }
 
 /// Adds the length of the bytes to a line, and then the bytes.
-pub(crate) fn with_length(answer: Answer, bytes: &[u8]) -> Answer {
+pub(crate) fn with_length(answer: AnswerBytes, bytes: &[u8]) -> AnswerBytes {
     let answer = answer.text(" ").shown(bytes.len());
     answer.text("\n").bytes(bytes)
 }
 
-fn with_reports(answer: Answer, reports: &Items<Bytes>) -> Answer {
+fn with_reports(answer: AnswerBytes, reports: &Items<Bytes>) -> AnswerBytes {
     let mut answer = answer;
     for report in reports.as_slice() {
         answer = with_report(answer, "report", report);
@@ -79,11 +79,11 @@ fn with_reports(answer: Answer, reports: &Items<Bytes>) -> Answer {
     answer
 }
 
-fn with_report(answer: Answer, name: &str, report: &Bytes) -> Answer {
+fn with_report(answer: AnswerBytes, name: &str, report: &Bytes) -> AnswerBytes {
     with_length(answer.text(name), report.as_slice())
 }
 
-fn with_post(answer: Answer, post: &PostCommit) -> Answer {
+fn with_post(answer: AnswerBytes, post: &PostCommit) -> AnswerBytes {
     match post {
         PostCommit::Told(report) => with_report(answer, "post", report),
         PostCommit::Stopped(refusal) => {
@@ -93,7 +93,7 @@ fn with_post(answer: Answer, post: &PostCommit) -> Answer {
     }
 }
 
-pub(crate) fn with_refusal(answer: Answer, refusal: &HostRefusal) -> Answer {
+pub(crate) fn with_refusal(answer: AnswerBytes, refusal: &HostRefusal) -> AnswerBytes {
     let answer = answer.text("refused ").shown(refusal.number());
     let answer = answer.texts(&[" ", refusal.name()]);
     match refusal.inner_number() {

@@ -10,10 +10,10 @@ use hook_base::{Content, FileEntry, Items, Mode, RepoPath, Tree};
 use hook_cli::{TryFault, try_over};
 use std::alloc::Global;
 use std::io::{Read, Write};
-use trial_rows::{Answer, Stop, number_of, text_of, verdict_of};
+use trial_rows::{AnswerBytes, Stop, number_of, text_of, verdict_of};
 
 /// `try_over CONFIGURATION PATH..`: a run over plain files at these paths.
-pub(crate) fn over_files(alloc: Global, arguments: &[Vec<u8>]) -> Result<Answer, Stop> {
+pub(crate) fn over_files(alloc: Global, arguments: &[Vec<u8>]) -> Result<AnswerBytes, Stop> {
     let [configuration, paths @ ..] = arguments else {
         return Err(Stop::BadLine);
     };
@@ -23,7 +23,10 @@ pub(crate) fn over_files(alloc: Global, arguments: &[Vec<u8>]) -> Result<Answer,
 }
 
 /// `try_failing_reader CALL CONFIGURATION PATH..`: the reader gives an error in the call with this number.
-pub(crate) fn with_failing_reader(alloc: Global, arguments: &[Vec<u8>]) -> Result<Answer, Stop> {
+pub(crate) fn with_failing_reader(
+    alloc: Global,
+    arguments: &[Vec<u8>],
+) -> Result<AnswerBytes, Stop> {
     let [call, configuration, paths @ ..] = arguments else {
         return Err(Stop::BadLine);
     };
@@ -33,7 +36,10 @@ pub(crate) fn with_failing_reader(alloc: Global, arguments: &[Vec<u8>]) -> Resul
 }
 
 /// `try_failing_writer CALL CONFIGURATION PATH..`: the writer gives an error in the call with this number.
-pub(crate) fn with_failing_writer(alloc: Global, arguments: &[Vec<u8>]) -> Result<Answer, Stop> {
+pub(crate) fn with_failing_writer(
+    alloc: Global,
+    arguments: &[Vec<u8>],
+) -> Result<AnswerBytes, Stop> {
     let [call, configuration, paths @ ..] = arguments else {
         return Err(Stop::BadLine);
     };
@@ -44,7 +50,7 @@ pub(crate) fn with_failing_writer(alloc: Global, arguments: &[Vec<u8>]) -> Resul
 
 /// `try_texts TEXT..`: a run over no files, whose reader gives one of the texts in each call. The first line
 /// ends with how often the reader was called.
-pub(crate) fn of_texts(alloc: Global, arguments: &[Vec<u8>]) -> Result<Answer, Stop> {
+pub(crate) fn of_texts(alloc: Global, arguments: &[Vec<u8>]) -> Result<AnswerBytes, Stop> {
     let mut reader = Texts::new(arguments);
     let mut writer = Kept::new(alloc);
     let ran = tried(alloc, &mut reader, &mut writer, &Tree::new(alloc));
@@ -54,7 +60,7 @@ pub(crate) fn of_texts(alloc: Global, arguments: &[Vec<u8>]) -> Result<Answer, S
 }
 
 /// `try_left CONFIGURATION`: a run over no files. The first line ends with how many bytes were left unread.
-pub(crate) fn with_bytes_left(alloc: Global, arguments: &[Vec<u8>]) -> Result<Answer, Stop> {
+pub(crate) fn with_bytes_left(alloc: Global, arguments: &[Vec<u8>]) -> Result<AnswerBytes, Stop> {
     let [configuration] = arguments else {
         return Err(Stop::BadLine);
     };
@@ -67,7 +73,7 @@ pub(crate) fn with_bytes_left(alloc: Global, arguments: &[Vec<u8>]) -> Result<An
 }
 
 /// `try_flushed CONFIGURATION PATH..`: the writer keeps only what was flushed.
-pub(crate) fn with_flushes(alloc: Global, arguments: &[Vec<u8>]) -> Result<Answer, Stop> {
+pub(crate) fn with_flushes(alloc: Global, arguments: &[Vec<u8>]) -> Result<AnswerBytes, Stop> {
     let [configuration, paths @ ..] = arguments else {
         return Err(Stop::BadLine);
     };
@@ -82,7 +88,7 @@ fn kept(
     reader: &mut Pieces<'_>,
     writer: &mut Kept,
     paths: &[Vec<u8>],
-) -> Result<Answer, Stop> {
+) -> Result<AnswerBytes, Stop> {
     let ran = tried(alloc, reader, writer, &tree_of(alloc, paths)?);
     Ok(told(head_of(alloc, ran, writer.calls), writer.bytes.as_slice()))
 }
@@ -97,8 +103,8 @@ fn tried(
     try_over(alloc, reader, writer, tree, &mut children)
 }
 
-fn head_of(alloc: Global, ran: Result<bool, TryFault>, calls: u32) -> Answer {
-    let answer = Answer::new(alloc);
+fn head_of(alloc: Global, ran: Result<bool, TryFault>, calls: u32) -> AnswerBytes {
+    let answer = AnswerBytes::new(alloc);
     match ran {
         Ok(passed) => answer.text(verdict_of(passed)),
         Err(fault) => {
@@ -108,7 +114,7 @@ fn head_of(alloc: Global, ran: Result<bool, TryFault>, calls: u32) -> Answer {
     }
 }
 
-fn told(head: Answer, written: &[u8]) -> Answer {
+fn told(head: AnswerBytes, written: &[u8]) -> AnswerBytes {
     head.text("\n").bytes(written)
 }
 

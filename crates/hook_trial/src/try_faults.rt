@@ -3,12 +3,12 @@
 use hook_cli::TryFault;
 use hook_config::{ConfigFault, ConfigKind};
 use std::alloc::Global;
-use trial_rows::{Answer, Stop, only, text_of};
+use trial_rows::{AnswerBytes, Stop, only, text_of};
 
 /// `try_fault NAME`: the refusal's number and name, and how it is shown.
-pub(crate) fn told(alloc: Global, arguments: &[Vec<u8>]) -> Result<Answer, Stop> {
+pub(crate) fn told(alloc: Global, arguments: &[Vec<u8>]) -> Result<AnswerBytes, Stop> {
     let fault = fault_of(text_of(only(arguments)?)?).ok_or(Stop::BadLine)?;
-    let answer = Answer::new(alloc).shown(fault.number());
+    let answer = AnswerBytes::new(alloc).shown(fault.number());
     Ok(answer.texts(&[" ", fault.name(), ": "]).shown(fault))
 }
 

@@ -1,9 +1,9 @@
 -- What stops the opening of a store, or what an update needs beside it, stops the update.
-use Rattle.hookhost.specs.declared.stop.Stop.{Stop}
-use Rattle.hookhost.specs.declared.stop.Stop.TheVariants.{Usage, NotText, CannotUse, Refused, NoConfiguration, NoRepository, NoNewRepository, RefusedCommand}
+use Rattle.hookhost.specs.declared.stop.CommandStop.{CommandStop}
+use Rattle.hookhost.specs.declared.stop.CommandStop.TheVariants.{Usage, NotText, CannotUse, Refused, NoConfiguration, NoRepository, NoNewRepository, RefusedCommand}
 use Rattle.hookhost.specs.Stops.{IsStopOfLookUp, IsStopOfOpening}
 
-pub opening_stops : (stop : Stop) → IsStopOfOpening stop → IsStopOfLookUp stop
+pub opening_stops : (stop : CommandStop) → IsStopOfOpening stop → IsStopOfLookUp stop
 opening_stops (Usage error) h = absurd h
 opening_stops NotText h = absurd h
 opening_stops (CannotUse word) h = absurd h

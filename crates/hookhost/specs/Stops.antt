@@ -20,19 +20,19 @@ use Rattle.command_line.specs.declared.line.Update.TheVariants.{Add, Remove, Run
 use Rattle.hook_base.specs.declared.file.File.{File}
 use Rattle.repository_files.specs.RepositoryFaults.{IsFaultOfOpening}
 use Rattle.hookhost.specs.FileTrees.{AreFilesOf}
-use Rattle.hookhost.specs.declared.stop.Stop.{Stop}
-use Rattle.hookhost.specs.declared.stop.Stop.TheVariants.{Usage, NotText, CannotUse, Refused, NoConfiguration, NoRepository, NoNewRepository, RefusedCommand}
+use Rattle.hookhost.specs.declared.stop.CommandStop.{CommandStop}
+use Rattle.hookhost.specs.declared.stop.CommandStop.TheVariants.{Usage, NotText, CannotUse, Refused, NoConfiguration, NoRepository, NoNewRepository, RefusedCommand}
 
 -- 2 for words that name no command, 3 for a refusal
-abbrev pub status_of : Stop → ℕ
-status_of (Usage error) = 2
-status_of NotText = 2
-status_of (CannotUse word) = 3
-status_of (Refused fault) = 3
-status_of (NoConfiguration fault) = 3
-status_of (NoRepository fault) = 3
-status_of (NoNewRepository fault) = 3
-status_of (RefusedCommand refusal) = 3
+abbrev pub status_of_stop : CommandStop → ℕ
+status_of_stop (Usage error) = 2
+status_of_stop NotText = 2
+status_of_stop (CannotUse word) = 3
+status_of_stop (Refused fault) = 3
+status_of_stop (NoConfiguration fault) = 3
+status_of_stop (NoRepository fault) = 3
+status_of_stop (NoNewRepository fault) = 3
+status_of_stop (RefusedCommand refusal) = 3
 
 -- 0 if every hook passed, and 1 if one failed
 abbrev pub status_of_run : Bool → ℕ
@@ -45,16 +45,16 @@ pub record IsNoMemory (error : Error) : Type 0 where
   pub numbered : raw_os_error error ≡ None
 
 -- the program stops for want of memory if an error is that, and otherwise for this reason
-pub record StopsFor (reason : Stop) (error : Error) (stop : Stop) : Type 0 where
+pub record StopsFor (reason : CommandStop) (error : Error) (stop : CommandStop) : Type 0 where
   pub memory : IsNoMemory error → stop ≡ Refused OutOfMemory
   pub other : ¬ IsNoMemory error → stop ≡ reason
 
 -- the file of a word stops the program because it can't be used, or because memory was refused
-abbrev pub IsStopOfFile : List ℕ → Stop → Type 0
+abbrev pub IsStopOfFile : List ℕ → CommandStop → Type 0
 IsStopOfFile word stop = (stop ≡ CannotUse word) ⊎ (stop ≡ Refused OutOfMemory)
 
 -- the files of the words before this one were read, and its file stops the program
-pub record StopsAtFile (words : List (List ℕ)) (stop : Stop) : Type 0 where
+pub record StopsAtFile (words : List (List ℕ)) (stop : CommandStop) : Type 0 where
   pub before : List (List ℕ)
   pub word : List ℕ
   pub others : List (List ℕ)
@@ -64,23 +64,23 @@ pub record StopsAtFile (words : List (List ℕ)) (stop : Stop) : Type 0 where
   pub stops : IsStopOfFile word stop
 
 -- the files of words stop the program at one of them, or because memory was refused
-abbrev pub IsStopOfFiles : List (List ℕ) → Stop → Type 0
+abbrev pub IsStopOfFiles : List (List ℕ) → CommandStop → Type 0
 IsStopOfFiles words stop = StopsAtFile words stop ⊎ (stop ≡ Refused OutOfMemory)
 
 -- what `StopsFor` says, for an error of the command line's parser
-pub record IsUsageOf (error : WordsError) (stop : Stop) : Type 0 where
+pub record IsUsageOf (error : WordsError) (stop : CommandStop) : Type 0 where
   pub memory : kind_of error ≡ WordsMemory → stop ≡ Refused OutOfMemory
   pub other : kind_of error ≢ WordsMemory → stop ≡ Usage error
 
 -- a run's refusal when a configuration is read alone: want of memory is the configuration's refusal
-abbrev pub of_check_fault : TryFault → Stop
+abbrev pub of_check_fault : TryFault → CommandStop
 of_check_fault Read = Refused Read
 of_check_fault (Config fault) = Refused (Config fault)
 of_check_fault Write = Refused Write
 of_check_fault OutOfMemory = NoConfiguration (record { kind = NoMemory; at = 0 })
 of_check_fault Spent = Refused Spent
 
-abbrev pub of_check : Stop → Stop
+abbrev pub of_check : CommandStop → CommandStop
 of_check (Usage error) = Usage error
 of_check NotText = NotText
 of_check (CannotUse word) = CannotUse word
@@ -91,14 +91,14 @@ of_check (NoNewRepository fault) = NoNewRepository fault
 of_check (RefusedCommand refusal) = RefusedCommand refusal
 
 -- a run's refusal when a command on the repository is asked for: want of memory is the host's refusal
-abbrev pub of_command_fault : TryFault → Stop
+abbrev pub of_command_fault : TryFault → CommandStop
 of_command_fault Read = Refused Read
 of_command_fault (Config fault) = Refused (Config fault)
 of_command_fault Write = Refused Write
 of_command_fault OutOfMemory = RefusedCommand NoMemoryOfHost
 of_command_fault Spent = Refused Spent
 
-abbrev pub of_command : Stop → Stop
+abbrev pub of_command : CommandStop → CommandStop
 of_command (Usage error) = Usage error
 of_command NotText = NotText
 of_command (CannotUse word) = CannotUse word
@@ -109,42 +109,42 @@ of_command (NoNewRepository fault) = NoNewRepository fault
 of_command (RefusedCommand refusal) = RefusedCommand refusal
 
 -- the store's file can't be used, or the store can't be opened
-abbrev pub IsStopOfOpening : Stop → Type 0
+abbrev pub IsStopOfOpening : CommandStop → Type 0
 IsStopOfOpening (NoRepository fault) = IsFaultOfOpening fault
 IsStopOfOpening _ = ⊥
 
 -- a file or a folder can't be used, or memory was refused
-abbrev pub IsStopOfReading : Stop → Type 0
+abbrev pub IsStopOfReading : CommandStop → Type 0
 IsStopOfReading (CannotUse word) = Unit {0}
 IsStopOfReading (Refused fault) = fault ≡ OutOfMemory
 IsStopOfReading stop = ⊥
 
 -- the file that lists names can't be used, or the names aren't UTF-8
-abbrev pub IsStopOfNames : List ℕ → Stop → Type 0
+abbrev pub IsStopOfNames : List ℕ → CommandStop → Type 0
 IsStopOfNames from stop = (stop ≡ NotText) ⊎ IsStopOfFile from stop
 
 -- a file or a folder that a line stages can't be used, or memory was refused, which is then the host's
 -- refusal
-abbrev pub IsStopOfStaging : Stop → Type 0
+abbrev pub IsStopOfStaging : CommandStop → Type 0
 IsStopOfStaging (CannotUse word) = Unit {0}
 IsStopOfStaging (RefusedCommand refusal) = refusal ≡ NoMemoryOfHost
 IsStopOfStaging stop = ⊥
 
 -- the same for a file that lists names
-abbrev pub IsStopOfList : List ℕ → Stop → Type 0
+abbrev pub IsStopOfList : List ℕ → CommandStop → Type 0
 IsStopOfList from stop = (stop ≡ NotText) ⊎ (stop ≡ CannotUse from) ⊎ (stop ≡ RefusedCommand NoMemoryOfHost)
 
 -- what stops a line for the file that lists its paths
-abbrev pub IsStopOfSource : PathSource → Stop → Type 0
+abbrev pub IsStopOfSource : PathSource → CommandStop → Type 0
 IsStopOfSource (Words words) stop = ⊥
 IsStopOfSource (Listed from) stop = IsStopOfList from stop
 
-abbrev pub IsStopOfChoice : FileChoice → Stop → Type 0
+abbrev pub IsStopOfChoice : FileChoice → CommandStop → Type 0
 IsStopOfChoice (ListedFiles from) stop = IsStopOfList from stop
 IsStopOfChoice files stop = ⊥
 
 -- what stops an update for the file that lists its paths
-abbrev pub IsStopOfItsList : Update → Stop → Type 0
+abbrev pub IsStopOfItsList : Update → CommandStop → Type 0
 IsStopOfItsList (Add paths mode) stop = IsStopOfSource paths stop
 IsStopOfItsList (Remove paths) stop = IsStopOfSource paths stop
 IsStopOfItsList (Run files only stage fresh options) stop = IsStopOfChoice files stop
@@ -157,29 +157,30 @@ IsStopOfItsList (Limit limit) stop = ⊥
 -- file that represents Git's state
 abbrev pub IsVariable : List ℕ → Type 0
 IsVariable word =
-    (word ≡ codes "HOOKHOST_GIT_CALLS") ⊎ (word ≡ codes "HOOKHOST_SCRATCH") ⊎ (word ≡ codes "HOOKHOST_LINKS") ⊎ (word ≡ codes "HOOKHOST_GIT_STATE")
+    (word ≡ codes "HOOKHOST_GIT_CALLS") ⊎ (word ≡ codes "HOOKHOST_SCRATCH") ⊎ (word ≡ codes "HOOKHOST_LINKS")
+    ⊎ (word ≡ codes "HOOKHOST_GIT_STATE")
 
 -- the variable isn't UTF-8 or names what can't be, or memory was refused
-abbrev pub IsStopOfVariable : List ℕ → Stop → Type 0
+abbrev pub IsStopOfVariable : List ℕ → CommandStop → Type 0
 IsStopOfVariable variable (CannotUse word) = word ≡ variable
 IsStopOfVariable variable (Refused fault) = fault ≡ OutOfMemory
 IsStopOfVariable variable stop = ⊥
 
 -- a variable that children depend on can't be used, or memory was refused
-abbrev pub IsStopOfChildren : Stop → Type 0
+abbrev pub IsStopOfChildren : CommandStop → Type 0
 IsStopOfChildren (CannotUse word) = IsVariable word
 IsStopOfChildren (Refused fault) = fault ≡ OutOfMemory
 IsStopOfChildren stop = ⊥
 
 -- the same for a command on the repository: want of memory is then the host's refusal
-abbrev pub IsStopOfHooks : Stop → Type 0
+abbrev pub IsStopOfHooks : CommandStop → Type 0
 IsStopOfHooks (CannotUse word) = IsVariable word
 IsStopOfHooks (RefusedCommand refusal) = refusal ≡ NoMemoryOfHost
 IsStopOfHooks stop = ⊥
 
 -- what stops an update for what it needs besides the store: the files that it stages, or what runs of hooks
 -- need, can't be used. Or memory was refused for these, which is then the host's refusal
-abbrev pub IsStopOfWork : Update → Stop → Type 0
+abbrev pub IsStopOfWork : Update → CommandStop → Type 0
 IsStopOfWork (Add paths mode) stop = IsStopOfStaging stop
 IsStopOfWork (Remove paths) stop = ⊥
 IsStopOfWork (Run files only stage fresh options) stop = IsStopOfHooks stop
@@ -189,10 +190,10 @@ IsStopOfWork Forget stop = ⊥
 IsStopOfWork (Limit limit) stop = ⊥
 
 -- what stops a look-up: the store can't be used, or its lock
-abbrev pub IsStopOfLookUp : Stop → Type 0
+abbrev pub IsStopOfLookUp : CommandStop → Type 0
 IsStopOfLookUp (NoRepository fault) = Unit {0}
 IsStopOfLookUp stop = ⊥
 
 -- what stops an update: that, the file that lists its paths, or what it needs besides the store
-abbrev pub IsStopOfUpdate : Update → Stop → Type 0
+abbrev pub IsStopOfUpdate : Update → CommandStop → Type 0
 IsStopOfUpdate update stop = IsStopOfLookUp stop ⊎ IsStopOfItsList update stop ⊎ IsStopOfWork update stop

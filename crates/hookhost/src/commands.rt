@@ -8,18 +8,18 @@ ghost use Rattle.hookhost.specs.Works.{IsWork};
 use crate::colored_report::report_writer;
 use crate::hint::{FIXES, hint, hint_undone, is_heard};
 use crate::names::names_of;
-use crate::refusal_hints::{Need, hint_need, need_of};
+use crate::obstacle_lines::tell_trouble;
+use crate::refusal_hints::{Requirement, hint_need, need_of};
 use crate::runs::RealChildren;
-use crate::stop::{Stop, tell};
+use crate::stop::{CommandStop, tell};
+use crate::store_call::{StoreCall, work_of};
 use crate::tracked_store::distrust;
-use crate::trouble::tell_trouble;
 use crate::undone_fix::undone_fix;
 use crate::unstaged_words::{is_folder_of_none, unstaged_below, unstaged_by};
-use crate::work::{Work, work_of};
 use child_port::{Children, TableChildren};
 use commit_flow::{Host, HostRefusal, StagingEdit};
 use hook_base::{Items, OutOfMemory, RepoPath, Text};
-use hook_cli::{ColorChoice, Line, LookUp, PathSource, Update, command_over, stage_over};
+use hook_cli::{ColorChoice, CommandLine, LookUp, PathSource, Update, command_over, stage_over};
 use repo_store::Store;
 use repository_files::{
     Before, DatabaseOver, Lock, keep_out_of_git, leave_database, look_at_store, open_database,
@@ -44,14 +44,14 @@ const REFUSED: u8 = 3;
 /// `RepositoryFault::CannotUseLock`, and what opening the store reports. In any case the folder is as it was,
 /// with these exceptions: its lock, the log of a killed command, which is then in the database, and a store
 /// of an earlier version, which is adopted.
-pub(crate) fn look_up(rt: &HostRuntime, asked: LookUp) -> Result<u8, Stop>
+pub(crate) fn look_up(rt: &HostRuntime, asked: LookUp) -> Result<u8, CommandStop>
     ensures status { IfOk result (λ status. (status ≡ 0) ⊎ (status ≡ 1) ⊎ (status ≡ 3)) }
     ensures stopped { IfErr result IsStopOfLookUp }
 {
     look_at_store(rt)?;
     let lock = take_lock(rt)?;
-    let work = Work::Call {
-        line: Line::LookUp(asked),
+    let work = StoreCall::Call {
+        line: CommandLine::LookUp(asked),
         bytes: Vec::new(rt.alloc()),
     };
     open_and_do(rt, &lock, work)
@@ -67,7 +67,7 @@ pub(crate) fn look_up(rt: &HostRuntime, asked: LookUp) -> Result<u8, Stop>
 /// Besides, the log of a killed command is then in the database, and a store of an earlier version is
 /// adopted. An ignore file of an earlier program is replaced by a line in Git's own exclude list. After a
 /// refused run or commit, what was answered by then is cached.
-pub(crate) fn change(rt: &HostRuntime, update: Update) -> Result<u8, Stop>
+pub(crate) fn change(rt: &HostRuntime, update: Update) -> Result<u8, CommandStop>
     ensures status { IfOk result (λ status. (status ≡ 0) ⊎ (status ≡ 1) ⊎ (status ≡ 3)) }
     ensures stopped { IfErr result (IsStopOfUpdate update) }
 {
@@ -85,7 +85,7 @@ fn change_under(
     lock: &Lock,
     update: Update,
     names: Items<Text>,
-) -> Result<u8, Stop>
+) -> Result<u8, CommandStop>
     ensures status { IfOk result (λ status. (status ≡ 0) ⊎ (status ≡ 1) ⊎ (status ≡ 3)) }
     ensures stopped { IfErr result (IsStopOfUpdate update) }
 {
@@ -96,7 +96,7 @@ fn change_under(
 }
 
 // Opens the database, and does what is asked of the store in it.
-fn open_and_do(rt: &HostRuntime, lock: &Lock, work: Work) -> Result<u8, Stop>
+fn open_and_do(rt: &HostRuntime, lock: &Lock, work: StoreCall) -> Result<u8, CommandStop>
     requires { IsWork work }
     ensures status { IfOk result (λ status. (status ≡ 0) ⊎ (status ≡ 1) ⊎ (status ≡ 3)) }
     ensures stopped { IfErr result IsStopOfOpening }
@@ -110,10 +110,10 @@ fn open_and_do(rt: &HostRuntime, lock: &Lock, work: Work) -> Result<u8, Stop>
 // because the same statements about the program's own files take the checker minutes.
 fn do_over<D: Disk + Drop>(
     rt: &HostRuntime,
-    work: Work,
+    work: StoreCall,
     before: &Before,
     conn: DatabaseOver<D>,
-) -> Result<u8, Stop>
+) -> Result<u8, CommandStop>
     requires work { IsWork work }
     requires outside { conn.in_transaction ≡ false }
     ensures status { IfOk result (λ status. (status ≡ 0) ⊎ (status ≡ 1) ⊎ (status ≡ 3)) }
@@ -131,10 +131,10 @@ fn do_over<D: Disk + Drop>(
 // Does what is asked of the store in a database, whatever kind of storage that uses.
 fn do_in<S: Alter + Drop>(
     rt: &HostRuntime,
-    work: Work,
+    work: StoreCall,
     before: &Before,
     conn: Connection<S>,
-) -> Result<(u8, Connection<S>), Stop>
+) -> Result<(u8, Connection<S>), CommandStop>
     requires work { IsWork work }
     requires outside { conn.in_transaction ≡ false }
     ensures status { IfOk result (λ done. (done.0 ≡ 0) ⊎ (done.0 ≡ 1) ⊎ (done.0 ≡ 3)) }
@@ -153,7 +153,7 @@ fn do_in<S: Alter + Drop>(
             hint_behind(rt, status, undone, need, host.store());
             Ok((status, host.into_store().into_connection()))
         }
-        Err(fault) => Err(Stop::from(fault)),
+        Err(fault) => Err(CommandStop::from(fault)),
     }
 }
 
@@ -162,7 +162,7 @@ fn hint_behind<S: Alter>(
     rt: &HostRuntime,
     status: u8,
     undone: Option<RepoPath>,
-    need: Need,
+    need: Requirement,
     store: &Store<S>,
 ) {
     match (status, undone) {
@@ -173,26 +173,26 @@ fn hint_behind<S: Alter>(
     }
 }
 
-fn answer<S: Alter + Drop>(rt: &HostRuntime, work: Work, host: &mut Host<S>) -> u8
+fn answer<S: Alter + Drop>(rt: &HostRuntime, work: StoreCall, host: &mut Host<S>) -> u8
     requires { IsWork work }
     ensures { (result ≡ 0) ⊎ (result ≡ 1) ⊎ (result ≡ 3) }
 {
     match work {
-        Work::Call { line, bytes } => answer_line(rt, &line, bytes.as_slice(), host),
-        Work::HookCall {
+        StoreCall::Call { line, bytes } => answer_line(rt, &line, bytes.as_slice(), host),
+        StoreCall::HookCall {
             line,
             skip,
             children,
         } => answer_hooks(rt, &line, skip.as_slice(), children, host),
-        Work::Stage(edits) => stage(rt, edits.as_slice(), host),
-        Work::Unstage(words) => unstage(rt, words.as_slice(), host),
+        StoreCall::Stage(edits) => stage(rt, edits.as_slice(), host),
+        StoreCall::Unstage(words) => unstage(rt, words.as_slice(), host),
     }
 }
 
 // Makes the call of a line that runs hooks.
 fn answer_hooks<S: Alter + Drop>(
     rt: &HostRuntime,
-    line: &Line,
+    line: &CommandLine,
     skip: &[Text],
     children: RealChildren,
     host: &mut Host<S>,
@@ -201,7 +201,7 @@ fn answer_hooks<S: Alter + Drop>(
     ensures { (result ≡ 0) ⊎ (result ≡ 1) ⊎ (result ≡ 3) }
 {
     if let Err(refusal) = distrust(rt, host) {
-        return tell(rt, &Stop::RefusedCommand(refusal));
+        return tell(rt, &CommandStop::RefusedCommand(refusal));
     }
     let mut children = children;
     let (color, verbose) = shows_of(line);
@@ -224,7 +224,7 @@ fn unstage<S: Alter + Drop>(rt: &HostRuntime, words: &[Text], host: &mut Host<S>
     match words.first() {
         Some(word) if is_folder_of_none(word, host.store()) => {
             let name = word.as_str();
-            let status = tell(rt, &Stop::RefusedCommand(HostRefusal::NotStaged));
+            let status = tell(rt, &CommandStop::RefusedCommand(HostRefusal::NotStaged));
             let _said = eprintln!(rt; "hookhost: at {name}");
             status
         }
@@ -238,7 +238,7 @@ fn unstage<S: Alter + Drop>(rt: &HostRuntime, words: &[Text], host: &mut Host<S>
 // Makes the call of a line that runs no hooks. But an `rm` of a folder means the staged files below it.
 fn answer_line<S: Alter + Drop>(
     rt: &HostRuntime,
-    line: &Line,
+    line: &CommandLine,
     bytes: &[u8],
     host: &mut Host<S>,
 ) -> u8
@@ -247,7 +247,7 @@ fn answer_line<S: Alter + Drop>(
 {
     let alloc = rt.alloc();
     if removed_word(line).is_some_and(|word| is_folder_of_none(word, host.store())) {
-        return tell(rt, &Stop::RefusedCommand(HostRefusal::NotStaged));
+        return tell(rt, &CommandStop::RefusedCommand(HostRefusal::NotStaged));
     }
     match removed_below(alloc, line, host.store()) {
         Ok(edits) if edits.is_empty() => {
@@ -261,7 +261,7 @@ fn answer_line<S: Alter + Drop>(
 
 fn removed_below<S: Alter>(
     alloc: Global,
-    line: &Line,
+    line: &CommandLine,
     store: &Store<S>,
 ) -> Result<Vec<StagingEdit>, OutOfMemory> {
     match removed_word(line) {
@@ -271,8 +271,8 @@ fn removed_below<S: Alter>(
 }
 
 // The word of an `rm` that has just one.
-fn removed_word(line: &Line) -> Option<&Text> {
-    let Line::Update(
+fn removed_word(line: &CommandLine) -> Option<&Text> {
+    let CommandLine::Update(
         Update::Remove {
             paths: PathSource::Words(words),
         },
@@ -288,7 +288,7 @@ fn removed_word(line: &Line) -> Option<&Text> {
 
 fn call<S: Alter + Drop, C: Children, W: Write>(
     rt: &HostRuntime,
-    line: &Line,
+    line: &CommandLine,
     bytes: &[u8],
     skip: &[Text],
     host: &mut Host<S>,
@@ -312,10 +312,10 @@ fn call<S: Alter + Drop, C: Children, W: Write>(
 
 // The choice of colors for the report of a line that runs hooks, and whether it is to say how long their
 // commands took.
-fn shows_of(line: &Line) -> (ColorChoice, bool) {
+fn shows_of(line: &CommandLine) -> (ColorChoice, bool) {
     match line {
-        Line::Update(Update::Run { options, .. }) => (options.color, options.verbose),
-        Line::Update(Update::Commit { color, .. }) => (*color, false),
+        CommandLine::Update(Update::Run { options, .. }) => (options.color, options.verbose),
+        CommandLine::Update(Update::Commit { color, .. }) => (*color, false),
         _ => (ColorChoice::Auto, false),
     }
 }
@@ -329,7 +329,7 @@ fn stage_if_known<S: Alter + Drop>(
 {
     match edits {
         Ok(edits) => stage(rt, edits.as_slice(), host),
-        Err(OutOfMemory) => tell(rt, &Stop::RefusedCommand(HostRefusal::OutOfMemory)),
+        Err(OutOfMemory) => tell(rt, &CommandStop::RefusedCommand(HostRefusal::OutOfMemory)),
     }
 }
 

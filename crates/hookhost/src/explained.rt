@@ -2,19 +2,19 @@
 
 use crate::files::{STANDARD_INPUT, read_word};
 use crate::folder_files::readable_files;
-use crate::stop::Stop;
+use crate::stop::CommandStop;
 use configuration_explain::{Explanation, explain};
 use hook_base::Text;
 use hook_cli::MOST_CONFIGURATION_BYTES;
 
 /// The explanation of the configuration in a file or in standard input, for the regular files that can be
-/// found in the working folder. A file that can't be read is `Stop::CannotUse`, and want of memory is
-/// `Stop::Refused`.
-pub(crate) fn explain_file(rt: &HostRuntime, word: Text) -> Result<Explanation, Stop> {
+/// found in the working folder. A file that can't be read is `CommandStop::CannotUse`, and want of memory is
+/// `CommandStop::Refused`.
+pub(crate) fn explain_file(rt: &HostRuntime, word: Text) -> Result<Explanation, CommandStop> {
     let name = word.clone()?;
     let bytes = match read_word(rt, word.as_str(), MOST_CONFIGURATION_BYTES + 1) {
         Ok(bytes) => bytes,
-        Err(error) => return Err(Stop::of_file(&error, word)),
+        Err(error) => return Err(CommandStop::of_file(&error, word)),
     };
     let mut paths = Vec::new(rt.alloc());
     'files: for path in readable_files(rt)? {

@@ -5,7 +5,7 @@ ghost use Rattle.hookhost.specs.FileTrees.{AreFilesOf, IsFileOf, IsTreeOf};
 ghost use Rattle.hookhost.specs.Stops.{IsStopOfFile, IsStopOfFiles};
 
 use crate::file_tree::{plain_file, tree_of};
-use crate::stop::Stop;
+use crate::stop::CommandStop;
 use hook_base::{File, Items, MOST_FILE_BYTES, PathFault, RepoPath, Text, Tree};
 use hook_cli::{MOST_CONFIGURATION_BYTES, TryFault};
 use std::fs::OpenFile;
@@ -15,8 +15,11 @@ use std::rt::Files;
 use std::{fs, io};
 
 /// The files of the words, as plain files of a tree. The first word whose path isn't allowed, or whose file
-/// can't be read or is over 16 MiB, is `Stop::CannotUse`; want of memory is `Stop::Refused`.
-pub(crate) fn read_tree<R: Files + AllocGlobal>(rt: &R, words: Items<Text>) -> Result<Tree, Stop>
+/// can't be read or is over 16 MiB, is `CommandStop::CannotUse`; want of memory is `CommandStop::Refused`.
+pub(crate) fn read_tree<R: Files + AllocGlobal>(
+    rt: &R,
+    words: Items<Text>,
+) -> Result<Tree, CommandStop>
     ensures tree { IfOk result (IsTreeOf words) }
     ensures refused { IfErr result (IsStopOfFiles words) }
 {
@@ -24,7 +27,7 @@ pub(crate) fn read_tree<R: Files + AllocGlobal>(rt: &R, words: Items<Text>) -> R
     Ok(tree_of(rt.alloc(), files)?)
 }
 
-fn read_files<R: Files + AllocGlobal>(rt: &R, words: Items<Text>) -> Result<Vec<File>, Stop>
+fn read_files<R: Files + AllocGlobal>(rt: &R, words: Items<Text>) -> Result<Vec<File>, CommandStop>
     ensures files { IfOk result (λ files. AreFilesOf words files.items) }
     ensures refused { IfErr result (IsStopOfFiles words) }
 {
@@ -35,44 +38,47 @@ fn read_files<R: Files + AllocGlobal>(rt: &R, words: Items<Text>) -> Result<Vec<
     Ok(files)
 }
 
-fn read_plain_file<R: Files + AllocGlobal>(rt: &R, word: Text) -> Result<File, Stop>
+fn read_plain_file<R: Files + AllocGlobal>(rt: &R, word: Text) -> Result<File, CommandStop>
     ensures file { IfOk result (IsFileOf word) }
     ensures refused { IfErr result (IsStopOfFile word) }
 {
     let path = match RepoPath::read(rt.alloc(), word.as_str()) {
         Ok(path) => path,
-        Err(PathFault::OutOfMemory) => return Err(Stop::Refused(TryFault::OutOfMemory)),
-        Err(_) => return Err(Stop::CannotUse(word)),
+        Err(PathFault::OutOfMemory) => return Err(CommandStop::Refused(TryFault::OutOfMemory)),
+        Err(_) => return Err(CommandStop::CannotUse(word)),
     };
     match read_up_to(rt, word.as_str(), MOST_FILE_BYTES + 1) {
         Ok(bytes) if bytes.len() <= MOST_FILE_BYTES => Ok(plain_file(rt.alloc(), path, bytes)?),
-        Ok(_) => Err(Stop::CannotUse(word)),
-        Err(error) => Err(Stop::of_file(&error, word)),
+        Ok(_) => Err(CommandStop::CannotUse(word)),
+        Err(error) => Err(CommandStop::of_file(&error, word)),
     }
 }
 
 /// The configuration's bytes, up to one past the limit: the run refuses a longer one. A file that can't be
-/// read is `Stop::CannotUse`, and want of memory is `Stop::Refused`.
+/// read is `CommandStop::CannotUse`, and want of memory is `CommandStop::Refused`.
 pub(crate) fn read_configuration<R: Files + AllocGlobal>(
     rt: &R,
     word: Text,
-) -> Result<Vec<u8>, Stop> {
+) -> Result<Vec<u8>, CommandStop> {
     match read_up_to(rt, word.as_str(), MOST_CONFIGURATION_BYTES + 1) {
         Ok(bytes) => Ok(bytes),
-        Err(error) => Err(Stop::of_file(&error, word)),
+        Err(error) => Err(CommandStop::of_file(&error, word)),
     }
 }
 
 /// The bytes of a file to stage, up to one past the limit: the host refuses a longer one. A file that isn't
-/// there or can't be read, or any pipe, is `Stop::CannotUse`; want of memory is `Stop::Refused`.
-pub(crate) fn read_staged<R: Files + AllocGlobal>(rt: &R, path: &Text) -> Result<Vec<u8>, Stop>
+/// there or can't be read, or any pipe, is `CommandStop::CannotUse`; want of memory is `CommandStop::Refused`.
+pub(crate) fn read_staged<R: Files + AllocGlobal>(
+    rt: &R,
+    path: &Text,
+) -> Result<Vec<u8>, CommandStop>
     ensures { IfErr result (IsStopOfFile path.now) }
 {
     let word = path.clone()?;
     // Reading a pipe would wait while the lock keeps other commands out.
     match read_from(rt, open_file(rt, word.as_str()), MOST_FILE_BYTES + 1) {
         Ok(bytes) => Ok(bytes),
-        Err(error) => Err(Stop::of_file(&error, word)),
+        Err(error) => Err(CommandStop::of_file(&error, word)),
     }
 }
 

@@ -3,7 +3,7 @@
 ghost use Rattle.std.specs.Prelude.{IfErr, IfOk};
 ghost use Rattle.hookhost.specs.Stops.{IsStopOfReading};
 
-use crate::stop::Stop;
+use crate::stop::CommandStop;
 use hook_base::Text;
 use repository_files::FOLDER;
 use std::io::Read;
@@ -25,9 +25,12 @@ struct Below {
 
 /// The paths of the regular files below a folder, in the order of their bytes. The empty path is the working
 /// folder. No link is followed, and `.git` and the `.hookhost` of the working folder are left out. A folder
-/// that can't be read, or that holds a name which isn't UTF-8, is `Stop::CannotUse`; want of memory is
-/// `Stop::Refused`.
-pub(crate) fn files_below<R: Files + AllocGlobal>(rt: &R, folder: &str) -> Result<Vec<String>, Stop>
+/// that can't be read, or that holds a name which isn't UTF-8, is `CommandStop::CannotUse`; want of memory is
+/// `CommandStop::Refused`.
+pub(crate) fn files_below<R: Files + AllocGlobal>(
+    rt: &R,
+    folder: &str,
+) -> Result<Vec<String>, CommandStop>
     ensures { IfErr result IsStopOfReading }
 {
     walk(rt, folder, true)
@@ -35,13 +38,17 @@ pub(crate) fn files_below<R: Files + AllocGlobal>(rt: &R, folder: &str) -> Resul
 
 /// The same for the working folder. But folders that can't be read and names that aren't UTF-8 are left out,
 /// with what is below them.
-pub(crate) fn readable_files<R: Files + AllocGlobal>(rt: &R) -> Result<Vec<String>, Stop>
+pub(crate) fn readable_files<R: Files + AllocGlobal>(rt: &R) -> Result<Vec<String>, CommandStop>
     ensures { IfErr result IsStopOfReading }
 {
     walk(rt, "", false)
 }
 
-fn walk<R: Files + AllocGlobal>(rt: &R, folder: &str, is_whole: bool) -> Result<Vec<String>, Stop>
+fn walk<R: Files + AllocGlobal>(
+    rt: &R,
+    folder: &str,
+    is_whole: bool,
+) -> Result<Vec<String>, CommandStop>
     ensures { IfErr result IsStopOfReading }
 {
     let mut below = Below {
@@ -67,7 +74,11 @@ fn is_of_repository(path: &str) -> bool {
     path == FOLDER || path.starts_with(".hookhost/")
 }
 
-fn look_into<R: Files + AllocGlobal>(rt: &R, folder: &str, below: &mut Below) -> Result<(), Stop>
+fn look_into<R: Files + AllocGlobal>(
+    rt: &R,
+    folder: &str,
+    below: &mut Below,
+) -> Result<(), CommandStop>
     ensures { IfErr result IsStopOfReading }
 {
     match look_at_names(rt, folder, below) {
@@ -81,7 +92,7 @@ fn look_at_names<R: Files + AllocGlobal>(
     rt: &R,
     folder: &str,
     below: &mut Below,
-) -> io::Result<Result<(), Stop>>
+) -> io::Result<Result<(), CommandStop>>
     ensures { IfOk result (λ done. IfErr done IsStopOfReading) }
 {
     let mut listing = rt.open_dir(if folder.is_empty() { "." } else { folder })?;
@@ -104,7 +115,7 @@ fn take_names<R: Files + AllocGlobal>(
     folder: &str,
     names: &[u8],
     below: &mut Below,
-) -> Result<(), Stop>
+) -> Result<(), CommandStop>
     ensures { IfErr result IsStopOfReading }
 {
     'names: for name in names.split(|byte| *byte == 0) {
@@ -122,7 +133,7 @@ fn take_name<R: Files + AllocGlobal>(
     folder: &str,
     name: &str,
     below: &mut Below,
-) -> Result<(), Stop>
+) -> Result<(), CommandStop>
     ensures { IfErr result IsStopOfReading }
 {
     let path = path_in(rt, folder, name)?;
@@ -133,24 +144,24 @@ fn take_name<R: Files + AllocGlobal>(
         Ok(found) if found.is_dir() => below.folders.push(path)?,
         Ok(found) if found.is_file() => below.files.push(path)?,
         Ok(_) => {}
-        Err(error) => return stop_or_leave(below, Stop::of_file(&error, Text::from(path))),
+        Err(error) => return stop_or_leave(below, CommandStop::of_file(&error, Text::from(path))),
     }
     Ok(())
 }
 
 // What can't be used stops the walk if every file is wanted, and is left out otherwise.
-fn stop_or_leave(below: &Below, stop: Stop) -> Result<(), Stop>
+fn stop_or_leave(below: &Below, stop: CommandStop) -> Result<(), CommandStop>
     requires { IsStopOfReading stop }
     ensures { IfErr result IsStopOfReading }
 {
     match stop {
-        Stop::CannotUse(_) if !below.is_whole => Ok(()),
+        CommandStop::CannotUse(_) if !below.is_whole => Ok(()),
         stop => Err(stop),
     }
 }
 
 // The path of a name in a folder.
-fn path_in<R: AllocGlobal>(rt: &R, folder: &str, name: &str) -> Result<String, Stop>
+fn path_in<R: AllocGlobal>(rt: &R, folder: &str, name: &str) -> Result<String, CommandStop>
     ensures { IfErr result IsStopOfReading }
 {
     let mut path = String::from_str(rt.alloc(), folder)?;
@@ -161,26 +172,26 @@ fn path_in<R: AllocGlobal>(rt: &R, folder: &str, name: &str) -> Result<String, S
     Ok(path)
 }
 
-fn stop_at<R: AllocGlobal>(rt: &R, error: &io::Error, folder: &str) -> Stop
+fn stop_at<R: AllocGlobal>(rt: &R, error: &io::Error, folder: &str) -> CommandStop
     ensures { IsStopOfReading result }
 {
     match told(rt, folder) {
-        Ok(word) => Stop::of_file(error, word),
+        Ok(word) => CommandStop::of_file(error, word),
         Err(stop) => stop,
     }
 }
 
-fn unusable<R: AllocGlobal>(rt: &R, folder: &str) -> Stop
+fn unusable<R: AllocGlobal>(rt: &R, folder: &str) -> CommandStop
     ensures { IsStopOfReading result }
 {
     match told(rt, folder) {
-        Ok(word) => Stop::CannotUse(word),
+        Ok(word) => CommandStop::CannotUse(word),
         Err(stop) => stop,
     }
 }
 
 // The folder, as messages show it.
-fn told<R: AllocGlobal>(rt: &R, folder: &str) -> Result<Text, Stop>
+fn told<R: AllocGlobal>(rt: &R, folder: &str) -> Result<Text, CommandStop>
     ensures { IfErr result IsStopOfReading }
 {
     let folder = if folder.is_empty() { "." } else { folder };

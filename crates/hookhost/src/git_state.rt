@@ -4,7 +4,7 @@ ghost use Rattle.std.specs.Prelude.{IfErr, codes};
 ghost use Rattle.hookhost.specs.Stops.{IsStopOfVariable};
 
 use crate::runs::named_by;
-use crate::stop::Stop;
+use crate::stop::CommandStop;
 use hook_base::{PathFault, RepoPath, Text};
 use hook_cli::TryFault;
 use std::env;
@@ -14,8 +14,8 @@ use std::env;
 const GIT_STATE: &str = "HOOKHOST_GIT_STATE";
 
 /// The path of the file that represents Git's state, if the variable names one. What isn't UTF-8, or is no
-/// path of a tree, is `Stop::CannotUse`; want of memory is `Stop::Refused`.
-pub(crate) fn git_state(rt: &HostRuntime) -> Result<Option<RepoPath>, Stop>
+/// path of a tree, is `CommandStop::CannotUse`; want of memory is `CommandStop::Refused`.
+pub(crate) fn git_state(rt: &HostRuntime) -> Result<Option<RepoPath>, CommandStop>
     ensures { IfErr result (IsStopOfVariable (codes "HOOKHOST_GIT_STATE")) }
 {
     let Some(name) = named_by(rt.alloc(), GIT_STATE, env::var(rt, GIT_STATE))? else {
@@ -23,7 +23,7 @@ pub(crate) fn git_state(rt: &HostRuntime) -> Result<Option<RepoPath>, Stop>
     };
     match RepoPath::read(rt.alloc(), name.as_str()) {
         Ok(path) => Ok(Some(path)),
-        Err(PathFault::OutOfMemory) => Err(Stop::Refused(TryFault::OutOfMemory)),
-        Err(_fault) => Err(Stop::CannotUse(Text::copy_of(rt.alloc(), GIT_STATE)?)),
+        Err(PathFault::OutOfMemory) => Err(CommandStop::Refused(TryFault::OutOfMemory)),
+        Err(_fault) => Err(CommandStop::CannotUse(Text::copy_of(rt.alloc(), GIT_STATE)?)),
     }
 }

@@ -6,7 +6,7 @@ ghost use Rattle.hookhost.specs.Stops.{IsStopOfVariable};
 
 use crate::hint::TOP;
 use crate::runs::named_by;
-use crate::stop::{Stop, is_memory};
+use crate::stop::{CommandStop, is_memory};
 use hook_base::{OutOfMemory, PathFault, RepoPath, Text};
 use hook_cli::TryFault;
 use repository_files::FOLDER;
@@ -18,9 +18,9 @@ use std::env;
 pub(crate) const LINKS: &str = "HOOKHOST_LINKS";
 
 /// The places that links lead to, in the order of the variable, each once. A name that no file at the top of
-/// a tree may have is `Stop::CannotUse`, and so is a working folder whose path can't be found. Want of memory
-/// is `Stop::Refused`.
-pub(crate) fn linked(rt: &HostRuntime) -> Result<Vec<String>, Stop>
+/// a tree may have is `CommandStop::CannotUse`, and so is a working folder whose path can't be found. Want of memory
+/// is `CommandStop::Refused`.
+pub(crate) fn linked(rt: &HostRuntime) -> Result<Vec<String>, CommandStop>
     ensures { IfErr result (IsStopOfVariable (codes "HOOKHOST_LINKS")) }
 {
     match named_by(rt.alloc(), LINKS, env::var(rt, LINKS))? {
@@ -30,7 +30,7 @@ pub(crate) fn linked(rt: &HostRuntime) -> Result<Vec<String>, Stop>
 }
 
 // The full path of the folder that has the names.
-fn top_of(rt: &HostRuntime) -> Result<String, Stop>
+fn top_of(rt: &HostRuntime) -> Result<String, CommandStop>
     ensures { IfErr result (IsStopOfVariable (codes "HOOKHOST_LINKS")) }
 {
     if let Some(top) = named_by(rt.alloc(), LINKS, env::var(rt, TOP))? {
@@ -38,12 +38,12 @@ fn top_of(rt: &HostRuntime) -> Result<String, Stop>
     }
     match env::current_dir(rt) {
         Ok(folder) => Ok(folder.into_string()),
-        Err(error) if is_memory(&error) => Err(Stop::Refused(TryFault::OutOfMemory)),
+        Err(error) if is_memory(&error) => Err(CommandStop::Refused(TryFault::OutOfMemory)),
         Err(_error) => Err(unusable(rt.alloc())),
     }
 }
 
-fn places_of(alloc: Global, top: &str, names: &str) -> Result<Vec<String>, Stop>
+fn places_of(alloc: Global, top: &str, names: &str) -> Result<Vec<String>, CommandStop>
     ensures { IfErr result (IsStopOfVariable (codes "HOOKHOST_LINKS")) }
 {
     let mut places = Vec::new(alloc);
@@ -68,11 +68,11 @@ fn is_name(alloc: Global, name: &str) -> Result<bool, OutOfMemory> {
     }
 }
 
-fn unusable(alloc: Global) -> Stop
+fn unusable(alloc: Global) -> CommandStop
     ensures { IsStopOfVariable (codes "HOOKHOST_LINKS") result }
 {
     match Text::copy_of(alloc, LINKS) {
-        Ok(variable) => Stop::CannotUse(variable),
-        Err(refused) => Stop::from(refused),
+        Ok(variable) => CommandStop::CannotUse(variable),
+        Err(refused) => CommandStop::from(refused),
     }
 }

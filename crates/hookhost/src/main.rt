@@ -17,18 +17,18 @@ mod heard_children;
 mod hint;
 mod linked;
 mod names;
+mod obstacle_lines;
 mod refusal_hints;
 mod runs;
 mod shown_report;
 mod staged_words;
 mod stop;
 mod stop_hints;
+mod store_call;
 mod terminal;
 mod tracked_store;
-mod trouble;
 mod undone_fix;
 mod unstaged_words;
-mod work;
 
 use build_stamp::{build_line, end_of_program};
 use colored_report::report_writer;
@@ -37,17 +37,17 @@ use explained::explain_file;
 use files::{read_configuration, read_tree};
 use hint::{WAITS, hint};
 use hook_base::{Items, Text, Tree};
-use hook_cli::{ColorChoice, Line, Standalone, TryFault, check_text, line_of, try_over};
+use hook_cli::{ColorChoice, CommandLine, Standalone, TryFault, check_text, line_of, try_over};
 use hook_config::{Config, read_config_with_node};
+use obstacle_lines::tell_trouble;
 use repository_files::{init, replace_ignore_file};
 use runs::{RealChildren, passing_children};
 use std::io::{IsTerminal, Read, Write};
 use std::process::ExitCode;
 use std::rt::Files;
 use std::{env, io, mem};
-use stop::{Stop, tell};
+use stop::{CommandStop, tell};
 use stop_hints::{CONFIGURATION, hint_at, hint_refused_file};
-use trouble::tell_trouble;
 
 // The exit status if what was asked for is done, and no hook failed (docs/REFERENCE.md, "The command line").
 const DONE: u8 = 0;
@@ -67,7 +67,7 @@ fn main(rt: HostRuntime) -> ExitCode {
 }
 
 // Does what the process's words ask for, and returns its exit status.
-fn run(rt: &HostRuntime) -> Result<u8, Stop> {
+fn run(rt: &HostRuntime) -> Result<u8, CommandStop> {
     match line_of_process(rt) {
         Ok(Some(line)) => do_line(rt, line),
         Ok(None) => {
@@ -80,27 +80,27 @@ fn run(rt: &HostRuntime) -> Result<u8, Stop> {
             let passed = report(rt, &mut rt.reader(), &tree, children, ColorChoice::Auto)?;
             Ok(status_of_run(passed))
         }
-        Err(Stop::Usage(error)) => version_or_usage(rt, error),
+        Err(CommandStop::Usage(error)) => version_or_usage(rt, error),
         Err(stop) => Err(stop),
     }
 }
 
 // Prints the version, and how the program was built, if the words ask for it. Otherwise the error stops the
 // program.
-fn version_or_usage(rt: &HostRuntime, error: clap::Error) -> Result<u8, Stop> {
+fn version_or_usage(rt: &HostRuntime, error: clap::Error) -> Result<u8, CommandStop> {
     if error.kind() != clap::error::ErrorKind::DisplayVersion {
-        return Err(Stop::Usage(error));
+        return Err(CommandStop::Usage(error));
     }
     let mut text = format!(in rt.alloc(); "{error}")?.into_bytes();
     text.extend_from_slice(build_line(&end_of_program(rt)))?;
-    print(rt, text.as_slice()).map_err(|_| Stop::Refused(TryFault::Write))?;
+    print(rt, text.as_slice()).map_err(|_| CommandStop::Refused(TryFault::Write))?;
     Ok(DONE)
 }
 
 // The line that the process's words make, or `None` if there are none. The words, of which there may be many,
 // aren't kept.
-fn line_of_process(rt: &HostRuntime) -> Result<Option<Line>, Stop> {
-    let mut words = env::args(rt).map_err(Stop::of_words)?;
+fn line_of_process(rt: &HostRuntime) -> Result<Option<CommandLine>, CommandStop> {
+    let mut words = env::args(rt).map_err(CommandStop::of_words)?;
     let _program = words.next();
     let words: Vec<String> = words.collect(rt.alloc())?;
     if words.is_empty() {
@@ -113,19 +113,19 @@ fn line_of_process(rt: &HostRuntime) -> Result<Option<Line>, Stop> {
     Ok(Some(line_of(rt.alloc(), texts.as_slice())?))
 }
 
-fn do_line(rt: &HostRuntime, line: Line) -> Result<u8, Stop> {
+fn do_line(rt: &HostRuntime, line: CommandLine) -> Result<u8, CommandStop> {
     match line {
-        Line::Standalone(asked) => do_alone(rt, asked),
-        Line::LookUp(asked) => look_up(rt, asked),
-        Line::Update(update) => change(rt, update),
+        CommandLine::Standalone(asked) => do_alone(rt, asked),
+        CommandLine::LookUp(asked) => look_up(rt, asked),
+        CommandLine::Update(update) => change(rt, update),
     }
 }
 
 // Does what needs no repository.
-fn do_alone(rt: &HostRuntime, asked: Standalone) -> Result<u8, Stop> {
+fn do_alone(rt: &HostRuntime, asked: Standalone) -> Result<u8, CommandStop> {
     match asked {
         Standalone::Init => {
-            init(rt).map_err(Stop::NoNewRepository)?;
+            init(rt).map_err(CommandStop::NoNewRepository)?;
             Ok(DONE)
         }
         Standalone::Try {
@@ -134,7 +134,7 @@ fn do_alone(rt: &HostRuntime, asked: Standalone) -> Result<u8, Stop> {
             color,
         } => try_files(rt, config, paths, color),
         Standalone::Check => {
-            check(rt).map_err(Stop::of_check)?;
+            check(rt).map_err(CommandStop::of_check)?;
             Ok(DONE)
         }
         Standalone::Explain { file } => explain(rt, file),
@@ -150,7 +150,7 @@ fn status_of_run(passed: bool) -> u8
 
 // `check`: reads the working folder's configuration, and prints how many hooks it has and which keys are
 // ignored.
-fn check<R: Files + Print + AllocGlobal>(rt: &R) -> Result<(), Stop> {
+fn check<R: Files + Print + AllocGlobal>(rt: &R) -> Result<(), CommandStop> {
     let bytes = read_configuration(rt, Text::copy_of(rt.alloc(), CONFIGURATION)?)?;
     let read = read_config_with_node(rt.alloc(), bytes.as_slice())?;
     let checked = print_check(rt, &read.config);
@@ -159,19 +159,19 @@ fn check<R: Files + Print + AllocGlobal>(rt: &R) -> Result<(), Stop> {
     checked
 }
 
-fn print_check<R: Print + AllocGlobal>(rt: &R, config: &Config) -> Result<(), Stop> {
+fn print_check<R: Print + AllocGlobal>(rt: &R, config: &Config) -> Result<(), CommandStop> {
     let text = check_text(rt.alloc(), config)?;
-    print(rt, text.as_slice()).map_err(|_| Stop::Refused(TryFault::Write))
+    print(rt, text.as_slice()).map_err(|_| CommandStop::Refused(TryFault::Write))
 }
 
 // `explain [FILE]`: says what is wrong with a configuration, or what its hooks will do.
-fn explain(rt: &HostRuntime, file: Option<Text>) -> Result<u8, Stop> {
+fn explain(rt: &HostRuntime, file: Option<Text>) -> Result<u8, CommandStop> {
     let word = match file {
         Some(word) => word,
         None => Text::copy_of(rt.alloc(), CONFIGURATION)?,
     };
     let explanation = explain_file(rt, word)?;
-    print(rt, explanation.text.as_slice()).map_err(|_| Stop::Refused(TryFault::Write))?;
+    print(rt, explanation.text.as_slice()).map_err(|_| CommandStop::Refused(TryFault::Write))?;
     Ok(status_of_run(explanation.is_taken()))
 }
 
@@ -187,11 +187,11 @@ fn try_files(
     config: Text,
     paths: Items<Text>,
     color: ColorChoice,
-) -> Result<u8, Stop> {
+) -> Result<u8, CommandStop> {
     let name = config.clone()?;
     match try_over_files(rt, config, paths, color) {
-        Err(Stop::Refused(TryFault::Config(fault))) => {
-            let status = tell(rt, &Stop::Refused(TryFault::Config(fault)));
+        Err(CommandStop::Refused(TryFault::Config(fault))) => {
+            let status = tell(rt, &CommandStop::Refused(TryFault::Config(fault)));
             hint_refused_file(rt, name.as_str());
             Ok(status)
         }
@@ -204,7 +204,7 @@ fn try_over_files(
     config: Text,
     paths: Items<Text>,
     color: ColorChoice,
-) -> Result<bool, Stop> {
+) -> Result<bool, CommandStop> {
     let bytes = read_configuration(rt, config)?;
     let tree = read_tree(rt, paths)?;
     replace_ignore_file(rt);
@@ -223,7 +223,7 @@ fn report(
     tree: &Tree,
     children: RealChildren,
     color: ColorChoice,
-) -> Result<bool, Stop> {
+) -> Result<bool, CommandStop> {
     let mut children = children;
     let mut writer = report_writer(rt, color, &mut children);
     let passed = try_over(rt.alloc(), reader, &mut writer, tree, &mut children);

@@ -2,18 +2,18 @@
 
 ghost use Rattle.std.specs.Prelude.{◌≡◌, ◌⊎◌, IfErr};
 ghost use Rattle.configuration_run.specs.declared.try_fault.TryFault.TheVariants.{OutOfMemory};
-ghost use Rattle.hookhost.specs.declared.stop.Stop.TheVariants.{NotText, Refused};
+ghost use Rattle.hookhost.specs.declared.stop.CommandStop.TheVariants.{NotText, Refused};
 ghost use Rattle.hookhost.specs.Stops.{IsStopOfItsList, IsStopOfNames};
 
 use crate::files::read_word;
-use crate::stop::Stop;
+use crate::stop::CommandStop;
 use hook_base::{Items, MOST_FILE_BYTES, Text};
 use hook_cli::{FileChoice, PathSource, Update};
 
 /// The names that the file of `--paths-from` lists, in their order, and none for an update without that
-/// option. A file that can't be read, or has more than 16 MiB, is `Stop::CannotUse`. Names that aren't UTF-8
-/// are `Stop::NotText`, and want of memory is `Stop::RefusedCommand`.
-pub(crate) fn names_of(rt: &HostRuntime, update: &Update) -> Result<Items<Text>, Stop>
+/// option. A file that can't be read, or has more than 16 MiB, is `CommandStop::CannotUse`. Names that aren't UTF-8
+/// are `CommandStop::NotText`, and want of memory is `CommandStop::RefusedCommand`.
+pub(crate) fn names_of(rt: &HostRuntime, update: &Update) -> Result<Items<Text>, CommandStop>
     ensures { IfErr result (IsStopOfItsList update.now) }
 {
     match update {
@@ -27,7 +27,7 @@ pub(crate) fn names_of(rt: &HostRuntime, update: &Update) -> Result<Items<Text>,
         | Update::Run {
             files: FileChoice::Listed(from),
             ..
-        } => read_names(rt, from).map_err(Stop::of_command),
+        } => read_names(rt, from).map_err(CommandStop::of_command),
         Update::Add { .. }
         | Update::Remove { .. }
         | Update::Run { .. }
@@ -38,23 +38,23 @@ pub(crate) fn names_of(rt: &HostRuntime, update: &Update) -> Result<Items<Text>,
     }
 }
 
-fn read_names(rt: &HostRuntime, from: &Text) -> Result<Items<Text>, Stop>
+fn read_names(rt: &HostRuntime, from: &Text) -> Result<Items<Text>, CommandStop>
     ensures { IfErr result (IsStopOfNames from.now) }
 {
     let word = from.clone()?;
     match read_word(rt, word.as_str(), MOST_FILE_BYTES + 1) {
         Ok(bytes) if bytes.len() <= MOST_FILE_BYTES => names_in(rt, bytes.as_slice()),
-        Ok(_) => Err(Stop::CannotUse(word)),
-        Err(error) => Err(Stop::of_file(&error, word)),
+        Ok(_) => Err(CommandStop::CannotUse(word)),
+        Err(error) => Err(CommandStop::of_file(&error, word)),
     }
 }
 
 // The names, each ended by a NUL byte. The last one may do without.
-fn names_in(rt: &HostRuntime, bytes: &[u8]) -> Result<Items<Text>, Stop>
+fn names_in(rt: &HostRuntime, bytes: &[u8]) -> Result<Items<Text>, CommandStop>
     ensures { IfErr result (λ stop. (stop ≡ NotText) ⊎ (stop ≡ Refused OutOfMemory)) }
 {
     let Ok(text) = str::from_utf8(bytes) else {
-        return Err(Stop::NotText);
+        return Err(CommandStop::NotText);
     };
     let mut names = Vec::new(rt.alloc());
     'names: for name in text.split('\0') {

@@ -3,9 +3,9 @@
 use crate::files::read_up_to;
 use crate::hint::hint;
 use crate::stop_hints::{CONFIGURATION, EXPLAIN, is_missing};
-use crate::work::Work;
+use crate::store_call::StoreCall;
 use hook_base::RepoPath;
-use hook_cli::{Line, MOST_CONFIGURATION_BYTES, Update};
+use hook_cli::{CommandLine, MOST_CONFIGURATION_BYTES, Update};
 use hook_config::{ConfigKind, read_config};
 use repo_store::Store;
 use sqlite::Alter;
@@ -24,7 +24,7 @@ const NO_FIXES: &str =
 
 /// What a command needs, and is refused for if the repository lacks it.
 #[derive(Clone, Copy, Debug)]
-pub(crate) enum Need {
+pub(crate) enum Requirement {
     /// A configuration that can be read.
     Configuration,
     /// Fixes.
@@ -34,23 +34,24 @@ pub(crate) enum Need {
 }
 
 /// What a command needs.
-pub(crate) fn need_of(work: &Work) -> Need {
+pub(crate) fn need_of(work: &StoreCall) -> Requirement {
     match work {
-        Work::HookCall { .. } => Need::Configuration,
-        Work::Call {
-            line: Line::Update(Update::Accept),
+        StoreCall::HookCall { .. } => Requirement::Configuration,
+        StoreCall::Call {
+            line: CommandLine::Update(Update::Accept),
             ..
-        } => Need::Fixes,
-        Work::Call { .. } | Work::Stage(_) | Work::Unstage(_) => Need::Nothing,
+        } => Requirement::Fixes,
+        StoreCall::Call { .. } | StoreCall::Stage(_) | StoreCall::Unstage(_) =>
+            Requirement::Nothing,
     }
 }
 
 /// Says how a refused command gets what it needs, if the repository lacks it.
-pub(crate) fn hint_need<S: Alter>(rt: &HostRuntime, need: Need, store: &Store<S>) {
+pub(crate) fn hint_need<S: Alter>(rt: &HostRuntime, need: Requirement, store: &Store<S>) {
     match need {
-        Need::Configuration => hint_configuration(rt, store),
-        Need::Fixes if store.count_fixes() == 0 => hint(rt, NO_FIXES),
-        Need::Fixes | Need::Nothing => {}
+        Requirement::Configuration => hint_configuration(rt, store),
+        Requirement::Fixes if store.count_fixes() == 0 => hint(rt, NO_FIXES),
+        Requirement::Fixes | Requirement::Nothing => {}
     }
 }
 

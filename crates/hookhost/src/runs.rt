@@ -7,7 +7,7 @@ ghost use Rattle.hookhost.specs.Works.{skipped_by};
 use crate::git_state::git_state;
 use crate::heard_children::HeardChildren;
 use crate::linked::linked;
-use crate::stop::Stop;
+use crate::stop::CommandStop;
 use crate::terminal::terminal_of;
 use child_display::ShownChildren;
 use hook_base::{Items, OutOfMemory, Text};
@@ -36,8 +36,8 @@ pub(crate) type RealChildren = HeardChildren<ShownChildren<ProcessChildren<HostR
 /// variable of Git's hook names, and otherwise in that of the repository. If a variable names a file of
 /// calls, a child during which a call was recorded there is a fault. If one names the file that represents
 /// Git's state, each child learns whether it has seen that. A variable that isn't UTF-8, or names what can't
-/// be, is `Stop::CannotUse`; want of memory is `Stop::Refused`.
-pub(crate) fn children_of(rt: &HostRuntime) -> Result<RealChildren, Stop>
+/// be, is `CommandStop::CannotUse`; want of memory is `CommandStop::Refused`.
+pub(crate) fn children_of(rt: &HostRuntime) -> Result<RealChildren, CommandStop>
     ensures { IfErr result IsStopOfChildren }
 {
     let calls = named_by(rt.alloc(), GIT_CALLS, env::var(rt, GIT_CALLS))?;
@@ -65,24 +65,24 @@ fn shown(
 }
 
 /// What the variable of this name names, or `None` if it isn't set. A variable that isn't UTF-8 is
-/// `Stop::CannotUse`.
+/// `CommandStop::CannotUse`.
 pub(crate) fn named_by(
     alloc: Global,
     variable: &str,
     found: Result<String, VarError>,
-) -> Result<Option<String>, Stop>
+) -> Result<Option<String>, CommandStop>
     ensures { IfErr result (IsStopOfVariable variable.now) }
 {
     match found {
         Ok(file) => Ok(Some(file)),
         Err(VarError::NotPresent) => Ok(None),
-        Err(VarError::NotUnicode) => Err(Stop::CannotUse(Text::copy_of(alloc, variable)?)),
-        Err(VarError::OutOfMemory) => Err(Stop::Refused(TryFault::OutOfMemory)),
+        Err(VarError::NotUnicode) => Err(CommandStop::CannotUse(Text::copy_of(alloc, variable)?)),
+        Err(VarError::OutOfMemory) => Err(CommandStop::Refused(TryFault::OutOfMemory)),
     }
 }
 
 /// The children of a run without a repository. Nothing is left of their folder at their end.
-pub(crate) fn passing_children(rt: &HostRuntime) -> Result<RealChildren, Stop>
+pub(crate) fn passing_children(rt: &HostRuntime) -> Result<RealChildren, CommandStop>
     ensures { IfErr result IsStopOfChildren }
 {
     let folder = String::from_str(rt.alloc(), SCRATCH)?;

@@ -5,7 +5,7 @@ ghost use Rattle.hookhost.specs.Stops.{IsStopOfReading};
 
 use crate::files::read_staged;
 use crate::folder_files::files_below;
-use crate::stop::Stop;
+use crate::stop::CommandStop;
 use commit_flow::StagingEdit;
 use hook_base::{Bytes, Mode, PathFault, RepoPath, Text};
 use hook_cli::TryFault;
@@ -23,15 +23,15 @@ struct Gathered {
 }
 
 /// The edits that stage the files of the words, in the order of the words. A folder means the files below it,
-/// and a file that comes again is staged once. The first word that can't be used is `Stop::CannotUse`, with
-/// the path of the file or the folder that can't be read. Want of memory is `Stop::Refused`. An empty word,
+/// and a file that comes again is staged once. The first word that can't be used is `CommandStop::CannotUse`, with
+/// the path of the file or the folder that can't be read. Want of memory is `CommandStop::Refused`. An empty word,
 /// which the store refuses, isn't read. If there are more files than a store may have, those after the first
 /// one too many are left out, since the store refuses all of them.
 pub(crate) fn staged_by<R: Files + AllocGlobal>(
     rt: &R,
     words: &[Text],
     mode: Option<Mode>,
-) -> Result<Vec<StagingEdit>, Stop>
+) -> Result<Vec<StagingEdit>, CommandStop>
     ensures { IfErr result IsStopOfReading }
 {
     let mut gathered = Gathered {
@@ -47,7 +47,10 @@ pub(crate) fn staged_by<R: Files + AllocGlobal>(
 
 /// The path of the folder that a word names, empty for the working folder, and `None` if it names no folder.
 /// Slashes may follow the name. A link is no folder.
-pub(crate) fn folder_of<R: Files + AllocGlobal>(rt: &R, word: &str) -> Result<Option<String>, Stop>
+pub(crate) fn folder_of<R: Files + AllocGlobal>(
+    rt: &R,
+    word: &str,
+) -> Result<Option<String>, CommandStop>
     ensures { IfErr result IsStopOfReading }
 {
     if is_working_folder(word) {
@@ -60,7 +63,7 @@ pub(crate) fn folder_of<R: Files + AllocGlobal>(rt: &R, word: &str) -> Result<Op
     }
     match RepoPath::read(rt.alloc(), path) {
         Ok(_) => Ok(Some(String::from_str(rt.alloc(), path)?)),
-        Err(PathFault::OutOfMemory) => Err(Stop::Refused(TryFault::OutOfMemory)),
+        Err(PathFault::OutOfMemory) => Err(CommandStop::Refused(TryFault::OutOfMemory)),
         Err(_) => Ok(None),
     }
 }
@@ -74,7 +77,7 @@ fn gather_word<R: Files + AllocGlobal>(
     rt: &R,
     word: &str,
     gathered: &mut Gathered,
-) -> Result<(), Stop>
+) -> Result<(), CommandStop>
     ensures { IfErr result IsStopOfReading }
 {
     match folder_of(rt, word)? {
@@ -87,7 +90,7 @@ fn gather_folder<R: Files + AllocGlobal>(
     rt: &R,
     folder: &str,
     gathered: &mut Gathered,
-) -> Result<(), Stop>
+) -> Result<(), CommandStop>
     ensures { IfErr result IsStopOfReading }
 {
     'files: for path in files_below(rt, folder)? {
@@ -100,7 +103,7 @@ fn gather_file<R: Files + AllocGlobal>(
     rt: &R,
     path: String,
     gathered: &mut Gathered,
-) -> Result<(), Stop>
+) -> Result<(), CommandStop>
     ensures { IfErr result IsStopOfReading }
 {
     if gathered.edits.len() > MOST_FILES || !gathered.paths.insert(path.clone()?)? {
@@ -116,7 +119,7 @@ fn gather_file<R: Files + AllocGlobal>(
     Ok(())
 }
 
-fn bytes_of<R: Files + AllocGlobal>(rt: &R, path: &Text) -> Result<Vec<u8>, Stop>
+fn bytes_of<R: Files + AllocGlobal>(rt: &R, path: &Text) -> Result<Vec<u8>, CommandStop>
     ensures { IfErr result IsStopOfReading }
 {
     if path.is_empty() {

@@ -1,7 +1,7 @@
 //! Why the program ends without having done what its words ask for, and how it says so.
 
 ghost use Rattle.std.specs.Prelude.{◌≡◌, ◌↔◌, IsTrue};
-ghost use Rattle.hookhost.specs.Stops.{IsNoMemory, IsStopOfFile, StopsFor, of_check, of_command, status_of};
+ghost use Rattle.hookhost.specs.Stops.{IsNoMemory, IsStopOfFile, StopsFor, of_check, of_command, status_of_stop};
 
 use commit_flow::HostRefusal;
 use hook_base::{OutOfMemory, Text};
@@ -19,7 +19,7 @@ const REFUSED: u8 = 3;
 
 /// Why what was asked for isn't on standard output, or not all of it.
 #[derive(Debug, Drop)]
-pub(crate) enum Stop {
+pub(crate) enum CommandStop {
     /// The words name no command, or ask for help.
     Usage(clap::Error),
     /// A word isn't UTF-8.
@@ -38,50 +38,52 @@ pub(crate) enum Stop {
     RefusedCommand(HostRefusal),
 }
 
-impl Stop {
+impl CommandStop {
     /// What an error of reading the process's words means.
-    pub(crate) fn of_words(error: io::Error) -> Stop
-        ensures { StopsFor Stop.NotText error result }
+    pub(crate) fn of_words(error: io::Error) -> CommandStop
+        ensures { StopsFor CommandStop.NotText error result }
     {
         if is_memory(&error) {
-            Stop::Refused(TryFault::OutOfMemory)
+            CommandStop::Refused(TryFault::OutOfMemory)
         } else {
-            Stop::NotText
+            CommandStop::NotText
         }
     }
 
     /// What an error of reading the word's file means.
-    pub(crate) fn of_file(error: &io::Error, word: Text) -> Stop
-        ensures why { StopsFor (Stop.CannotUse word) error.now result }
+    pub(crate) fn of_file(error: &io::Error, word: Text) -> CommandStop
+        ensures why { StopsFor (CommandStop.CannotUse word) error.now result }
         ensures either { IsStopOfFile word result }
     {
         if is_memory(error) {
-            Stop::Refused(TryFault::OutOfMemory)
+            CommandStop::Refused(TryFault::OutOfMemory)
         } else {
-            Stop::CannotUse(word)
+            CommandStop::CannotUse(word)
         }
     }
 }
 
-impl Stop {
+impl CommandStop {
     /// The same stop if a configuration is read alone: want of memory is then its refusal.
-    pub(crate) fn of_check(self) -> Stop
+    pub(crate) fn of_check(self) -> CommandStop
         ensures { result ≡ of_check self }
     {
         match self {
-            Stop::Refused(TryFault::OutOfMemory) => {
-                Stop::NoConfiguration(ConfigFault::from(OutOfMemory))
+            CommandStop::Refused(TryFault::OutOfMemory) => {
+                CommandStop::NoConfiguration(ConfigFault::from(OutOfMemory))
             }
             stop => stop,
         }
     }
 
     /// The same stop if a command on the repository is asked for: want of memory is then the host's refusal.
-    pub(crate) fn of_command(self) -> Stop
+    pub(crate) fn of_command(self) -> CommandStop
         ensures { result ≡ of_command self }
     {
         match self {
-            Stop::Refused(TryFault::OutOfMemory) => Stop::RefusedCommand(HostRefusal::OutOfMemory),
+            CommandStop::Refused(TryFault::OutOfMemory) => CommandStop::RefusedCommand(
+                HostRefusal::OutOfMemory,
+            ),
             stop => stop,
         }
     }
@@ -95,105 +97,108 @@ pub(crate) fn is_memory(error: &io::Error) -> bool
     error.kind() == io::ErrorKind::OutOfMemory && error.raw_os_error().is_none()
 }
 
-impl From<clap::Error> for Stop {
+impl From<clap::Error> for CommandStop {
     ghost use Rattle.hookhost.specs.Stops.{IsUsageOf};
 
     ghost from_gives = { IsUsageOf };
 
-    fn from(error: clap::Error) -> Stop {
+    fn from(error: clap::Error) -> CommandStop {
         if error.kind() == clap::error::ErrorKind::OutOfMemory {
-            Stop::Refused(TryFault::OutOfMemory)
+            CommandStop::Refused(TryFault::OutOfMemory)
         } else {
-            Stop::Usage(error)
+            CommandStop::Usage(error)
         }
     }
 }
 
-impl From<TryFault> for Stop {
+impl From<TryFault> for CommandStop {
     ghost use Rattle.std.specs.Prelude.{◌≡◌};
-    ghost use Rattle.hookhost.specs.declared.stop.Stop.TheVariants.{Refused};
+    ghost use Rattle.hookhost.specs.declared.stop.CommandStop.TheVariants.{Refused};
 
     ghost from_gives = { λ fault stop. stop ≡ Refused fault };
 
-    fn from(fault: TryFault) -> Stop {
-        Stop::Refused(fault)
+    fn from(fault: TryFault) -> CommandStop {
+        CommandStop::Refused(fault)
     }
 }
 
-impl From<ConfigFault> for Stop {
+impl From<ConfigFault> for CommandStop {
     ghost use Rattle.std.specs.Prelude.{◌≡◌};
-    ghost use Rattle.hookhost.specs.declared.stop.Stop.TheVariants.{NoConfiguration};
+    ghost use Rattle.hookhost.specs.declared.stop.CommandStop.TheVariants.{NoConfiguration};
 
     ghost from_gives = { λ fault stop. stop ≡ NoConfiguration fault };
 
-    fn from(fault: ConfigFault) -> Stop {
-        Stop::NoConfiguration(fault)
+    fn from(fault: ConfigFault) -> CommandStop {
+        CommandStop::NoConfiguration(fault)
     }
 }
 
-impl From<RepositoryFault> for Stop {
+impl From<RepositoryFault> for CommandStop {
     ghost use Rattle.std.specs.Prelude.{◌≡◌};
-    ghost use Rattle.hookhost.specs.declared.stop.Stop.TheVariants.{NoRepository};
+    ghost use Rattle.hookhost.specs.declared.stop.CommandStop.TheVariants.{NoRepository};
 
     ghost from_gives = { λ fault stop. stop ≡ NoRepository fault };
 
-    fn from(fault: RepositoryFault) -> Stop {
-        Stop::NoRepository(fault)
+    fn from(fault: RepositoryFault) -> CommandStop {
+        CommandStop::NoRepository(fault)
     }
 }
 
-impl From<OutOfMemory> for Stop {
+impl From<OutOfMemory> for CommandStop {
     ghost use Rattle.std.specs.Prelude.{◌≡◌};
-    ghost use Rattle.hookhost.specs.declared.stop.Stop.TheVariants.{Refused};
+    ghost use Rattle.hookhost.specs.declared.stop.CommandStop.TheVariants.{Refused};
     ghost use Rattle.configuration_run.specs.declared.try_fault.TryFault.TheVariants.{OutOfMemory};
 
     ghost from_gives = { λ _ stop. stop ≡ Refused OutOfMemory };
 
-    fn from(_refused: OutOfMemory) -> Stop {
-        Stop::Refused(TryFault::OutOfMemory)
+    fn from(_refused: OutOfMemory) -> CommandStop {
+        CommandStop::Refused(TryFault::OutOfMemory)
     }
 }
 
-impl From<AllocError> for Stop {
+impl From<AllocError> for CommandStop {
     ghost use Rattle.std.specs.Prelude.{◌≡◌};
-    ghost use Rattle.hookhost.specs.declared.stop.Stop.TheVariants.{Refused};
+    ghost use Rattle.hookhost.specs.declared.stop.CommandStop.TheVariants.{Refused};
     ghost use Rattle.configuration_run.specs.declared.try_fault.TryFault.TheVariants.{OutOfMemory};
 
     ghost from_gives = { λ _ stop. stop ≡ Refused OutOfMemory };
 
-    fn from(_refused: AllocError) -> Stop {
-        Stop::Refused(TryFault::OutOfMemory)
+    fn from(_refused: AllocError) -> CommandStop {
+        CommandStop::Refused(TryFault::OutOfMemory)
     }
 }
 
-impl<T: Drop> From<AllocFailed<T>> for Stop {
+impl<T: Drop> From<AllocFailed<T>> for CommandStop {
     ghost use Rattle.std.specs.Prelude.{◌≡◌};
-    ghost use Rattle.hookhost.specs.declared.stop.Stop.TheVariants.{Refused};
+    ghost use Rattle.hookhost.specs.declared.stop.CommandStop.TheVariants.{Refused};
     ghost use Rattle.configuration_run.specs.declared.try_fault.TryFault.TheVariants.{OutOfMemory};
 
     ghost from_gives = { λ _ stop. stop ≡ Refused OutOfMemory };
 
-    fn from(_refused: AllocFailed<T>) -> Stop {
-        Stop::Refused(TryFault::OutOfMemory)
+    fn from(_refused: AllocFailed<T>) -> CommandStop {
+        CommandStop::Refused(TryFault::OutOfMemory)
     }
 }
 
 /// Says on standard error why the program stops, and returns its exit status. If standard error takes
 /// nothing, that is ignored.
-pub(crate) fn tell<R: Eprint>(rt: &R, stop: &Stop) -> u8
-    ensures { result ≡ status_of stop.now }
+pub(crate) fn tell<R: Eprint>(rt: &R, stop: &CommandStop) -> u8
+    ensures { result ≡ status_of_stop stop.now }
 {
     let (said, status) = match stop {
-        Stop::Usage(error) => (rt.eprint(error), USAGE),
-        Stop::NotText => (rt.eprintln("error: a word is not UTF-8"), USAGE),
-        Stop::CannotUse(word) => (say_unusable(rt, word.as_str()), REFUSED),
-        Stop::Refused(fault) => (say_refused(rt, fault.number(), fault.name()), REFUSED),
-        Stop::NoConfiguration(fault) => (say_refused(rt, fault.number(), fault.name()), REFUSED),
-        Stop::NoRepository(fault) | Stop::NoNewRepository(fault) => (
+        CommandStop::Usage(error) => (rt.eprint(error), USAGE),
+        CommandStop::NotText => (rt.eprintln("error: a word is not UTF-8"), USAGE),
+        CommandStop::CannotUse(word) => (say_unusable(rt, word.as_str()), REFUSED),
+        CommandStop::Refused(fault) => (say_refused(rt, fault.number(), fault.name()), REFUSED),
+        CommandStop::NoConfiguration(fault) => (
+            say_refused(rt, fault.number(), fault.name()),
+            REFUSED,
+        ),
+        CommandStop::NoRepository(fault) | CommandStop::NoNewRepository(fault) => (
             say_unused(rt, fault),
             REFUSED,
         ),
-        Stop::RefusedCommand(refusal) => (
+        CommandStop::RefusedCommand(refusal) => (
             say_refused(rt, refusal.number(), refusal.name()),
             REFUSED,
         ),

@@ -1,7 +1,7 @@
 //! The next step after a stop.
 
 use crate::hint::{hint, is_plain};
-use crate::stop::Stop;
+use crate::stop::CommandStop;
 use hook_base::Text;
 use hook_config::ConfigKind;
 use repository_files::{RepositoryFault, STORE};
@@ -27,16 +27,21 @@ const NO_CONFIGURATION: &str =
 const MOST_FOLDERS: usize = 40;
 
 /// Says the remedy for a stop, if there is one.
-pub(crate) fn hint_at(rt: &HostRuntime, stop: &Stop) {
+pub(crate) fn hint_at(rt: &HostRuntime, stop: &CommandStop) {
     match stop {
-        Stop::NoRepository(RepositoryFault::CannotUseStore) if is_missing(rt, STORE) => {
+        CommandStop::NoRepository(RepositoryFault::CannotUseStore) if is_missing(rt, STORE) => {
             hint_repository(rt);
         }
-        Stop::NoNewRepository(RepositoryFault::CannotUseStore) if is_file(rt, STORE) => hint(
+        CommandStop::NoNewRepository(RepositoryFault::CannotUseStore) if is_file(rt, STORE) => hint(
             rt, STORE_HERE,
         ),
-        Stop::NoConfiguration(fault) if fault.kind != ConfigKind::OutOfMemory => hint(rt, EXPLAIN),
-        Stop::CannotUse(word) if is_missing_configuration(rt, word) => hint(rt, NO_CONFIGURATION),
+        CommandStop::NoConfiguration(fault) if fault.kind != ConfigKind::OutOfMemory => hint(
+            rt, EXPLAIN,
+        ),
+        CommandStop::CannotUse(word) if is_missing_configuration(rt, word) => hint(
+            rt,
+            NO_CONFIGURATION,
+        ),
         _ => {}
     }
 }

@@ -1,9 +1,9 @@
 //! The fix that a line undoes by what it stages.
 
-use crate::work::Work;
+use crate::store_call::StoreCall;
 use commit_flow::StagingEdit;
 use hook_base::{Change, RepoPath, Text};
-use hook_cli::{Line, PathSource, Update};
+use hook_cli::{CommandLine, PathSource, Update};
 use repo_store::Store;
 use sqlite::Alter;
 use std::alloc::Global;
@@ -12,15 +12,15 @@ use std::alloc::Global;
 /// looked for before the work is done, since that drops the fixes. `None` also if memory is refused.
 pub(crate) fn undone_fix<S: Alter>(
     alloc: Global,
-    work: &Work,
+    work: &StoreCall,
     store: &Store<S>,
 ) -> Option<RepoPath> {
     let Ok(fixes) = store.fixes() else {
         return None;
     };
     match work {
-        Work::Call {
-            line: Line::Update(
+        StoreCall::Call {
+            line: CommandLine::Update(
                 Update::Add {
                     paths: PathSource::Words(words),
                     ..
@@ -31,8 +31,8 @@ pub(crate) fn undone_fix<S: Alter>(
             [path] => undone_at(alloc, path, bytes.as_slice(), fixes.as_slice()),
             _ => None,
         },
-        Work::Stage(edits) => undone_among(alloc, edits.as_slice(), fixes.as_slice()),
-        Work::Call { .. } | Work::HookCall { .. } | Work::Unstage(_) => None,
+        StoreCall::Stage(edits) => undone_among(alloc, edits.as_slice(), fixes.as_slice()),
+        StoreCall::Call { .. } | StoreCall::HookCall { .. } | StoreCall::Unstage(_) => None,
     }
 }
 

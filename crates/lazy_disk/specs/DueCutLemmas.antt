@@ -9,6 +9,7 @@ Cut-take n file =
     let len = length-take n file in
     record { no_shorter = omega arith; no_longer = omega arith; below = λ i _ low. get_or-take n file i 0 low }
 
-pub shown_may_stay : (cut : Option ℕ) (outcomes : List ℕ → Type 0) (file : List ℕ) → outcomes file → MayLeaveDue cut outcomes (shown_bytes cut file)
+pub shown_may_stay : (cut : Option ℕ) (outcomes : List ℕ → Type 0) (file : List ℕ) → outcomes file
+    → MayLeaveDue cut outcomes (shown_bytes cut file)
 shown_may_stay None outcomes file here = here
 shown_may_stay (Some n) outcomes file here = (file, here, Cut-take n file)

@@ -141,7 +141,8 @@ impl<D: Disk> LazyDisk<D> {
     // Does the cut that is due. If that fails, it stays due, and reads answer as before.
     fn settle(&mut self) -> io::Result<()>
         requires { IsTrue (D.Disk.is_usable self.old.inner) }
-        ensures settled { OnOk result ((self.new.cut ≡ None) × (self.new.known_len ≡ shown_len self.old.cut self.old.known_len)) }
+        ensures settled { OnOk result ((self.new.cut ≡ None)
+            × (self.new.known_len ≡ shown_len self.old.cut self.old.known_len)) }
         ensures refused { self.new.refused ≡ self.old.refused }
         ensures is_sync_refused { self.new.is_sync_refused ≡ self.old.is_sync_refused }
         ensures faults { CountsFault result (D.Disk.faults self.old.inner) (D.Disk.faults self.new.inner) }
@@ -150,7 +151,8 @@ impl<D: Disk> LazyDisk<D> {
         ensures tally { CountsRefusal result (D.Disk.tally_of self.old.inner) (D.Disk.tally_of self.new.inner) }
         ensures key { D.Disk.key_of self.new.inner ≡ D.Disk.key_of self.old.inner }
         ensures usable { IsTrue (D.Disk.is_usable self.new.inner) }
-        ensures seen { shown_bytes self.new.cut (D.Disk.seen self.new.inner) ≡ shown_bytes self.old.cut (D.Disk.seen self.old.inner) }
+        ensures seen { shown_bytes self.new.cut (D.Disk.seen self.new.inner)
+            ≡ shown_bytes self.old.cut (D.Disk.seen self.old.inner) }
         ensures crash { (c : List ℕ) → MayLeaveDue self.new.cut (D.Disk.may_leave self.new.inner) c
             → MayLeaveDue self.old.cut (D.Disk.may_leave self.old.inner) c }
     {

@@ -6,10 +6,8 @@ use Rattle.std.specs.List.{AllByRecursion as Each}
 use Rattle.std.specs.Str.{bytes_eq, chars}
 use Rattle.std.proofs.lemmas.Option.{slice_get-get_or}
 use Rattle.regex_hir.specs.Looks.{holds_between}
-use Rattle.regex_hir.proofs.TextLemmas.{byte_before-add-one}
+use Rattle.path_select.proofs.Kit.{byte_before-add-one, find_str_complete, find_str_sound, leftmost_attempt}
 use Rattle.regex.specs.Patterns.{End, Match, Matches, Re, Start, alt, byte_in, cat, empty, find_str, holds, in_ranges, look}
-use Rattle.regex.proofs.ForCallers.{find_str_complete, find_str_sound}
-use Rattle.regex.proofs.SearchLemmas.{leftmost_attempt}
 use Rattle.regex_syntax.specs.Reading.{first, skip}
 use Rattle.regex_syntax.specs.Grammar.{atom, branches, char_meaning, item, items, join_parts, names_below, read, repetitions, with_repetitions}
 use Rattle.hook_base.specs.declared.file.File.{File}

@@ -29,7 +29,8 @@ module _ (pattern : List ℕ) (made : List (List ℕ)) (tree : List File) (index
     abbrev rest : List File
     rest = drop (index + 1) tree
 
-    split : (b : Bool) → is_found pattern row.path ≡ b → found_in pattern (drop index tree) ≡ map path_of (if b then row ∷ filter (λ (one : File). is_found pattern one.path) rest else filter (λ (one : File). is_found pattern one.path) rest)
+    split : (b : Bool) → is_found pattern row.path ≡ b → found_in pattern (drop index tree)
+        ≡ map path_of (if b then row ∷ filter (λ (one : File). is_found pattern one.path) rest else filter (λ (one : File). is_found pattern one.path) rest)
     split b is =
         ap (found_in pattern) (at_row tree index row held)
         ∙ ap (λ (found : Bool). map path_of (if found then row ∷ filter (λ (one : File). is_found pattern one.path) rest else filter (λ (one : File). is_found pattern one.path) rest)) is

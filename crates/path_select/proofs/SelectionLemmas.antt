@@ -44,13 +44,15 @@ module _ (rules : RuleTexts) where
   later_paths row rows (path ∷ paths) below =
       rw (above_differs path row.path below.0, later_paths row rows paths below.1) refl
 
-  same_row : (path : List ℕ) (paths : List (List ℕ)) (row : File) (rows : List File) → path ≡ row.path → IsBelowAll itself path paths → IsBelowAll path_of row.path rows → filter (fits_at rules rows) paths ≡ selected_among rules paths rows → filter (fits_at rules (row ∷ rows)) (path ∷ paths) ≡ selected_among rules (path ∷ paths) (row ∷ rows)
+  same_row : (path : List ℕ) (paths : List (List ℕ)) (row : File) (rows : List File) → path ≡ row.path → IsBelowAll itself path paths → IsBelowAll path_of row.path rows
+      → filter (fits_at rules rows) paths ≡ selected_among rules paths rows → filter (fits_at rules (row ∷ rows)) (path ∷ paths) ≡ selected_among rules (path ∷ paths) (row ∷ rows)
   same_row path paths row rows same up rising rest =
       let before : IsBelowAll itself row.path paths = subst (λ (p : List ℕ). IsBelowAll itself p paths) same up in
       let after : IsBelowAll path_of path rows = subst (λ (p : List ℕ). IsBelowAll path_of p rows) (sym same) rising in
       let fits = ap (fits_entry rules path) (entry_of-first path row rows same) ∙ with_path rules path row same in
       rw (fits, later_paths row rows paths before, rest, bytes_same path row.path same, without_first path paths rows after)
-      (elim (fits_hook rules row) as (λ b. (if b then path ∷ selected_among rules paths rows else selected_among rules paths rows) ≡ map path_of (if b then row ∷ filter (keeps paths) rows else filter (keeps paths) rows)) [
+      (elim (fits_hook rules row) as (λ b. (if b then path ∷ selected_among rules paths rows else selected_among rules paths rows)
+      ≡ map path_of (if b then row ∷ filter (keeps paths) rows else filter (keeps paths) rows)) [
         | true ↦ ap (λ (p : List ℕ). p ∷ selected_among rules paths rows) same
         | false ↦ refl
       ])

@@ -18,7 +18,8 @@ has_all-of_every_file : (types : List (List ℕ)) (path : List ℕ) (entry : Fil
 has_all-of_every_file [] path entry all = refl
 has_all-of_every_file (tag ∷ types) path entry all =
     let parts = and_parts (bytes_eq tag (codes "file")) (every_file_has types) all in
-    let first : has_tag tag (tags_of_file path entry) ≡ true = subst (λ (t : List ℕ). has_tag t (tags_of_file path entry) ≡ true) (sym ((bytes_decides tag (codes "file")).0 parts.0)) (by_mode entry.mode _ _) in
+    let first : has_tag tag (tags_of_file path entry) ≡ true =
+    subst (λ (t : List ℕ). has_tag t (tags_of_file path entry) ≡ true) (sym ((bytes_decides tag (codes "file")).0 parts.0)) (by_mode entry.mode _ _) in
     rw first (has_all-of_every_file types path entry parts.1)
 
 pub fits_types_of_every_file : (rules : RuleTexts) → AsksForNone rules → (path : List ℕ) (entry : FileEntry) → fits_types rules (tags_of_file path entry) ≡ true

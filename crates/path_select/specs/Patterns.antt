@@ -7,11 +7,11 @@ use Rattle.regex_syntax.specs.Grammar.{Names, read}
 use Rattle.regex.specs.Patterns.{Re, default_config, find_str}
 
 -- what is read in the text, with the options that `regex` has by default
-abbrev pub meaning_of : List ℕ → Option (Nested Re × Names)
-meaning_of text = read default_config (chars text)
+abbrev pub pattern_meaning : List ℕ → Option (Nested Re × Names)
+pattern_meaning text = read default_config (chars text)
 
 abbrev pub IsPattern : List ℕ → Type 0
-IsPattern text = IsSome (meaning_of text)
+IsPattern text = IsSome (pattern_meaning text)
 
 abbrev pub has_match : Option (Nested Re × Names) → List ℕ → Bool
 has_match None text = false
@@ -20,4 +20,4 @@ has_match (Some (meaning, names)) text = is_some (find_str meaning.value text 0)
 -- what is read in the first text matches somewhere in the second, as Python's re.search does: it isn't
 -- anchored
 unfoldable pub is_found : List ℕ → List ℕ → Bool
-is_found pattern text = has_match (meaning_of pattern) text
+is_found pattern text = has_match (pattern_meaning pattern) text

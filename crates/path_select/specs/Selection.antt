@@ -42,7 +42,8 @@ has_one_if_any (first ∷ others) tags = has_one (first ∷ others) tags
 -- the tags have all of `types`, one of `types_or` if that list isn't empty, none of `exclude_types`
 -- (pre-commit.com, "Filtering files with types")
 abbrev pub fits_types : RuleTexts → List (List ℕ) → Bool
-fits_types rules tags = has_all rules.types tags && (has_one_if_any rules.types_or tags && not (has_one rules.exclude_types tags))
+fits_types rules tags =
+    has_all rules.types tags && (has_one_if_any rules.types_or tags && not (has_one rules.exclude_types tags))
 
 -- the file fits the hook's own patterns and tags
 abbrev pub fits_hook : RuleTexts → File → Bool

@@ -61,7 +61,8 @@ fn filtered<'a>(
     exclude: &Pattern,
     paths: Vec<&'a RepoPath>,
 ) -> Result<Vec<&'a RepoPath>, OutOfMemory>
-    ensures { IfOk result (λ kept. paths_of kept.items ≡ filter (passes files.now exclude.now) (paths_of paths.entry.items)) }
+    ensures { IfOk result (λ kept. paths_of kept.items
+        ≡ filter (passes files.now exclude.now) (paths_of paths.entry.items)) }
 {
     let mut test = PathFilter::new(alloc, files, exclude)?;
     let mut kept = Vec::new(alloc);

@@ -62,7 +62,8 @@ fn chosen_by_tags(
     tags: &KeptTags,
 ) -> Result<Vec<RepoPath>, OutOfMemory>
     requires { tags.now ≡ tags_of_tree tree.now }
-    ensures { IfOk result (λ chosen. chosen.items ≡ filter (fits_at (texts_of_rules rules.now) tree.now) (paths_of paths.now)) }
+    ensures { IfOk result (λ chosen. chosen.items
+        ≡ filter (fits_at (texts_of_rules rules.now) tree.now) (paths_of paths.now)) }
 {
     let mut test = PathFilter::new(alloc, rules.files, rules.exclude)?;
     let mut next = 0;

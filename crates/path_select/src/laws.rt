@@ -10,13 +10,16 @@ ghost use Rattle.path_select.specs.Selection.{RuleTexts, found_in, rules_of_patt
 /// among all.
 #[tactic(auto, using(crate::specs::SelectionLaws::selected_among_passing))]
 pub fn selecting_among_the_passing_is_selecting_among_all()
-    ensures { (rules : RuleTexts) (candidates among : List (List ℕ)) (tree : List File) → ArePassing rules.top_files rules.top_exclude candidates among → selected_among rules among tree ≡ selected rules candidates tree }
+    ensures { (rules : RuleTexts) (candidates among : List (List ℕ)) (tree : List File)
+        → ArePassing rules.top_files rules.top_exclude candidates among
+        → selected_among rules among tree ≡ selected rules candidates tree }
 {}
 
 /// The paths of the files that a hook gets are in their order, each once.
 #[tactic(auto, using(crate::specs::SelectionLaws::selected_rising))]
 pub fn what_is_selected_is_in_order()
-    ensures { (rules : RuleTexts) (candidates : List (List ℕ)) (tree : List File) → IsRising tree → AreRisingPaths (selected rules candidates tree) }
+    ensures { (rules : RuleTexts) (candidates : List (List ℕ)) (tree : List File) → IsRising tree
+        → AreRisingPaths (selected rules candidates tree) }
 {}
 
 /// The files in whose path a pattern is found are those that it selects alone. All paths are candidates, all
@@ -24,5 +27,6 @@ pub fn what_is_selected_is_in_order()
 /// file's path is empty.
 #[tactic(auto, using(crate::proofs::DefaultPatternLemmas::selected_alone))]
 pub fn what_a_pattern_selects_alone_is_where_it_is_found()
-    ensures { (pattern : List ℕ) (tree : List File) → entry_of [] tree ≡ None → selected (rules_of_pattern pattern) (map path_of tree) tree ≡ found_in pattern tree }
+    ensures { (pattern : List ℕ) (tree : List File) → entry_of [] tree ≡ None
+        → selected (rules_of_pattern pattern) (map path_of tree) tree ≡ found_in pattern tree }
 {}

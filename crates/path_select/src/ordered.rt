@@ -14,7 +14,8 @@ pub(crate) fn in_order<'a>(
     paths: &'a [RepoPath],
 ) -> Result<Vec<&'a RepoPath>, OutOfMemory>
     ensures rising { IfOk result (λ ordered. AreRisingPaths (paths_of ordered.items)) }
-    ensures same { IfOk result (λ ordered. (path : List ℕ) → is_candidate (paths_of ordered.items) path ≡ is_candidate paths.now path) }
+    ensures same { IfOk result (λ ordered. (path : List ℕ)
+        → is_candidate (paths_of ordered.items) path ≡ is_candidate paths.now path) }
 {
     let mut ordered = borrowed(alloc, paths)?;
     if !are_rising(paths) {
@@ -48,7 +49,8 @@ fn are_rising(paths: &[RepoPath]) -> bool
 
 fn sort_paths(paths: &mut Vec<&RepoPath>)
     ensures rising { AreRisingPaths (paths_of paths.new.items) }
-    ensures same { (path : List ℕ) → is_candidate (paths_of paths.new.items) path ≡ is_candidate (paths_of paths.old.items) path }
+    ensures same { (path : List ℕ) → is_candidate (paths_of paths.new.items) path
+        ≡ is_candidate (paths_of paths.old.items) path }
 {
     paths.sort_unstable();
     paths.dedup();

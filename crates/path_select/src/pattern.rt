@@ -2,7 +2,7 @@
 
 ghost use Rattle.std.specs.Prelude.{◌≡◌, IfOk, IfErr};
 ghost use Rattle.path_select.specs.Patterns.{IsPattern};
-ghost use Rattle.path_select.specs.PatternFaults.{IsRefused};
+ghost use Rattle.path_select.specs.PatternFaults.{IsPatternRefusal};
 
 use crate::PatternFault;
 use regex::Regex;
@@ -20,9 +20,9 @@ impl Model for Pattern {
 
     ghost Value = { List ℕ };
 
-    ghost use Rattle.path_select.specs.Regexes.{text_of, IsOfItsText};
+    ghost use Rattle.path_select.specs.Regexes.{regex_text, IsOfItsText};
 
-    ghost view = { λ pattern. text_of pattern.regex };
+    ghost view = { λ pattern. regex_text pattern.regex };
 
     ghost invariant = { λ pattern. IsOfItsText pattern.regex };
 }
@@ -32,7 +32,7 @@ impl Pattern {
     pub fn build(alloc: Global, text: &str) -> Result<Pattern, PatternFault>
         ensures same { IfOk result (λ pattern. pattern ≡ text.now) }
         ensures pattern { IfOk result (λ _. IsPattern text.now) }
-        ensures refused { IfErr result (IsRefused text.now) }
+        ensures refused { IfErr result (IsPatternRefusal text.now) }
     {
         let regex = Regex::new(alloc, text)?;
         Ok(Pattern { regex })

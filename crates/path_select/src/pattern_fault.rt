@@ -1,7 +1,7 @@
 //! The reasons why a text isn't taken as a pattern.
 
 ghost use Rattle.std.specs.Prelude.{◌≡◌};
-ghost use Rattle.path_select.specs.PatternFaults.{number_of};
+ghost use Rattle.path_select.specs.PatternFaults.{pattern_fault_number};
 
 use regex::Error as RegexError;
 use thiserror::Error;
@@ -21,7 +21,7 @@ pub enum PatternFault {
 impl PatternFault {
     /// The refusal's number: 1 or 2.
     pub fn number(&self) -> u8
-        ensures { result ≡ number_of self.now }
+        ensures { result ≡ pattern_fault_number self.now }
     {
         match self {
             PatternFault::NotAPattern => 1,
@@ -31,9 +31,9 @@ impl PatternFault {
 }
 
 impl From<RegexError> for PatternFault {
-    ghost use Rattle.path_select.specs.PatternFaults.{fault_of};
+    ghost use Rattle.path_select.specs.PatternFaults.{pattern_fault_of};
 
-    ghost from_gives = { λ error fault. fault ≡ fault_of error };
+    ghost from_gives = { λ error fault. fault ≡ pattern_fault_of error };
 
     fn from(error: RegexError) -> Self {
         match error {

@@ -55,7 +55,8 @@ fn chosen_of(
     paths: &[&RepoPath],
     tree: &Tree,
 ) -> Result<Vec<RepoPath>, OutOfMemory>
-    ensures { IfOk result (λ chosen. chosen.items ≡ filter (fits_at (texts_of_rules rules.now) tree.now) (paths_of paths.now)) }
+    ensures { IfOk result (λ chosen. chosen.items
+        ≡ filter (fits_at (texts_of_rules rules.now) tree.now) (paths_of paths.now)) }
 {
     let mut test = PathFilter::new(alloc, rules.files, rules.exclude)?;
     let mut next = 0;
@@ -81,7 +82,8 @@ fn fits(
 ) -> Result<bool, OutOfMemory>
     requires files { test.old.files ≡ rules.now.files.now }
     requires exclude { test.old.exclude ≡ rules.now.exclude.now }
-    ensures fits { IfOk result (λ fits. fits ≡ fits_entry (texts_of_rules rules.now) path.now (option_copied entry.entry)) }
+    ensures fits { IfOk result (λ fits. fits
+        ≡ fits_entry (texts_of_rules rules.now) path.now (option_copied entry.entry)) }
     ensures same { test.new ≡ test.old }
 {
     match entry {

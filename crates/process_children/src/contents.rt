@@ -2,7 +2,7 @@
 
 ghost use Rattle.std.specs.Io.{ReadsAtMost};
 
-use crate::fresh::asked_mode;
+use crate::new_file_modes::asked_mode;
 use crate::stamp::Stamp;
 use hook_base::{FileEntry, MOST_FILE_BYTES};
 use libc::types::rlimit;

@@ -1,7 +1,7 @@
 //! How a child ended.
 
 use crate::outputs::Outputs;
-use crate::stop::Stop;
+use crate::stop::ChildStop;
 use child_port::Fault;
 use hook_base::Bytes;
 use std::alloc::Global;
@@ -11,7 +11,7 @@ use std::process::{Child, OpenProcess};
 
 /// The exit status of a child that gave one, and what it wrote.
 #[derive(Debug, Drop)]
-pub(crate) struct Ending {
+pub(crate) struct ChildEnding {
     /// Its exit status.
     pub status: u8,
     /// Its standard output, followed by its standard error.
@@ -22,12 +22,12 @@ pub(crate) struct Ending {
 /// in any case, so that none goes on while the next one runs.
 ///
 /// `WaitFailed` if reading or waiting fails, `Signal` if a signal ended the child (wait(2), "WIFSIGNALED"),
-/// and `OutputTooLong` if it wrote more than it may. Want of memory is `Stop::OutOfMemory`.
+/// and `OutputTooLong` if it wrote more than it may. Want of memory is `ChildStop::OutOfMemory`.
 pub(crate) fn ending_of<P: OpenProcess + Drop>(
     alloc: Global,
     mut child: Child<P>,
     piece: &mut [u8],
-) -> Result<Ending, Stop>
+) -> Result<ChildEnding, ChildStop>
 where
     P::Stdout: AsRawFd,
     P::Stderr: AsRawFd,
@@ -38,16 +38,16 @@ where
         _ => false,
     };
     let Ok(status) = child.wait() else {
-        return Err(Stop::Fault(Fault::WaitFailed));
+        return Err(ChildStop::Fault(Fault::WaitFailed));
     };
     if !read {
-        return Err(Stop::Fault(Fault::WaitFailed));
+        return Err(ChildStop::Fault(Fault::WaitFailed));
     }
     match status.code().map(u8::try_from) {
         Some(Ok(status)) => {
             let output = outputs.into_bytes()?;
-            Ok(Ending { status, output })
+            Ok(ChildEnding { status, output })
         }
-        _ => Err(Stop::Fault(Fault::Signal)),
+        _ => Err(ChildStop::Fault(Fault::Signal)),
     }
 }

@@ -10,7 +10,7 @@ use std::os::unix::fs::MetadataExt;
 /// that still has the stamp that it had when it was read. It contains what was read. For any later change
 /// gives it another stamp, even one through what was opened before.
 #[derive(Clone, Copy, Debug)]
-pub(crate) enum Times {
+pub(crate) enum FileTimes {
     /// Nobody has asked yet.
     Unasked,
     /// They show nothing.
@@ -29,7 +29,7 @@ pub(crate) struct Ages {
     first_child: Option<Moment>,
 }
 
-impl Times {
+impl FileTimes {
     /// Asks, once in a run, by the metadata of something that was made in the scratch folder just before.
     pub(crate) fn ask<R: Files>(
         &mut self,
@@ -38,10 +38,10 @@ impl Times {
         made: &Metadata,
         piece: &mut [u8],
     ) {
-        if matches!(self, Times::Unasked) {
+        if matches!(self, FileTimes::Unasked) {
             *self = match ages_of(files, alloc, made, piece) {
-                Some(ages) => Times::Telling(ages),
-                None => Times::Mute,
+                Some(ages) => FileTimes::Telling(ages),
+                None => FileTimes::Mute,
             };
         }
     }
@@ -49,7 +49,7 @@ impl Times {
     /// Notes that a child is about to be started, if it is the first. The scratch folder was changed just
     /// before.
     pub(crate) fn child_starts(&mut self, folder: &Metadata) {
-        if let Times::Telling(ages) = self {
+        if let FileTimes::Telling(ages) = self {
             if ages.first_child.is_none() {
                 ages.first_child = Some(if folder.dev() == ages.device {
                     Moment::of_change(folder)
@@ -63,8 +63,8 @@ impl Times {
     /// Whether it is known that no child was started yet.
     pub(crate) fn is_before_children(&self) -> bool {
         match self {
-            Times::Telling(ages) => ages.first_child.is_none(),
-            Times::Unasked | Times::Mute => false,
+            FileTimes::Telling(ages) => ages.first_child.is_none(),
+            FileTimes::Unasked | FileTimes::Mute => false,
         }
     }
 
@@ -72,10 +72,10 @@ impl Times {
     /// its memory.
     pub(crate) fn are_settled(&self, stamp: &Stamp) -> bool {
         match self {
-            Times::Telling(ages) => {
+            FileTimes::Telling(ages) => {
                 stamp.device() == ages.device && stamp.changed().is_before(ages.settled)
             }
-            Times::Unasked | Times::Mute => false,
+            FileTimes::Unasked | FileTimes::Mute => false,
         }
     }
 
@@ -83,7 +83,7 @@ impl Times {
     /// process has it open then.
     pub(crate) fn precede_children(&self, stamp: &Stamp) -> bool {
         match self {
-            Times::Telling(
+            FileTimes::Telling(
                 Ages {
                     device,
                     first_child: Some(first),

@@ -1,14 +1,14 @@
 //! The first trouble with the files of children, and with a start.
 
-use crate::stop::Stop;
-use crate::trouble::Trouble;
+use crate::obstacle::Obstacle;
+use crate::stop::ChildStop;
 use child_port::Fault;
 
 /// The first trouble with the files of children, and the first with a start.
 #[derive(Debug, Drop)]
 pub(crate) struct FirstTroubles {
-    of_files: Option<Trouble>,
-    of_a_start: Option<Trouble>,
+    of_files: Option<Obstacle>,
+    of_a_start: Option<Obstacle>,
 }
 
 impl FirstTroubles {
@@ -21,38 +21,38 @@ impl FirstTroubles {
     }
 
     /// The first trouble of laying files or reading them back.
-    pub(crate) fn of_files(&self) -> Option<&Trouble> {
+    pub(crate) fn of_files(&self) -> Option<&Obstacle> {
         self.of_files.as_ref()
     }
 
     /// The first word that could not be started.
-    pub(crate) fn of_a_start(&self) -> Option<&Trouble> {
+    pub(crate) fn of_a_start(&self) -> Option<&Obstacle> {
         self.of_a_start.as_ref()
     }
 
     /// Notes how laying files or reading them back ended: a trouble is the fault `ScratchFailed`, unless
     /// memory was refused.
-    pub(crate) fn note_files<T>(&mut self, ended: Result<T, Trouble>) -> Result<T, Stop> {
+    pub(crate) fn note_files<T>(&mut self, ended: Result<T, Obstacle>) -> Result<T, ChildStop> {
         noted(&mut self.of_files, ended, Fault::ScratchFailed)
     }
 
     /// Notes how a start ended: a trouble is the fault `NotStarted`, unless memory was refused.
-    pub(crate) fn note_start<T>(&mut self, ended: Result<T, Trouble>) -> Result<T, Stop> {
+    pub(crate) fn note_start<T>(&mut self, ended: Result<T, Obstacle>) -> Result<T, ChildStop> {
         noted(&mut self.of_a_start, ended, Fault::NotStarted)
     }
 }
 
 // Turns the trouble of a result into a stop, and keeps it if it is a fault and the first one.
 fn noted<T>(
-    first: &mut Option<Trouble>,
-    ended: Result<T, Trouble>,
+    first: &mut Option<Obstacle>,
+    ended: Result<T, Obstacle>,
     fault: Fault,
-) -> Result<T, Stop> {
+) -> Result<T, ChildStop> {
     match ended {
         Ok(value) => Ok(value),
         Err(trouble) => {
-            let stop = Stop::of(trouble.error(), fault);
-            if first.is_none() && matches!(stop, Stop::Fault(_)) {
+            let stop = ChildStop::of(trouble.error(), fault);
+            if first.is_none() && matches!(stop, ChildStop::Fault(_)) {
                 *first = Some(trouble);
             }
             Err(stop)

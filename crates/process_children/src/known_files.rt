@@ -1,6 +1,6 @@
 //! Files of the scratch folder whose bytes are known without reading them.
 
-use crate::file_ages::Times;
+use crate::file_ages::FileTimes;
 use crate::stamp::{Identity, Stamp};
 use hook_base::{File, SharedFile};
 use std::alloc::{AllocError, Global};
@@ -9,7 +9,7 @@ use std::mem;
 
 // How a file came to be noted.
 #[derive(Clone, Copy, Debug, PartialEq, Eq)]
-enum Noted {
+enum KnownBy {
     // It was written, before the first child, and wasn't read yet.
     Written,
     // It was read.
@@ -21,7 +21,7 @@ enum Noted {
 struct KnownFile {
     file: SharedFile,
     stamp: Stamp,
-    noted: Noted,
+    noted: KnownBy,
 }
 
 impl KnownFile {
@@ -38,7 +38,7 @@ impl KnownFile {
 /// without a sign that the next look at it shows. A walk goes through them in the order of their paths.
 #[derive(Debug, Drop)]
 pub(crate) struct KnownFiles {
-    times: Times,
+    times: FileTimes,
     // The scratch folder that the files lie in.
     folder: Option<Identity>,
     files: Vec<KnownFile>,
@@ -49,15 +49,15 @@ pub(crate) struct KnownFiles {
 impl KnownFiles {
     /// No file is known yet.
     pub(crate) fn new(alloc: Global) -> KnownFiles {
-        KnownFiles::with_times(alloc, Times::Unasked)
+        KnownFiles::with_times(alloc, FileTimes::Unasked)
     }
 
     /// No file is known, and none will be: everything is read.
     pub(crate) fn none_ever(alloc: Global) -> KnownFiles {
-        KnownFiles::with_times(alloc, Times::Mute)
+        KnownFiles::with_times(alloc, FileTimes::Mute)
     }
 
-    fn with_times(alloc: Global, times: Times) -> KnownFiles {
+    fn with_times(alloc: Global, times: FileTimes) -> KnownFiles {
         KnownFiles {
             times,
             folder: None,
@@ -106,7 +106,7 @@ impl KnownFiles {
     /// Whether the file at a path was read, so that its metadata may show that it needn't be read again.
     pub(crate) fn has(&mut self, path: &str) -> bool {
         self.known_at(path)
-            .is_some_and(|known| known.noted == Noted::Read)
+            .is_some_and(|known| known.noted == KnownBy::Read)
     }
 
     /// Whether what was found at a file's place is known to contain what the file does.
@@ -122,9 +122,8 @@ impl KnownFiles {
         let stamp = Stamp::of(found);
         let tells = self.times.are_settled(&stamp) || self.times.precede_children(&stamp);
         tells
-            && self
-                .known_at(file.path.as_str())
-                .is_some_and(|known| known.noted == Noted::Read && known.stamp == stamp)
+            && self.known_at(file.path.as_str()).is_some_and(|known| known.noted == KnownBy::Read
+                && known.stamp == stamp)
     }
 
     // What is known at a path. It mustn't be less than a path that was asked for in this walk.
@@ -142,7 +141,7 @@ impl KnownFiles {
 
     /// Notes a file that is known.
     pub(crate) fn note(&mut self, file: &SharedFile, stamp: Stamp) -> Result<(), AllocError> {
-        self.push(file, stamp, Noted::Read)
+        self.push(file, stamp, KnownBy::Read)
     }
 
     /// Notes a file that was just written, if no child was started yet that could have it open.
@@ -152,7 +151,7 @@ impl KnownFiles {
         stamp: Stamp,
     ) -> Result<(), AllocError> {
         if self.times.is_before_children() {
-            self.push(file, stamp, Noted::Written)
+            self.push(file, stamp, KnownBy::Written)
         } else {
             Ok(())
         }
@@ -161,7 +160,7 @@ impl KnownFiles {
     /// Notes a file that was read, if it can be known.
     pub(crate) fn note_read(&mut self, file: &SharedFile, stamp: Stamp) -> Result<(), AllocError> {
         if self.times.are_settled(&stamp) || self.confirm(file.as_file(), &stamp) {
-            self.push(file, stamp, Noted::Read)
+            self.push(file, stamp, KnownBy::Read)
         } else {
             Ok(())
         }
@@ -173,14 +172,14 @@ impl KnownFiles {
         let precedes = self.times.precede_children(stamp);
         match self.known_at(file.path.as_str()) {
             Some(known) if precedes && known.stamp == *stamp => {
-                known.noted = Noted::Read;
+                known.noted = KnownBy::Read;
                 true
             }
             _ => false,
         }
     }
 
-    fn push(&mut self, file: &SharedFile, stamp: Stamp, noted: Noted) -> Result<(), AllocError> {
+    fn push(&mut self, file: &SharedFile, stamp: Stamp, noted: KnownBy) -> Result<(), AllocError> {
         let file = file.clone()?;
         self.noted.push(KnownFile { file, stamp, noted })?;
         Ok(())

@@ -1,7 +1,7 @@
 //! The scratch folder of a child, from when it was laid until its files are read back.
 
+use crate::disk_paths::standing_scratch;
 use crate::own_files::OwnFiles;
-use crate::place::standing_scratch;
 use crate::stamp::Identity;
 use std::fs::{Files, Metadata};
 use std::io::ErrorKind;

@@ -11,7 +11,7 @@
 //! Each file is found and opened in its folder, which is held open meanwhile (`own_files`, `held_folder`). So
 //! no process can put a link or a fifo between a look and what is done there. The scratch folder itself is
 //! held while its child runs, and has to be at its place once the files are read back (`laid_folder`). What
-//! is in the way is reported by a `Trouble`, and the first one is kept (`first_troubles`).
+//! is in the way is reported by a `Obstacle`, and the first one is kept (`first_troubles`).
 //!
 //! Both walks over the files read only those that a process can have changed since they were read
 //! (`known_files`). This shows in the metadata of each (`stamp`), and in what the times of files show in this
@@ -26,22 +26,23 @@
 #![tactic(auto)]
 
 mod contents;
+mod disk_paths;
 mod ending;
 mod file_ages;
 mod file_system;
 mod first_troubles;
 mod folders;
-mod fresh;
 mod held_folder;
 mod input;
-mod keep;
+mod kept_folder;
 mod known_files;
 mod laid_folder;
 mod links;
 mod mark;
+mod new_file_modes;
+mod obstacle;
 mod outputs;
 mod own_files;
-mod place;
 mod process_children;
 mod read_back;
 mod removal;
@@ -53,7 +54,6 @@ mod stations;
 mod stop;
 mod strays;
 mod trash;
-mod trouble;
 
+pub use obstacle::Obstacle;
 pub use process_children::ProcessChildren;
-pub use trouble::Trouble;

@@ -10,7 +10,7 @@ use std::{fs, io};
 
 /// What a scratch folder is to hold.
 #[derive(Clone, Copy, Debug)]
-pub(crate) struct Wanted<'a> {
+pub(crate) struct WantedFiles<'a> {
     /// The files.
     pub tree: &'a Tree,
     /// The places that links lead to. Each link has the last name of its place.

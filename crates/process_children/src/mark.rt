@@ -1,6 +1,6 @@
 //! The mark of a run: a file next to its scratch folder, from before its first child until it ends.
 
-use crate::place::standing;
+use crate::disk_paths::standing;
 use std::alloc::Global;
 use std::fs::{File, Files, OpenOptions, TryLockError};
 use std::io::ErrorKind;
@@ -17,7 +17,7 @@ const BYTES: u64 = 1 << 62;
 /// The mark that a run has set. Its file is locked until the run's process ends, however that ends. A mark
 /// without a lock is that of a run that was stopped, and whose child may have outlived it.
 #[derive(Drop)]
-pub(crate) struct Mark {
+pub(crate) struct RunMark {
     file: File,
     place: String,
 }
@@ -26,9 +26,9 @@ pub(crate) struct Mark {
 #[derive(Drop)]
 pub(crate) enum Marking {
     /// There was none.
-    Set(Mark),
+    Set(RunMark),
     /// There was the mark of a run that was stopped. It belongs to this run from now on.
-    TakenOver(Mark),
+    TakenOver(RunMark),
     /// There is the mark of a run that goes on.
     InUse,
 }
@@ -42,7 +42,7 @@ enum MarkFile {
     Gone,
 }
 
-impl Mark {
+impl RunMark {
     /// Sets the mark at a place. An error if anything but a regular file is there.
     pub(crate) fn set<R: Files<File = File>>(
         files: &R,
@@ -63,7 +63,7 @@ impl Mark {
             }
             // Otherwise the run that had it has ended since, and has removed it.
             if is_at(files, &file, place.as_str())? {
-                let mark = Mark { file, place };
+                let mark = RunMark { file, place };
                 return Ok(if is_new {
                     Marking::Set(mark)
                 } else {

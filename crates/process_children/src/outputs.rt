@@ -3,7 +3,7 @@
 ghost use Rattle.std.specs.Io.{ReadsAtMost};
 
 use crate::contents::read_some;
-use crate::stop::Stop;
+use crate::stop::ChildStop;
 use child_port::{Fault, MOST_OUTPUT_BYTES};
 use hook_base::Bytes;
 use libc::net::POLLIN;
@@ -18,12 +18,12 @@ use std::os::fd::AsRawFd;
 pub(crate) struct Outputs {
     standard_output: Vec<u8>,
     standard_error: Vec<u8>,
-    kept: Kept,
+    kept: KeptOutput,
 }
 
 // Whether everything that was read is kept.
 #[derive(Clone, Copy, Debug, PartialEq, Eq)]
-enum Kept {
+enum KeptOutput {
     All,
     // There is more than a child may write, and nothing is kept.
     TooLong,
@@ -37,7 +37,7 @@ impl Outputs {
         Outputs {
             standard_output: Vec::new(alloc),
             standard_error: Vec::new(alloc),
-            kept: Kept::All,
+            kept: KeptOutput::All,
         }
     }
 
@@ -70,7 +70,7 @@ impl Outputs {
     }
 
     fn keep(&mut self, stream: Stream, bytes: &[u8]) {
-        if self.kept != Kept::All {
+        if self.kept != KeptOutput::All {
             return;
         }
         let length = self
@@ -78,7 +78,7 @@ impl Outputs {
             .len()
             .saturating_add(self.standard_error.len());
         if length.saturating_add(bytes.len()) > MOST_OUTPUT_BYTES {
-            self.drop_all(Kept::TooLong);
+            self.drop_all(KeptOutput::TooLong);
             return;
         }
         let kept = match stream {
@@ -86,11 +86,11 @@ impl Outputs {
             Stream::Error => self.standard_error.extend_from_slice(bytes),
         };
         if kept.is_err() {
-            self.drop_all(Kept::OutOfMemory);
+            self.drop_all(KeptOutput::OutOfMemory);
         }
     }
 
-    fn drop_all(&mut self, why: Kept) {
+    fn drop_all(&mut self, why: KeptOutput) {
         let alloc = *self.standard_output.allocator();
         self.standard_output = Vec::new(alloc);
         self.standard_error = Vec::new(alloc);
@@ -98,20 +98,20 @@ impl Outputs {
     }
 
     /// The standard output followed by the standard error. `OutputTooLong` if they are longer than a child
-    /// may write, and `Stop::OutOfMemory` if memory was refused.
-    pub(crate) fn into_bytes(self) -> Result<Bytes, Stop> {
+    /// may write, and `ChildStop::OutOfMemory` if memory was refused.
+    pub(crate) fn into_bytes(self) -> Result<Bytes, ChildStop> {
         let Outputs {
             standard_output: mut output,
             standard_error,
             kept,
         } = self;
         match kept {
-            Kept::All => {
+            KeptOutput::All => {
                 output.extend_from_slice(standard_error.as_slice())?;
                 Ok(Bytes::from(output))
             }
-            Kept::TooLong => Err(Stop::Fault(Fault::OutputTooLong)),
-            Kept::OutOfMemory => Err(Stop::OutOfMemory),
+            KeptOutput::TooLong => Err(ChildStop::Fault(Fault::OutputTooLong)),
+            KeptOutput::OutOfMemory => Err(ChildStop::OutOfMemory),
         }
     }
 }

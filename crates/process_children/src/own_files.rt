@@ -1,9 +1,9 @@
 //! How the files of the scratch folder are found and opened by their paths.
 
+use crate::disk_paths::{place_in, standing};
 use crate::held_folder::HeldFolder;
-use crate::place::{place_in, standing};
+use crate::obstacle::Obstacle;
 use crate::stamp::Stamp;
-use crate::trouble::Trouble;
 use std::alloc::{AllocError, Global};
 use std::fs::{Files, Metadata, OpenFile, OpenOptions};
 use std::io::ErrorKind;
@@ -56,12 +56,12 @@ impl<'a> OwnFiles<'a> {
     }
 
     /// Turns the error of a result into the trouble at this path of the tree.
-    pub(crate) fn at<T>(&self, path: &str, ended: io::Result<T>) -> Result<T, Trouble> {
+    pub(crate) fn at<T>(&self, path: &str, ended: io::Result<T>) -> Result<T, Obstacle> {
         match ended {
             Ok(value) => Ok(value),
             Err(error) => match self.shown(path) {
-                Ok(place) => Err(Trouble::at(self.alloc, place.as_str(), error)),
-                Err(refusal) => Err(Trouble::from(refusal)),
+                Ok(place) => Err(Obstacle::at(self.alloc, place.as_str(), error)),
+                Err(refusal) => Err(Obstacle::from(refusal)),
             },
         }
     }

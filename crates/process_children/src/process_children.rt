@@ -2,10 +2,10 @@
 
 ghost use Rattle.std.specs.Prelude.{◌≡◌, ◌+◌, ◌<◌, ◌^◌};
 
+use crate::obstacle::Obstacle;
 use crate::scratch_folder::AtEnd;
 use crate::stations::Stations;
-use crate::stop::Stop;
-use crate::trouble::Trouble;
+use crate::stop::ChildStop;
 use child_port::{Children, Outcome};
 use hook_base::{OutOfMemory, RepoPath, Text, Tree};
 use std::fs::{File, Files};
@@ -69,8 +69,10 @@ impl<
     /// place. The places are full paths, or lead there from the scratch folder, and their last names are
     /// different.
     pub fn link(&mut self, places: Vec<String>)
-        ensures calls { ⟦<ProcessChildren<R> as Children>⟧.call_count self.new ≡ ⟦<ProcessChildren<R> as Children>⟧.call_count self.old }
-        ensures faults { ⟦<ProcessChildren<R> as Children>⟧.fault_count self.new ≡ ⟦<ProcessChildren<R> as Children>⟧.fault_count self.old }
+        ensures calls { ⟦<ProcessChildren<R> as Children>⟧.call_count self.new
+            ≡ ⟦<ProcessChildren<R> as Children>⟧.call_count self.old }
+        ensures faults { ⟦<ProcessChildren<R> as Children>⟧.fault_count self.new
+            ≡ ⟦<ProcessChildren<R> as Children>⟧.fault_count self.old }
     {
         self.stations.link(places);
     }
@@ -78,8 +80,10 @@ impl<
     /// From now on a child that has seen the file of this path, which represents Git's state, finds the
     /// variable `HOOKHOST_SEES_GIT_STATE` set to 1. Any other child doesn't find it.
     pub fn tell_state(&mut self, path: RepoPath)
-        ensures calls { ⟦<ProcessChildren<R> as Children>⟧.call_count self.new ≡ ⟦<ProcessChildren<R> as Children>⟧.call_count self.old }
-        ensures faults { ⟦<ProcessChildren<R> as Children>⟧.fault_count self.new ≡ ⟦<ProcessChildren<R> as Children>⟧.fault_count self.old }
+        ensures calls { ⟦<ProcessChildren<R> as Children>⟧.call_count self.new
+            ≡ ⟦<ProcessChildren<R> as Children>⟧.call_count self.old }
+        ensures faults { ⟦<ProcessChildren<R> as Children>⟧.fault_count self.new
+            ≡ ⟦<ProcessChildren<R> as Children>⟧.fault_count self.old }
     {
         self.stations.tell_state(path);
     }
@@ -87,19 +91,21 @@ impl<
     /// From now on all files of each child are read: none counts as unchanged by its times. For trials of
     /// that.
     pub fn read_everything(&mut self)
-        ensures calls { ⟦<ProcessChildren<R> as Children>⟧.call_count self.new ≡ ⟦<ProcessChildren<R> as Children>⟧.call_count self.old }
-        ensures faults { ⟦<ProcessChildren<R> as Children>⟧.fault_count self.new ≡ ⟦<ProcessChildren<R> as Children>⟧.fault_count self.old }
+        ensures calls { ⟦<ProcessChildren<R> as Children>⟧.call_count self.new
+            ≡ ⟦<ProcessChildren<R> as Children>⟧.call_count self.old }
+        ensures faults { ⟦<ProcessChildren<R> as Children>⟧.fault_count self.new
+            ≡ ⟦<ProcessChildren<R> as Children>⟧.fault_count self.old }
     {
         self.stations.read_everything();
     }
 
     /// What kept the files of a child from being laid or read back, the first time that this was a fault.
-    pub fn trouble(&self) -> Option<&Trouble> {
+    pub fn trouble(&self) -> Option<&Obstacle> {
         self.stations.troubles().of_files()
     }
 
     /// The first word that could not be started, as the place of the trouble, with the system's error.
-    pub fn unstarted(&self) -> Option<&Trouble> {
+    pub fn unstarted(&self) -> Option<&Obstacle> {
         self.stations.troubles().of_a_start()
     }
 }
@@ -135,11 +141,11 @@ impl<R: Files<File = File> + Processes<Started = SystemProcess> + AllocGlobal + 
                 self.completed += 1;
                 Ok(Outcome::Done(answer))
             }
-            Err(Stop::Fault(fault)) => {
+            Err(ChildStop::Fault(fault)) => {
                 self.failed += 1;
                 Ok(Outcome::Failed(fault))
             }
-            Err(Stop::OutOfMemory) => Err(OutOfMemory),
+            Err(ChildStop::OutOfMemory) => Err(OutOfMemory),
         }
     }
 

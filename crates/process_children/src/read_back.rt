@@ -1,12 +1,12 @@
 //! What a child did to the files of its tree.
 
 use crate::contents::{begins_with, read_open};
+use crate::disk_paths::{refuse_link, standing};
 use crate::folders::{folder_at, shared_bytes};
 use crate::known_files::KnownFiles;
 use crate::laid_folder::LaidFolder;
+use crate::obstacle::{Obstacle, at_place};
 use crate::own_files::Opened;
-use crate::place::{refuse_link, standing};
-use crate::trouble::{Trouble, at_place};
 use hook_base::{Bytes, Change, Changes, Content, File, MOST_FILE_BYTES, Tree};
 use std::alloc::{AllocError, Global};
 use std::fs::{Files, Metadata};
@@ -29,7 +29,7 @@ pub(crate) fn read_back<R: Files>(
     tree: &Tree,
     known: &mut KnownFiles,
     piece: &mut [u8],
-) -> Result<Changes, Trouble> {
+) -> Result<Changes, Obstacle> {
     let folder = laid.own.folder();
     match Changes::from_rising(changes_of(files, alloc, laid, tree, known, piece)?) {
         Ok(changes) => Ok(changes),
@@ -45,7 +45,7 @@ fn changes_of<R: Files>(
     tree: &Tree,
     known: &mut KnownFiles,
     piece: &mut [u8],
-) -> Result<Vec<Change>, Trouble> {
+) -> Result<Vec<Change>, Obstacle> {
     let folder = laid.own.folder();
     at_place(alloc, folder, laid.check_place(files))?;
     known.begin();
@@ -71,7 +71,7 @@ struct Reading<'a, 'f, R: Files> {
 
 impl<'a, 'f, R: Files> Reading<'a, 'f, R> {
     // Each file that changed. Before the first one of a folder, that folder is checked for links.
-    fn changes(&mut self, tree: &Tree, piece: &mut [u8]) -> Result<Vec<Change>, Trouble> {
+    fn changes(&mut self, tree: &Tree, piece: &mut [u8]) -> Result<Vec<Change>, Obstacle> {
         let mut changes = Vec::new(self.alloc);
         let mut before = "";
         for index in 0..tree.len() {

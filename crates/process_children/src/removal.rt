@@ -1,7 +1,7 @@
 //! Removes a scratch folder, even if a process goes on writing in it.
 
-use crate::keep::empty;
-use crate::place::standing;
+use crate::disk_paths::standing;
+use crate::kept_folder::empty;
 use std::alloc::Global;
 use std::fs::Files;
 use std::{fs, io};

@@ -1,10 +1,10 @@
 //! The scratch folder of a run, which no other run uses meanwhile.
 
+use crate::disk_paths::{refuse_link, standing, standing_scratch};
 use crate::input;
-use crate::mark::{Mark, Marking};
-use crate::place::{refuse_link, standing, standing_scratch};
+use crate::mark::{Marking, RunMark};
+use crate::obstacle::{Obstacle, at_place};
 use crate::removal::{put_away, remove};
-use crate::trouble::{Trouble, at_place};
 use std::alloc::{AllocError, Global};
 use std::fs::{File, Files};
 use std::io::ErrorKind;
@@ -25,7 +25,7 @@ pub(crate) enum AtEnd {
 pub(crate) struct ScratchFolder {
     place: String,
     number: u64,
-    mark: Mark,
+    mark: RunMark,
     input_byte: u64,
 }
 
@@ -37,7 +37,7 @@ impl ScratchFolder {
         files: &R,
         alloc: Global,
         folder: &str,
-    ) -> Result<ScratchFolder, Trouble> {
+    ) -> Result<ScratchFolder, Obstacle> {
         at_place(alloc, folder, make_parent(files, folder))?;
         for number in 0..u64::MAX {
             let place = numbered(alloc, folder, number)?;
@@ -130,9 +130,9 @@ fn mark_of<R: Files<File = File>>(
     files: &R,
     alloc: Global,
     place: &str,
-) -> Result<Option<Mark>, Trouble> {
+) -> Result<Option<RunMark>, Obstacle> {
     let at = mark_place(alloc, place)?;
-    match at_place(alloc, at.as_str(), Mark::set(files, alloc, at.as_str()))? {
+    match at_place(alloc, at.as_str(), RunMark::set(files, alloc, at.as_str()))? {
         Marking::InUse => Ok(None),
         Marking::Set(mark) => Ok(Some(mark)),
         Marking::TakenOver(mark) => {
@@ -152,7 +152,7 @@ fn remove_left<R: Files<File = File>>(
     alloc: Global,
     folder: &str,
     first: u64,
-) -> Result<(), Trouble> {
+) -> Result<(), Obstacle> {
     for number in first..u64::MAX {
         let place = numbered(alloc, folder, number)?;
         let mark = mark_place(alloc, place.as_str())?;

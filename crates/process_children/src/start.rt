@@ -1,7 +1,7 @@
 //! Starting a child.
 
 use crate::input;
-use crate::trouble::{Trouble, at_place};
+use crate::obstacle::{Obstacle, at_place};
 use hook_base::Text;
 use std::alloc::Global;
 use std::fs::{File, Files};
@@ -26,10 +26,10 @@ pub(crate) fn start<R: Files<File = File> + Processes>(
     input_byte: u64,
     words: &[Text],
     sees_state: Option<bool>,
-) -> Result<Child<R::Started>, Trouble> {
+) -> Result<Child<R::Started>, Obstacle> {
     let Some((program, arguments)) = words.split_first() else {
         let error = io::Error::new(ErrorKind::InvalidInput, "there is no word to start");
-        return Err(Trouble::at(alloc, "", error));
+        return Err(Obstacle::at(alloc, "", error));
     };
     let mut command = Command::new(alloc, program.as_str())?;
     for argument in arguments {

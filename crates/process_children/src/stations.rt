@@ -1,16 +1,16 @@
 //! The stations of a child, from the files that it finds to those that it leaves.
 
 use crate::contents::PIECE_BYTES;
-use crate::ending::{Ending, ending_of};
+use crate::ending::{ChildEnding, ending_of};
 use crate::first_troubles::FirstTroubles;
-use crate::keep::keep_as;
+use crate::kept_folder::keep_as;
 use crate::known_files::KnownFiles;
-use crate::links::Wanted;
+use crate::links::WantedFiles;
+use crate::obstacle::at_place;
 use crate::read_back::read_back;
 use crate::scratch_folder::{AtEnd, ScratchFolder};
 use crate::start::start;
-use crate::stop::Stop;
-use crate::trouble::at_place;
+use crate::stop::ChildStop;
 use child_port::{Answer, Fault};
 use hook_base::{RepoPath, Text, Tree};
 use std::fs::{File, Files};
@@ -102,7 +102,7 @@ impl<R: Files<File = File> + AllocGlobal + Drop> Stations<R> {
         }
     }
 
-    fn take_scratch(&mut self) -> Result<ScratchFolder, Stop> {
+    fn take_scratch(&mut self) -> Result<ScratchFolder, ChildStop> {
         let folder = self.folder.as_str().trim_end_matches('/');
         let taken = ScratchFolder::take(&self.runtime, self.runtime.alloc(), folder);
         self.troubles.note_files(taken)
@@ -116,7 +116,7 @@ impl<R: Files<File = File> + Processes<Started = SystemProcess> + AllocGlobal + 
         words: &[Text],
         tree: &Tree,
         seen: &Tree,
-    ) -> Result<Answer, Stop> {
+    ) -> Result<Answer, ChildStop> {
         let sees_state = self.sees_state(seen);
         let taken = match self.scratch.take() {
             Some(taken) => taken,
@@ -139,13 +139,13 @@ impl<R: Files<File = File> + Processes<Started = SystemProcess> + AllocGlobal + 
         words: &[Text],
         tree: &Tree,
         sees_state: Option<bool>,
-    ) -> Result<Answer, Stop> {
+    ) -> Result<Answer, ChildStop> {
         let alloc = self.runtime.alloc();
         let mut piece = vec![in alloc; 0u8; PIECE_BYTES]?;
         let piece = piece.as_mut_slice();
         let (place, known) = (scratch.place(), &mut self.known);
         let links = self.links.as_slice();
-        let wanted = Wanted { tree, links };
+        let wanted = WantedFiles { tree, links };
         let laid = keep_as(&self.runtime, alloc, place, wanted, known, piece);
         let mut laid = self.troubles.note_files(laid)?;
         self.known.child_starts(laid.found());
@@ -170,7 +170,7 @@ impl<R: Files<File = File> + Processes<Started = SystemProcess> + AllocGlobal + 
         words: &[Text],
         sees_state: Option<bool>,
         piece: &mut [u8],
-    ) -> Result<Ending, Stop> {
+    ) -> Result<ChildEnding, ChildStop> {
         let alloc = self.runtime.alloc();
         let before = self.call_bytes()?;
         let child = start(&self.runtime, alloc, folder, input_byte, words, sees_state);
@@ -178,12 +178,12 @@ impl<R: Files<File = File> + Processes<Started = SystemProcess> + AllocGlobal + 
         if self.call_bytes()? == before {
             ending
         } else {
-            Err(Stop::Fault(Fault::ScratchFailed))
+            Err(ChildStop::Fault(Fault::ScratchFailed))
         }
     }
 
     // The length of the file in which calls are recorded.
-    fn call_bytes(&mut self) -> Result<u64, Stop> {
+    fn call_bytes(&mut self) -> Result<u64, ChildStop> {
         let Some(place) = &self.calls else {
             return Ok(0);
         };

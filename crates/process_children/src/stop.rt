@@ -7,28 +7,28 @@ use std::io::ErrorKind;
 
 /// Why a call ends before its child has answered.
 #[derive(Debug, Drop)]
-pub(crate) enum Stop {
+pub(crate) enum ChildStop {
     /// Memory was refused, which counts as no call.
     OutOfMemory,
     /// The child failed.
     Fault(Fault),
 }
 
-impl Stop {
+impl ChildStop {
     /// The stop for an error at a station: want of memory, whether the allocator or the system refused it,
     /// and otherwise the station's fault.
-    pub(crate) fn of(error: &io::Error, fault: Fault) -> Stop {
+    pub(crate) fn of(error: &io::Error, fault: Fault) -> ChildStop {
         if is_want_of_memory(error) {
-            Stop::OutOfMemory
+            ChildStop::OutOfMemory
         } else {
-            Stop::Fault(fault)
+            ChildStop::Fault(fault)
         }
     }
 }
 
-impl From<AllocError> for Stop {
-    fn from(_refusal: AllocError) -> Stop {
-        Stop::OutOfMemory
+impl From<AllocError> for ChildStop {
+    fn from(_refusal: AllocError) -> ChildStop {
+        ChildStop::OutOfMemory
     }
 }
 

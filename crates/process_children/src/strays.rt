@@ -1,9 +1,9 @@
 //! What lies in the scratch folder and doesn't belong there.
 
-use crate::place::place_in;
+use crate::disk_paths::place_in;
+use crate::obstacle::{Obstacle, at_place};
 use crate::search::belongs;
 use crate::trash::Trash;
-use crate::trouble::{Trouble, at_place};
 use hook_base::Tree;
 use std::alloc::{AllocError, Global};
 use std::fs;
@@ -55,13 +55,13 @@ pub(crate) fn take_strays<R: Files>(
     alloc: Global,
     trash: &mut Trash,
     wanted: &Belonging<'_>,
-) -> Result<(), Trouble> {
+) -> Result<(), Obstacle> {
     let mut folder = at_place(alloc, wanted.shown, files.open_dir(wanted.place))?;
     let mut names = [0u8; 8_192];
     for _ in 0..u64::MAX {
         let count = match folder.read(&mut names) {
             Ok(count) => count,
-            Err(e) => return Err(Trouble::at(alloc, wanted.shown, e)),
+            Err(e) => return Err(Obstacle::at(alloc, wanted.shown, e)),
         };
         if count == 0 {
             break;
@@ -77,7 +77,7 @@ fn take_strays_of(
     trash: &mut Trash,
     wanted: &Belonging<'_>,
     names: &[u8],
-) -> Result<(), Trouble> {
+) -> Result<(), Obstacle> {
     for name in names.split(|byte| *byte == 0) {
         let is_folder = name.is_empty() || name == b".".as_slice() || name == b"..".as_slice();
         let is_beside = wanted.besides.has(name, trash);
@@ -93,14 +93,14 @@ fn take_stray(
     trash: &mut Trash,
     wanted: &Belonging<'_>,
     name: &[u8],
-) -> Result<(), Trouble> {
+) -> Result<(), Obstacle> {
     match trash.take(joined(alloc, wanted.place, name)?.as_slice()) {
         Ok(()) => Ok(()),
         Err(e) => {
             // A name that isn't UTF-8 is shown by its folder alone.
             let name = str::from_utf8(name).unwrap_or("");
             let shown = place_in(alloc, wanted.shown, name)?;
-            Err(Trouble::at(alloc, shown.as_str(), e))
+            Err(Obstacle::at(alloc, shown.as_str(), e))
         }
     }
 }
@@ -120,7 +120,7 @@ pub(crate) fn empty_trash<R: Files>(
     files: &R,
     alloc: Global,
     trash: &mut Trash,
-) -> Result<(), Trouble> {
+) -> Result<(), Obstacle> {
     let nothing = Tree::new(alloc);
     for _ in 0..u64::MAX {
         let Some(folder) = trash.next_folder()? else {

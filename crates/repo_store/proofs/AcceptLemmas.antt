@@ -4,7 +4,7 @@ use Rattle.std.specs.Str.{bytes_eq}
 use Rattle.std.specs.Cmp.Lexicographic.{bytes_decides}
 use Rattle.std.proofs.lemmas.List.{take_more, map-append}
 use Rattle.std.proofs.lemmas.List.Sorted.{IsPermutation-refl, IsPermutation-cons, IsPermutation-trans, IsPermutation-middle, IsPermutation-sym}
-use Rattle.sqlite_keyed.proofs.ListLemmas.{IsPermutation-filter}
+use Rattle.repo_store.proofs.Kit.{IsPermutation-filter}
 use Rattle.sqlite_trees.specs.declared.store.Store.{Ghosts}
 use Rattle.sqlite.specs.Held.{Held}
 use Rattle.hook_base.specs.declared.change.Change.{Change}
@@ -33,12 +33,14 @@ use Rattle.repo_store.proofs.SameLemmas.{IsSame, same_staged, step_same}
 others_kept : (path : List ℕ) (now : Option (List ℕ)) (files : List File) → remove_file path (apply_at path now files) ≡ remove_file path files
 others_kept path now [] = elim now as (λ n. remove_file path (apply_at path n []) ≡ []) [ None ↦ refl | Some bytes ↦ refl ]
 others_kept path None (file ∷ files) =
-    elim (bytes_eq path file.path) as (λ b. (bytes_eq path file.path ≡ b) → remove_file path (if b then remove_file path files else file ∷ remove_file path files) ≡ (if b then remove_file path files else file ∷ remove_file path files)) [
+    elim (bytes_eq path file.path) as (λ b. (bytes_eq path file.path ≡ b)
+    → remove_file path (if b then remove_file path files else file ∷ remove_file path files) ≡ (if b then remove_file path files else file ∷ remove_file path files)) [
       | true ↦ λ h. others_kept path None files
       | false ↦ λ h. rw h (ap (λ (l : List File). file ∷ l) (others_kept path None files))
     ] refl
 others_kept path (Some bytes) (file ∷ files) =
-    elim (bytes_eq path file.path) as (λ b. (bytes_eq path file.path ≡ b) → remove_file path ((if b then with_bytes bytes file else file) ∷ rewrite_file path bytes files) ≡ (if b then remove_file path files else file ∷ remove_file path files)) [
+    elim (bytes_eq path file.path) as (λ b. (bytes_eq path file.path ≡ b)
+    → remove_file path ((if b then with_bytes bytes file else file) ∷ rewrite_file path bytes files) ≡ (if b then remove_file path files else file ∷ remove_file path files)) [
       | true ↦ λ h. rw h (others_kept path (Some bytes) files)
       | false ↦ λ h. rw h (ap (λ (l : List File). file ∷ l) (others_kept path (Some bytes) files))
     ] refl
@@ -52,14 +54,19 @@ entry_moves path (Some entry) row rows = IsPermutation-sym _ _ (IsPermutation-mi
 whole : (path : List ℕ) (files : List File) → IsRising files → IsPermutation (with_entry_at path (entry_of path files) (map staged_row (remove_file path files))) (map staged_row files)
 whole path [] rising = IsPermutation-refl []
 whole path (file ∷ files) rising =
-    elim (bytes_eq path file.path) as (λ b. (bytes_eq path file.path ≡ b) → IsPermutation (with_entry_at path (if b then Some file.entry else entry_of path files) (map staged_row (if b then remove_file path files else file ∷ remove_file path files))) (map staged_row (file ∷ files))) [
+    elim (bytes_eq path file.path) as (λ b. (bytes_eq path file.path ≡ b)
+    → IsPermutation (with_entry_at path (if b then Some file.entry else entry_of path files) (map staged_row (if b then remove_file path files else file ∷ remove_file path files)))
+    (map staged_row (file ∷ files))) [
       | true ↦ λ h.
           let same : path ≡ file.path = (bytes_decides path file.path).0 h in
           let later : IsBelowAll path_of path files = subst (λ (p : List ℕ). IsBelowAll path_of p files) (sym same) rising.0 in
-          subst (λ (l : List File). IsPermutation (staged_row (record { path = path; entry = file.entry }) ∷ map staged_row l) (map staged_row (file ∷ files))) (sym (remove_file-later path files later))
-          (subst (λ (p : List ℕ). IsPermutation (staged_row (record { path = p; entry = file.entry }) ∷ map staged_row files) (map staged_row (file ∷ files))) (sym same) (IsPermutation-refl (map staged_row (file ∷ files))))
+          subst (λ (l : List File). IsPermutation (staged_row (record { path = path; entry = file.entry }) ∷ map staged_row l) (map staged_row (file ∷ files)))
+          (sym (remove_file-later path files later))
+          (subst (λ (p : List ℕ). IsPermutation (staged_row (record { path = p; entry = file.entry }) ∷ map staged_row files) (map staged_row (file ∷ files))) (sym same)
+          (IsPermutation-refl (map staged_row (file ∷ files))))
       | false ↦ λ h.
-          IsPermutation-trans _ _ _ (entry_moves path (entry_of path files) (staged_row file) (map staged_row (remove_file path files))) (IsPermutation-cons (staged_row file) _ _ (whole path files rising.1))
+          IsPermutation-trans _ _ _ (entry_moves path (entry_of path files) (staged_row file) (map staged_row (remove_file path files)))
+          (IsPermutation-cons (staged_row file) _ _ (whole path files rising.1))
     ] refl
 
 -- ---- other paths
@@ -110,10 +117,13 @@ one_rewritten fix fixes files rising below =
     let entry = earlier_entry fix.path fixes after below in
     let rows : filter (λ (row : StagedRow). not (bytes_eq row.path fix.path)) (map staged_row files) ≡ map staged_row (remove_file fix.path after) =
     others_staged fix.path files ∙ ap (map staged_row) (sym (others_kept fix.path fix.now files)) in
-    subst (λ (o : Option FileEntry). IsPermutation (with_entry_at fix.path o (filter (λ (row : StagedRow). not (bytes_eq row.path fix.path)) (map staged_row files))) (map staged_row after)) (sym entry)
-    (subst (λ (l : List StagedRow). IsPermutation (with_entry_at fix.path (entry_of fix.path after) l) (map staged_row after)) (sym rows) (whole fix.path after (IsRising-apply_at fix.path fix.now files rising)))
+    subst (λ (o : Option FileEntry). IsPermutation (with_entry_at fix.path o (filter (λ (row : StagedRow). not (bytes_eq row.path fix.path)) (map staged_row files))) (map staged_row after))
+    (sym entry)
+    (subst (λ (l : List StagedRow). IsPermutation (with_entry_at fix.path (entry_of fix.path after) l) (map staged_row after)) (sym rows)
+    (whole fix.path after (IsRising-apply_at fix.path fix.now files rising)))
 
-accepted_rows : (fixes : List Change) (files : List File) → IsRising files → IsRisingChanges fixes → IsPermutation (all_rewritten (apply_changes fixes files) fixes (map staged_row files)) (map staged_row (apply_changes fixes files))
+accepted_rows : (fixes : List Change) (files : List File) → IsRising files → IsRisingChanges fixes
+    → IsPermutation (all_rewritten (apply_changes fixes files) fixes (map staged_row files)) (map staged_row (apply_changes fixes files))
 accepted_rows [] files rising up = IsPermutation-refl (map staged_row files)
 accepted_rows (fix ∷ fixes) files rising up =
     let after = apply_at fix.path fix.now files in
@@ -125,21 +135,26 @@ accepted_rows (fix ∷ fixes) files rising up =
 alike_rewritten : (fixes : List Change) (files others : List File) (rows : List StagedRow) → HaveSameFixed fixes files others → all_rewritten files fixes rows ≡ all_rewritten others fixes rows
 alike_rewritten [] files others rows same = refl
 alike_rewritten (fix ∷ fixes) files others rows same =
-    ap (λ (o : Option FileEntry). all_rewritten files fixes (with_entry_at fix.path o (filter (λ (row : StagedRow). not (bytes_eq row.path fix.path)) rows))) same.0 ∙ alike_rewritten fixes files others (rewritten others fix.path rows) same.1
+    ap (λ (o : Option FileEntry). all_rewritten files fixes (with_entry_at fix.path o (filter (λ (row : StagedRow). not (bytes_eq row.path fix.path)) rows))) same.0
+    ∙ alike_rewritten fixes files others (rewritten others fix.path rows) same.1
 
 -- what the code hands over makes of the tables those of the accepted fixes
-pub accepting_handed : (files : List File) (fixes : List Change) (kept : Kept) → IsSound kept.repo → HaveSameFixed kept.repo.fixes files (apply_changes kept.repo.fixes kept.repo.staged) → fixes ≡ kept.repo.fixes
+pub accepting_handed : (files : List File) (fixes : List Change) (kept : Kept) → IsSound kept.repo → HaveSameFixed kept.repo.fixes files (apply_changes kept.repo.fixes kept.repo.staged)
+    → fixes ≡ kept.repo.fixes
     → IsSame (with_staged_rows (all_rewritten files fixes (tables_of kept).staged) (without_fixes (tables_of kept))) (tables_of (accepting kept))
 accepting_handed files fixes kept sound files_same fixes_is =
     let staged = map staged_row kept.repo.staged in
     subst (λ (l : List Change). IsSame (with_staged_rows (all_rewritten files l staged) (without_fixes (tables_of kept))) (tables_of (accepting kept))) (sym fixes_is)
-    (subst (λ (l : List StagedRow). IsSame (with_staged_rows l (without_fixes (tables_of kept))) (tables_of (accepting kept))) (sym (alike_rewritten kept.repo.fixes files (apply_changes kept.repo.fixes kept.repo.staged) staged files_same))
-    (same_staged (with_staged_rows (all_rewritten (apply_changes kept.repo.fixes kept.repo.staged) kept.repo.fixes staged) (without_fixes (tables_of kept))) (map staged_row (apply_changes kept.repo.fixes kept.repo.staged))
+    (subst (λ (l : List StagedRow). IsSame (with_staged_rows l (without_fixes (tables_of kept))) (tables_of (accepting kept)))
+    (sym (alike_rewritten kept.repo.fixes files (apply_changes kept.repo.fixes kept.repo.staged) staged files_same))
+    (same_staged (with_staged_rows (all_rewritten (apply_changes kept.repo.fixes kept.repo.staged) kept.repo.fixes staged) (without_fixes (tables_of kept)))
+    (map staged_row (apply_changes kept.repo.fixes kept.repo.staged))
     (accepted_rows kept.repo.fixes kept.repo.staged sound.staged_rise sound.fixes_rise)))
 
 -- ---- one fix more, at a step of the loop
 
-last_rewritten : (files : List File) (fixes : List Change) (fix : Change) (rows : List StagedRow) → all_rewritten files (fixes ++ fix ∷ []) rows ≡ rewritten files fix.path (all_rewritten files fixes rows)
+last_rewritten : (files : List File) (fixes : List Change) (fix : Change) (rows : List StagedRow)
+    → all_rewritten files (fixes ++ fix ∷ []) rows ≡ rewritten files fix.path (all_rewritten files fixes rows)
 last_rewritten files [] fix rows = refl
 last_rewritten files (first ∷ fixes) fix rows = last_rewritten files fixes fix (rewritten files first.path rows)
 
@@ -159,5 +174,6 @@ rewrites_more g old mid new files fixes i fix within is one two =
     let rows : rewritten files fix.path (all_rewritten files (map fix_of (take i fixes)) t.staged) ≡ all_rewritten files (map fix_of (take (i + 1) fixes)) t.staged =
     sym (last_rewritten files (map fix_of (take i fixes)) (fix_of fix) t.staged) ∙ ap (λ (l : List Change). all_rewritten files l t.staged) (sym more) in
     same_staged (put (before t)) (all_rewritten files (map fix_of (take (i + 1) fixes)) t.staged)
-    (subst (λ (l : List StagedRow). IsPermutation (rewritten files fix.path (all_rewritten files (map fix_of (take i fixes)) t.staged)) l) rows (IsPermutation-refl (rewritten files fix.path (all_rewritten files (map fix_of (take i fixes)) t.staged)))))
+    (subst (λ (l : List StagedRow). IsPermutation (rewritten files fix.path (all_rewritten files (map fix_of (take i fixes)) t.staged)) l) rows
+    (IsPermutation-refl (rewritten files fix.path (all_rewritten files (map fix_of (take i fixes)) t.staged)))))
     both

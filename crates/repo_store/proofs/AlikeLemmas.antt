@@ -44,7 +44,8 @@ module _ (contents : List (List ℕ)) (apart : HaveDistinctDigests contents) whe
 found : (x : KeptAnswer) (answers : List KeptAnswer) → HaveOwnDigests answers → Contains answers x → of_key (key_of x) answers ≡ Some x
 found x answers own there = go answers own there.0 there.1 there.2
   where
-    apart_at : (y : KeptAnswer) (answers : List KeptAnswer) → AllByRecursion (λ (z : KeptAnswer). ¬ (key_of y ≡ key_of z)) answers → (k : ℕ) → k < length answers → get_or answers k x ≡ x → ¬ (key_of y ≡ key_of x)
+    apart_at : (y : KeptAnswer) (answers : List KeptAnswer) → AllByRecursion (λ (z : KeptAnswer). ¬ (key_of y ≡ key_of z)) answers → (k : ℕ) → k < length answers → get_or answers k x ≡ x
+        → ¬ (key_of y ≡ key_of x)
     apart_at y [] all k within at = absurd (omega arith)
     apart_at y (z ∷ answers) all zero within at = subst (λ (w : KeptAnswer). ¬ (key_of y ≡ key_of w)) at all.0
     apart_at y (z ∷ answers) all (suc k) within at = apart_at y answers all.1 k (omega arith) at
@@ -83,7 +84,8 @@ same_list xs ys own moved keys =
 -- ---- stores
 
 uses_moved : (next : ℕ) (rows others : List UseRow) (answers : List KeptAnswer) → IsPermutation rows others → AreUsesOf next others answers → AreUsesOf next rows answers
-uses_moved next rows others answers moved it = record { ticks = it.ticks; as_many = it.as_many; fall = it.fall; rows_are = IsPermutation-trans rows others (use_rows answers it.ticks) moved it.rows_are }
+uses_moved next rows others answers moved it =
+    record { ticks = it.ticks; as_many = it.as_many; fall = it.fall; rows_are = IsPermutation-trans rows others (use_rows answers it.ticks) moved it.rows_are }
 
 pub held_alike : (db : Database) (a b : Kept) → IsComplete a → IsComplete b → HoldsStore db a → HoldsStore db b → AreAlike a b
 held_alike db a b obeys other holds also =

@@ -16,7 +16,7 @@ use Rattle.repo_store.specs.Answers.{KeptAnswer, HaveOwnKeys, answer_for, have_o
 use Rattle.repo_store.specs.Complete.{HasRecords, HaveDistinctDigests, HaveRecords}
 use Rattle.repo_store.specs.Index.{Key, key_of, keys_eq}
 use Rattle.store_faults.specs.Limits.{IsLimit}
-use Rattle.repo_store.specs.ListedAnswers.{IsListed, IsNextTick, ListedAnswers, brought, entry_of, first_key, has_key, keyed, of_key, of_other_keys}
+use Rattle.repo_store.specs.ListedAnswers.{IsListed, IsNextTick, ListedAnswers, brought_answers, keyed_answer, first_key, has_key, keyed, of_key, of_other_keys}
 use Rattle.repo_store.specs.Remembered.{TellsKey}
 use Rattle.repo_store.specs.SoundAnswers.{IsSoundAnswer}
 use Rattle.repo_store.specs.UsedAnswers.{in_front, in_front_if_any, used, without_key}
@@ -70,12 +70,14 @@ key_is key answer h = sym ((keys_decide key (key_of answer)).0 h)
 pub found_value : (key : Key) (answers : List KeptAnswer) → lookup (keys_eq key) (keyed answers) ≡ of_key key answers
 found_value key [] = refl
 found_value key (answer ∷ answers) =
-    elim (keys_eq key (key_of answer)) as (λ b. cond b (Some answer) (lookup (keys_eq key) (keyed answers)) ≡ (if b then Some answer else of_key key answers)) [ true ↦ refl | false ↦ found_value key answers ]
+    elim (keys_eq key (key_of answer)) as (λ b. cond b (Some answer) (lookup (keys_eq key) (keyed answers)) ≡ (if b then Some answer else of_key key answers))
+    [ true ↦ refl | false ↦ found_value key answers ]
 
-found_entry : (key : Key) (answers : List KeptAnswer) → lookup_entry (keys_eq key) (keyed answers) ≡ option_map entry_of (of_key key answers)
+found_entry : (key : Key) (answers : List KeptAnswer) → lookup_entry (keys_eq key) (keyed answers) ≡ option_map keyed_answer (of_key key answers)
 found_entry key [] = refl
 found_entry key (answer ∷ answers) =
-    elim (keys_eq key (key_of answer)) as (λ b. cond b (Some (entry_of answer)) (lookup_entry (keys_eq key) (keyed answers)) ≡ option_map entry_of (if b then Some answer else of_key key answers)) [
+    elim (keys_eq key (key_of answer)) as (λ b. cond b (Some (keyed_answer answer)) (lookup_entry (keys_eq key) (keyed answers))
+    ≡ option_map keyed_answer (if b then Some answer else of_key key answers)) [
       | true ↦ refl
       | false ↦ found_entry key answers
     ]
@@ -136,11 +138,11 @@ others_left key [] once = refl
 others_left key (answer ∷ answers) once =
     let rest : Entries = remove_entry (keys_eq key) (keyed answers) in
     elim (keys_eq key (key_of answer)) as (λ b. keys_eq key (key_of answer) ≡ b
-    → cond b (keyed answers) (entry_of answer ∷ rest) ≡ keyed (if not b then answer ∷ of_other_keys key answers else of_other_keys key answers)) [
+    → cond b (keyed answers) (keyed_answer answer ∷ rest) ≡ keyed (if not b then answer ∷ of_other_keys key answers else of_other_keys key answers)) [
       | true ↦ λ e.
           let apart = IsDistinct-head keys_eq (key_of answer) (keys_of (keyed answers)) once in
           ap keyed (apart_stay key answers (subst (λ (k : Key). AllByRecursion (λ other. keys_eq k other ≡ false) (keys_of (keyed answers))) (sym ((keys_decide key (key_of answer)).0 e)) apart))
-      | false ↦ λ e. ap (λ (l : Entries). entry_of answer ∷ l) (others_left key answers (IsDistinct-tail keys_eq (key_of answer) (keys_of (keyed answers)) once))
+      | false ↦ λ e. ap (λ (l : Entries). keyed_answer answer ∷ l) (others_left key answers (IsDistinct-tail keys_eq (key_of answer) (keys_of (keyed answers)) once))
     ] refl
 
 keys_apart : (answer : KeptAnswer) (answers : List KeptAnswer) → AllByRecursion (λ other. keys_eq (key_of answer) other ≡ false) (keys_of (keyed answers))
@@ -156,7 +158,8 @@ keys_apart answer (other ∷ others) apart = (
 
 own_keys : (answers : List KeptAnswer) → IsDistinct keys_eq (keys_of (keyed answers)) → HaveOwnKeys answers
 own_keys [] once = tt
-own_keys (answer ∷ answers) once = (keys_apart answer answers (IsDistinct-head keys_eq (key_of answer) (keys_of (keyed answers)) once), own_keys answers (IsDistinct-tail keys_eq (key_of answer) (keys_of (keyed answers)) once))
+own_keys (answer ∷ answers) once =
+    (keys_apart answer answers (IsDistinct-head keys_eq (key_of answer) (keys_of (keyed answers)) once), own_keys answers (IsDistinct-tail keys_eq (key_of answer) (keys_of (keyed answers)) once))
 
 -- ---- the calls of a cache
 
@@ -177,18 +180,18 @@ others_told answer (other ∷ others) tells =
 
 module _ (entries : Entries) (is : entries ≡ keyed (values_of entries)) where
   pub taken : (count : ℕ) → take count entries ≡ keyed (take count (values_of entries))
-  taken count = ap (take count) is ∙ take-map entry_of count (values_of entries)
+  taken count = ap (take count) is ∙ take-map keyed_answer count (values_of entries)
 
   pub dropped : (count : ℕ) → drop count entries ≡ keyed (drop count (values_of entries))
-  dropped count = ap (drop count) is ∙ drop-map entry_of count (values_of entries)
+  dropped count = ap (drop count) is ∙ drop-map keyed_answer count (values_of entries)
 
   pub found_is : (key : Key) → lookup (keys_eq key) entries ≡ of_key key (values_of entries)
   found_is key = ap (lookup (keys_eq key)) is ∙ found_value key (values_of entries)
 
   pub key_at : (place : ℕ) → option_map (λ (e : Key × KeptAnswer). e.0) (slice_get entries place) ≡ option_map key_of (slice_get (values_of entries) place)
   key_at place =
-      ap (λ (l : Entries). option_map (λ (e : Key × KeptAnswer). e.0) (slice_get l place)) is ∙ ap (option_map (λ (e : Key × KeptAnswer). e.0)) (slice_get-map entry_of (values_of entries) place)
-      ∙ elim (slice_get (values_of entries) place) as (λ o. option_map (λ (e : Key × KeptAnswer). e.0) (option_map entry_of o) ≡ option_map key_of o) [ None ↦ refl | Some answer ↦ refl ]
+      ap (λ (l : Entries). option_map (λ (e : Key × KeptAnswer). e.0) (slice_get l place)) is ∙ ap (option_map (λ (e : Key × KeptAnswer). e.0)) (slice_get-map keyed_answer (values_of entries) place)
+      ∙ elim (slice_get (values_of entries) place) as (λ o. option_map (λ (e : Key × KeptAnswer). e.0) (option_map keyed_answer o) ≡ option_map key_of o) [ None ↦ refl | Some answer ↦ refl ]
 
   module _ (once : IsDistinct keys_eq (keys_of entries)) where
     once_keyed : IsDistinct keys_eq (keys_of (keyed (values_of entries)))
@@ -197,12 +200,13 @@ module _ (entries : Entries) (is : entries ≡ keyed (values_of entries)) where
     pub keys_own : HaveOwnKeys (values_of entries)
     keys_own = own_keys (values_of entries) once_keyed
 
-    pub promoted_is : (key : Key) → promoted (keys_eq key) entries ≡ keyed (brought key (values_of entries))
+    pub promoted_is : (key : Key) → promoted (keys_eq key) entries ≡ keyed (brought_answers key (values_of entries))
     promoted_is key =
         let answers = values_of entries in
         let others = of_other_keys key answers in
-        ap (promoted (keys_eq key)) is ∙ ap₂ (λ (o : Option (Key × KeptAnswer)) (l : Entries). option_map_or (λ e. e ∷ l) o (keyed answers)) (found_entry key answers) (others_left key answers once_keyed)
-        ∙ elim (of_key key answers) as (λ o. option_map_or (λ e. e ∷ keyed others) (option_map entry_of o) (keyed answers) ≡ keyed (option_map_or (λ answer. answer ∷ others) o answers)) [
+        ap (promoted (keys_eq key)) is ∙ ap₂ (λ (o : Option (Key × KeptAnswer)) (l : Entries). option_map_or (λ e. e ∷ l) o (keyed answers)) (found_entry key answers)
+        (others_left key answers once_keyed)
+        ∙ elim (of_key key answers) as (λ o. option_map_or (λ e. e ∷ keyed others) (option_map keyed_answer o) (keyed answers) ≡ keyed (option_map_or (λ answer. answer ∷ others) o answers)) [
           | None ↦ refl
           | Some answer ↦ refl
         ]
@@ -214,7 +218,7 @@ module _ (entries : Entries) (is : entries ≡ keyed (values_of entries)) where
         let key = key_of answer in
         let one = one_found key answers any in
         let other = found_there key one.0 answers one.1 in
-        let there : lookup_entry (keys_eq key) entries ≡ Some (entry_of one.0) = ap (lookup_entry (keys_eq key)) is ∙ found_entry key answers ∙ ap (option_map entry_of) one.1 in
+        let there : lookup_entry (keys_eq key) entries ≡ Some (keyed_answer one.0) = ap (lookup_entry (keys_eq key)) is ∙ found_entry key answers ∙ ap (option_map keyed_answer) one.1 in
         let left : remove_entry (keys_eq key) entries ≡ keyed (of_other_keys key answers) = ap (remove_entry (keys_eq key)) is ∙ others_left key answers once_keyed in
         let rest : Entries = (key, answer) ∷ take (cap - 1) entries in
         ap₂ (λ (o : Option (Key × KeptAnswer)) (l : Entries). option_map_or (λ e. (e.0, answer) ∷ l) o rest) there left
@@ -225,7 +229,7 @@ module _ (entries : Entries) (is : entries ≡ keyed (values_of entries)) where
   added_is answer cap none room =
       let answers = values_of entries in
       let key = key_of answer in
-      let absent : lookup_entry (keys_eq key) entries ≡ None = ap (lookup_entry (keys_eq key)) is ∙ found_entry key answers ∙ ap (option_map entry_of) (none_found key answers none) in
+      let absent : lookup_entry (keys_eq key) entries ≡ None = ap (lookup_entry (keys_eq key)) is ∙ found_entry key answers ∙ ap (option_map keyed_answer) (none_found key answers none) in
       ap (λ (o : Option (Key × KeptAnswer)). option_map_or (λ e. (e.0, answer) ∷ remove_entry (keys_eq key) entries) o ((key, answer) ∷ take (cap - 1) entries)) absent
       ∙ ap (λ (l : Entries). (key, answer) ∷ l) (take_all (cap - 1) entries room ∙ is)
 
@@ -278,7 +282,8 @@ pub keys_turned : (answers : List KeptAnswer) (keys : List Key) → keys ≡ map
 keys_turned answers keys is = ap reverse is ∙ turned_onto answers []
 
 -- whether the first key of a cache is this one
-pub first_is : (list : ListedAnswers) (entries : Entries) (key : Key) (answer : KeptAnswer) → entries ≡ keyed (values_of entries) → values_of entries ≡ list.answers → Some (key, answer) ≡ slice_get entries 0
+pub first_is : (list : ListedAnswers) (entries : Entries) (key : Key) (answer : KeptAnswer) → entries ≡ keyed (values_of entries) → values_of entries ≡ list.answers
+    → Some (key, answer) ≡ slice_get entries 0
     → first_key list.answers ≡ Some key
 first_is list entries key answer keys shown is = ap first_key (sym shown) ∙ sym (key_at entries keys 0) ∙ ap (option_map (λ (e : Key × KeptAnswer). e.0)) (sym is)
 
@@ -296,7 +301,7 @@ told_for answer [] tells = refl
 told_for answer (other ∷ others) tells = ap₂ (λ (b : Bool) (o : Option KeptAnswer). if b then Some other else o) (has_told answer other tells.0) (told_for answer others tells.1)
 
 brought_told : (words : List (List ℕ)) (seen : List File) (answer : KeptAnswer) (answers : List KeptAnswer) → AllByRecursion (TellsKey answer) answers → answer_for words seen answers ≡ Some answer
-    → brought (key_of answer) answers ≡ used words seen answers
+    → brought_answers (key_of answer) answers ≡ used words seen answers
 brought_told words seen answer answers tells found =
     let same = (is_for_decides words seen answer).0 (found_for words seen answer answers found).1 in
     let own : answer_for answer.words answer.seen answers ≡ Some answer = ap₂ (λ (w : List (List ℕ)) (s : List File). answer_for w s answers) same.0 same.1 ∙ found in
@@ -304,9 +309,9 @@ brought_told words seen answer answers tells found =
     ∙ sym (ap (λ (o : Option KeptAnswer). in_front_if_any o answers) found)
 
 module _ (contents : List (List ℕ)) (apart : HaveDistinctDigests contents) where
-  -- the answer that is found is brought to the front by the digests of its key
+  -- the answer that is found is brought_answers to the front by the digests of its key
   pub brought_used : (words : List (List ℕ)) (seen : List File) (answer : KeptAnswer) (key : Key) (answers : List KeptAnswer) → AllByRecursion IsSoundAnswer answers → HaveRecords contents answers
-      → answer_for words seen answers ≡ Some answer → key_of answer ≡ key → brought key answers ≡ used words seen answers
+      → answer_for words seen answers ≡ Some answer → key_of answer ≡ key → brought_answers key answers ≡ used words seen answers
   brought_used words seen answer key answers sound have found is =
       let kept = All-contains (HasRecords contents) answers answer (All-from_recursion (HasRecords contents) answers have) (found_for words seen answer answers found).0 in
-      ap (λ (k : Key). brought k answers) (sym is) ∙ brought_told words seen answer answers (told_by contents apart answer kept answers sound have) found
+      ap (λ (k : Key). brought_answers k answers) (sym is) ∙ brought_told words seen answer answers (told_by contents apart answer kept answers sound have) found

@@ -8,9 +8,8 @@ use Rattle.std.proofs.lemmas.Bool.{or_cases}
 use Rattle.std.proofs.lemmas.List.{get_or-map, length-map}
 use Rattle.std.proofs.lemmas.List.Folds.{list_any_at}
 use Rattle.sha2.specs.Sha256.{sha256}
-use Rattle.sha2.proofs.Facts256.{length-sha256}
+use Rattle.repo_store.proofs.Kit.{contains_had, length-sha256}
 use Rattle.sqlite_rules.specs.Lists.{Has}
-use Rattle.sqlite_rules.proofs.ListLemmas.{contains_had}
 use Rattle.hook_base.specs.declared.change.Change.{Change}
 use Rattle.hook_base.specs.declared.file.File.{File}
 use Rattle.hook_base.specs.Rising.{IsBelowAll, IsRisingBy}
@@ -27,7 +26,7 @@ use Rattle.repo_store.specs.Answers.{KeptAnswer}
 use Rattle.repo_store.specs.Complete.{HasRecords, HaveContents, HaveNewContents, HaveRecords, IsAmong}
 use Rattle.repo_store.specs.Contents.{Collides, has_content}
 use Rattle.store_faults.specs.Limits.{most_status}
-use Rattle.repo_store.specs.RowRules.{AreSeen, HasKept, HaveKeptContents, HaveKeptNewContents, IsAnswerRow, is_kept, is_seen}
+use Rattle.repo_store.specs.RowRules.{AreSeen, HasKept, HaveKeptContents, HaveKeptNewContents, IsAnswerRow, is_kept, is_of_seen_file}
 use Rattle.repo_store.specs.Rows.{answer_row, blob_row}
 use Rattle.repo_store.specs.SharedAnswers.{IsWritten}
 use Rattle.repo_store.specs.SoundAnswers.{IsSoundAnswer, KeepToSeen}
@@ -38,7 +37,8 @@ use Rattle.repo_store.specs.WrittenAnswers.{written_changes, written_seen, writt
 pub kept_row : (bytes : List ℕ) (contents : List (List ℕ)) → IsAmong contents bytes → is_kept (map blob_row contents) (sha256 bytes) ≡ true
 kept_row bytes [] there = there
 kept_row bytes (other ∷ contents) there =
-    elim (bytes_eq bytes other) as (λ b. bytes_eq bytes other ≡ b → (b || has_content bytes contents) ≡ true → (bytes_eq (sha256 bytes) (sha256 other) || is_kept (map blob_row contents) (sha256 bytes)) ≡ true) [
+    elim (bytes_eq bytes other) as (λ b. bytes_eq bytes other ≡ b → (b || has_content bytes contents) ≡ true
+    → (bytes_eq (sha256 bytes) (sha256 other) || is_kept (map blob_row contents) (sha256 bytes)) ≡ true) [
       | true ↦ λ e _. ap (λ b. b || is_kept (map blob_row contents) (sha256 bytes)) (bytes_same (sha256 bytes) (sha256 other) (ap sha256 ((bytes_decides bytes other).0 e)))
       | false ↦ λ _ later.
           elim (bytes_eq (sha256 bytes) (sha256 other)) as (λ b. (b || is_kept (map blob_row contents) (sha256 bytes)) ≡ true) [ true ↦ refl | false ↦ kept_row bytes contents later ]
@@ -69,7 +69,13 @@ kept_alone AreSuch digest content contents named alone kept =
     let within = kept.kept.1 in
     elim (bytes_eq kept.blob.bytes content) as (λ b. bytes_eq kept.blob.bytes content ≡ b → AreSuch content) [
       | true ↦ λ e. subst AreSuch ((bytes_decides kept.blob.bytes content).0 e) kept.such
-      | false ↦ λ e. absurd (alone (record { at = at; within = omega (arith, length-map contents blob_row); same_digest = same; differs = λ (one : get_or contents at [] ≡ content). let never = bytes_same kept.blob.bytes content (bytes ∙ one) in cc }))
+      | false ↦ λ e. absurd (alone (record {
+        at = at;
+        within = omega (arith, length-map contents blob_row);
+        same_digest = same;
+        differs = λ (one : get_or contents at [] ≡ content). let never =
+            bytes_same kept.blob.bytes content (bytes ∙ one) in cc;
+      }))
     ] refl
 
 pub not_kept : (AreSuch : List ℕ → Type 0) (digest : List ℕ) (blobs : List BlobRow) → is_kept blobs digest ≡ false → ¬ HasKept blobs digest AreSuch
@@ -89,10 +95,12 @@ module _ {X : Type 0} (IsRecord : X → List ℕ → Type 0) (digest content : L
 
 -- ---- what a reader answers
 
-pub none_decoded : {X : Type 0} (IsRecord : X → List ℕ → Type 0) (bytes content : List ℕ) (read : Option X) → bytes ≡ content → read ≡ None → Decodes IsRecord bytes read → (value : X) → ¬ IsRecord value content
+pub none_decoded : {X : Type 0} (IsRecord : X → List ℕ → Type 0) (bytes content : List ℕ) (read : Option X) → bytes ≡ content → read ≡ None → Decodes IsRecord bytes read → (value : X)
+    → ¬ IsRecord value content
 none_decoded IsRecord bytes content read same none decodes = subst (λ (b : List ℕ). Decodes IsRecord b None) same (subst (Decodes IsRecord bytes) none decodes)
 
-pub one_decoded : {X : Type 0} (IsRecord : X → List ℕ → Type 0) (bytes content : List ℕ) (read : Option X) (value : X) → bytes ≡ content → read ≡ Some value → Decodes IsRecord bytes read → IsRecord value content
+pub one_decoded : {X : Type 0} (IsRecord : X → List ℕ → Type 0) (bytes content : List ℕ) (read : Option X) (value : X) → bytes ≡ content → read ≡ Some value → Decodes IsRecord bytes read
+    → IsRecord value content
 one_decoded IsRecord bytes content read value same some decodes = subst (λ (b : List ℕ). IsRecord value b) same (subst (Decodes IsRecord bytes) some decodes)
 
 -- ---- records of what an answer has
@@ -165,10 +173,11 @@ module _ (contents : List (List ℕ)) where
   new_kept [] have = tt
   new_kept (change ∷ changes) have = (now_kept change.now have.0, new_kept changes have.1)
 
-seen_as_entry : (path : List ℕ) (files : List File) → is_some (entry_of path files) ≡ is_seen (seen_of_files files) path
+seen_as_entry : (path : List ℕ) (files : List File) → is_some (entry_of path files) ≡ is_of_seen_file (seen_of_files files) path
 seen_as_entry path [] = refl
 seen_as_entry path (file ∷ files) =
-    elim (bytes_eq path file.path) as (λ b. is_some (if b then Some file.entry else entry_of path files) ≡ (b || is_seen (seen_of_files files) path)) [ true ↦ refl | false ↦ seen_as_entry path files ]
+    elim (bytes_eq path file.path) as (λ b. is_some (if b then Some file.entry else entry_of path files) ≡ (b || is_of_seen_file (seen_of_files files) path))
+    [ true ↦ refl | false ↦ seen_as_entry path files ]
 
 are_seen : (changes : List Change) (files : List File) → KeepToSeen changes files → AreSeen (changed_of_changes changes) (seen_of_files files)
 are_seen [] files keep = tt
@@ -187,14 +196,17 @@ answer_rule contents answer sound have = record {
   seen_contents = seen_kept contents answer.seen have.seen_contents;
   output_kept = kept_row answer.output contents have.output;
   changed = changed_of_changes answer.changes;
-  changes_kept = kept_among (IsChangesRecord (changed_of_changes answer.changes)) (written_changes answer) contents have.changes (changes_recorded answer.changes sound.changes_legal sound.changes_rise sound.changes_fit);
+  changes_kept =
+      kept_among (IsChangesRecord (changed_of_changes answer.changes)) (written_changes answer) contents have.changes
+      (changes_recorded answer.changes sound.changes_legal sound.changes_rise sound.changes_fit);
   new_contents = new_kept contents answer.changes have.new_contents;
   keeps_to_seen = are_seen answer.changes answer.seen sound.keeps_to_seen;
   status_known = record { code = answer.status; is = refl; within = sound.status_known };
 }
 
 -- answers that are complete stand in rows that obey the rule
-pub answer_rows : (contents : List (List ℕ)) (answers : List KeptAnswer) → AllByRecursion IsSoundAnswer answers → HaveRecords contents answers → AllByRecursion (IsAnswerRow (map blob_row contents)) (map answer_row answers)
+pub answer_rows : (contents : List (List ℕ)) (answers : List KeptAnswer) → AllByRecursion IsSoundAnswer answers → HaveRecords contents answers
+    → AllByRecursion (IsAnswerRow (map blob_row contents)) (map answer_row answers)
 answer_rows contents [] sound have = tt
 answer_rows contents (answer ∷ answers) sound have = (answer_rule contents answer sound.0 have.0, answer_rows contents answers sound.1 have.1)
 
@@ -214,7 +226,8 @@ unfolding words_record seen_record changes_record
 records_written answer words seen changes told =
     record { words_written = told.words_told.spelled; seen_written = told.seen_told.listed.spelled; changes_written = told.changes_told.listed.spelled }
 
-pub records_sound : (answer : KeptAnswer) (words seen changes : List ℕ) → AreRecords answer words seen changes → KeepToSeen answer.changes answer.seen → answer.status ≤ most_status → IsSoundAnswer answer
+pub records_sound : (answer : KeptAnswer) (words seen changes : List ℕ) → AreRecords answer words seen changes → KeepToSeen answer.changes answer.seen → answer.status ≤ most_status
+    → IsSoundAnswer answer
 records_sound answer words seen changes told keep status =
     let written = records_written answer words seen changes told in
     record {
@@ -237,13 +250,16 @@ same_row : (a b c d e f g h : List ℕ) (m n : ℤ) → a ≡ b → c ≡ d → 
 same_row a b c d e f g h m n words seen output changes status = cc
 
 -- so the row shows it
-pub row_shown : (answer : KeptAnswer) (row : AnswerRow) (words seen changes : List ℕ) → IsWritten answer words seen changes → sha256 words ≡ row.words → sha256 seen ≡ row.seen → sha256 answer.output ≡ row.output
+pub row_shown : (answer : KeptAnswer) (row : AnswerRow) (words seen changes : List ℕ) → IsWritten answer words seen changes → sha256 words ≡ row.words → sha256 seen ≡ row.seen
+    → sha256 answer.output ≡ row.output
     → sha256 changes ≡ row.changes → pos answer.status ≡ row.status → answer_row answer ≡ row
 row_shown answer row words seen changes written words_named seen_named output_named changes_named status =
-    same_row (sha256 (written_words answer)) row.words (sha256 (written_seen answer)) row.seen (sha256 answer.output) row.output (sha256 (written_changes answer)) row.changes (pos answer.status) row.status
+    same_row (sha256 (written_words answer)) row.words (sha256 (written_seen answer)) row.seen (sha256 answer.output) row.output (sha256 (written_changes answer)) row.changes (pos answer.status)
+    row.status
     (ap sha256 (sym written.words_written) ∙ words_named) (ap sha256 (sym written.seen_written) ∙ seen_named) output_named (ap sha256 (sym written.changes_written) ∙ changes_named) status
 
-pub records_kept : (contents : List (List ℕ)) (answer : KeptAnswer) (words seen changes : List ℕ) → IsWritten answer words seen changes → IsAmong contents words → IsAmong contents seen → IsAmong contents answer.output → IsAmong contents changes
+pub records_kept : (contents : List (List ℕ)) (answer : KeptAnswer) (words seen changes : List ℕ) → IsWritten answer words seen changes → IsAmong contents words → IsAmong contents seen
+    → IsAmong contents answer.output → IsAmong contents changes
     → HaveContents contents answer.seen → HaveNewContents contents answer.changes → HasRecords contents answer
 records_kept contents answer words seen changes written words_in seen_in output_in changes_in have have_new = record {
   words = subst (IsAmong contents) written.words_written words_in;
@@ -255,7 +271,8 @@ records_kept contents answer words seen changes written words_in seen_in output_
 }
 
 -- where a change is of no file that was seen, no values of the records obey the rule
-pub not_seen : (blobs : List BlobRow) (row : AnswerRow) (files : List File) (changes : List Change) → ((other : List SeenFile) → HasKept blobs row.seen (IsSeenRecord other) → other ≡ seen_of_files files)
+pub not_seen : (blobs : List BlobRow) (row : AnswerRow) (files : List File) (changes : List Change)
+    → ((other : List SeenFile) → HasKept blobs row.seen (IsSeenRecord other) → other ≡ seen_of_files files)
     → ((other : List ChangedFile) → HasKept blobs row.changes (IsChangesRecord other) → other ≡ changed_of_changes changes) → ¬ KeepToSeen changes files → ¬ IsAnswerRow blobs row
 not_seen blobs row files changes seen_only changes_only strays rule =
     let seen = subst (AreSeen rule.changed) (seen_only rule.seen rule.seen_kept) rule.keeps_to_seen in

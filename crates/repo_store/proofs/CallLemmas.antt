@@ -4,16 +4,14 @@ use Rattle.std.proofs.lemmas.Bool.{both_ways}
 use Rattle.sqlite_trees.specs.declared.store.Store.{Ghosts}
 use Rattle.sqlite_trees.specs.Tree.{Trees}
 use Rattle.sqlite_trees.specs.View.{doubt}
-use Rattle.sqlite_trees.proofs.Doubt.{no_doubt}
+use Rattle.repo_store.proofs.Kit.{keeps_then, no_doubt, survives_then}
 use Rattle.sqlite.specs.declared.error.Error.{Error}
 use Rattle.sqlite.specs.Effect.{Database}
 use Rattle.sqlite.specs.Held.{Held, state}
 use Rattle.sqlite.specs.State.{State, HasCleanDisk, Survives}
-use Rattle.sqlite.proofs.InsideLemmas.{keeps_then}
-use Rattle.sqlite.proofs.StateLemmas.{survives_then}
 use Rattle.store_tables.specs.declared.rows.UseRow.{UseRow}
 use Rattle.store_tables.specs.Schema.{store_with}
-use Rattle.store_tables.specs.Steps.{IsMade, IsStep, IsDone}
+use Rattle.store_tables.specs.Steps.{IsMade, IsStep, IsStatementDone}
 use Rattle.store_tables.specs.Tables.{Tables}
 use Rattle.store_tables.specs.Uses.{HoldsRows, as_store}
 use Rattle.store_tables.proofs.StepLemmas.{more_then}
@@ -66,7 +64,8 @@ rests_always (Err e) old new dirty clean = record {
   committed = λ h. (clean (clean_if_open new.is_clean new.is_open dirty h)).committed h;
 }
 
-pub whole_call : {S A : Type 0} (g : Ghosts S) (old new : Held S) (r : Result A Error) (Before After : Database → Type 0) → ((state g new).is_clean ≡ false → (state g new).is_open ≡ false) → IsCleanCall g old new r Before After → IsCall g old new r Before After
+pub whole_call : {S A : Type 0} (g : Ghosts S) (old new : Held S) (r : Result A Error) (Before After : Database → Type 0) → ((state g new).is_clean ≡ false → (state g new).is_open ≡ false)
+    → IsCleanCall g old new r Before After → IsCall g old new r Before After
 whole_call g old new r Before After dirty call = record {
   outside = call.outside;
   done = call.done;
@@ -82,7 +81,8 @@ pub leaves_commit : (db : Database) (trees : Trees) (next : ℕ) (answers : List
 leaves_commit db trees next answers t h is = subst (λ (l : Trees). HoldsListed next answers (as_store l) t) (sym is) (holds_as db next answers t h)
 
 module _ {S A : Type 0} (g : Ghosts S) (a b c : Held S) (r : Result A Error) (first second : Tables → Tables) (one : IsStep {A = Unit {0}} g a b (Ok tt) first) (two : IsStep g b c r second) where
-  both_done : (r : Result A Error) → IsDone (state g a) (state g b) first → OnOk r (IsDone (state g b) (state g c) second) → OnOk r (IsDone (state g a) (state g c) (λ t. second (first t)))
+  both_done : (r : Result A Error) → IsStatementDone (state g a) (state g b) first → OnOk r (IsStatementDone (state g b) (state g c) second)
+      → OnOk r (IsStatementDone (state g a) (state g c) (λ t. second (first t)))
   both_done (Err e) p q = tt
   both_done (Ok x) p q = record {
     shown = record { was_open = p.shown.was_open; is_open = q.shown.is_open; now_is = refl; committed_is = q.shown.committed_is ∙ p.shown.committed_is; mode = q.shown.mode };

@@ -5,7 +5,7 @@ use Rattle.std.specs.List.{Any}
 use Rattle.std.specs.Str.{bytes_eq}
 use Rattle.std.proofs.lemmas.List.Folds.{list_any_at}
 use Rattle.sha2.specs.Sha256.{sha256}
-use Rattle.sha2.proofs.Facts256.{length-sha256}
+use Rattle.repo_store.proofs.Kit.{length-sha256}
 use Rattle.hook_base.specs.RisingLemmas.{bytes_same, bytes_differ}
 use Rattle.repo_store.specs.Complete.{IsAmong}
 use Rattle.repo_store.specs.Contents.{has_digest}
@@ -30,7 +30,8 @@ no_digest digest (bytes ∷ contents) long =
     rw (bytes_differ digest (sha256 bytes) (λ e. long (ap length e ∙ length-sha256 bytes))) (no_digest digest contents long)
 
 -- what a search says, of the digest itself
-pub found_kept : (o : Option (Bor (List ℕ))) (digest key : List ℕ) (contents : List (List ℕ)) → key ≡ digest → IfSome o (λ content. Any (λ bytes. bytes ≡ content.now) contents) → IfSome o (λ content. sha256 content.now ≡ key)
+pub found_kept : (o : Option (Bor (List ℕ))) (digest key : List ℕ) (contents : List (List ℕ)) → key ≡ digest → IfSome o (λ content. Any (λ bytes. bytes ≡ content.now) contents)
+    → IfSome o (λ content. sha256 content.now ≡ key)
     → IfSome o (λ _. is_kept (map blob_row contents) digest ≡ true)
 found_kept None digest key contents same found under = found
 found_kept (Some content) digest key contents same found under = kept_there digest content.now contents found (under ∙ same)
@@ -39,6 +40,7 @@ pub found_among : (o : Option (Bor (List ℕ))) (contents : List (List ℕ)) →
 found_among None contents found = found
 found_among (Some content) contents found = known content.now content.now contents found refl
 
-pub not_found : (o : Option (Bor (List ℕ))) (digest key : List ℕ) (contents : List (List ℕ)) → key ≡ digest → IfNone o (has_digest key contents ≡ false) → IfNone o (is_kept (map blob_row contents) digest ≡ false)
+pub not_found : (o : Option (Bor (List ℕ))) (digest key : List ℕ) (contents : List (List ℕ)) → key ≡ digest → IfNone o (has_digest key contents ≡ false)
+    → IfNone o (is_kept (map blob_row contents) digest ≡ false)
 not_found None digest key contents same absent = kept_as_digest digest contents ∙ ap (λ (d : List ℕ). has_digest d contents) (sym same) ∙ absent
 not_found (Some content) digest key contents same absent = absent

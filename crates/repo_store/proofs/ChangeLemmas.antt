@@ -27,7 +27,8 @@ pub staged_around : (changes : List Change) (staged : List File) (i : ℕ) (chan
     → staged_changes changes staged ≡ staged_changes (take i changes) staged ++ change ∷ staged_changes (drop (i + 1) changes) staged
 staged_around changes staged i change within is there =
     let rest = staged_changes (drop (i + 1) changes) staged in
-    ap (λ (l : List Change). staged_changes l staged) (sym (take-append-drop (i + 1) changes)) ∙ filter-append (λ (c : Change). is_some (entry_of c.path staged)) (take (i + 1) changes) (drop (i + 1) changes)
+    ap (λ (l : List Change). staged_changes l staged) (sym (take-append-drop (i + 1) changes))
+    ∙ filter-append (λ (c : Change). is_some (entry_of c.path staged)) (take (i + 1) changes) (drop (i + 1) changes)
     ∙ ap (λ (l : List Change). l ++ rest) (one_staged changes staged i change within is there) ∙ append_assoc (staged_changes (take i changes) staged) (change ∷ []) rest
 
 module _ (front : List Change) (change : Change) where
@@ -54,7 +55,9 @@ module _ (front : List Change) (change : Change) where
     collides_among rest all is collides = subst (λ (l : List Change). FixCollides l contents) (sym is) (record {
       at = length front;
       change = change;
-      is = slice_get_read (front ++ change ∷ rest) (length (front ++ change ∷ rest)) (length front) change refl (omega (arith, length-append front (change ∷ rest))) (sym (get_or-append_seam front change rest change));
+      is =
+          slice_get_read (front ++ change ∷ rest) (length (front ++ change ∷ rest)) (length front) change refl (omega (arith, length-append front (change ∷ rest)))
+          (sym (get_or-append_seam front change rest change));
       collides = subst (λ (l : List Change). CollidesIn change (with_changes l contents)) (sym (take-append_seam front (change ∷ rest))) collides;
     })
 
@@ -76,5 +79,6 @@ module _ (front : List Change) (change : Change) where
               let same : length front ≡ k = omega (arith, length-append front (change ∷ [])) in
               let it : x ≡ change = sym read ∙ ap (λ (j : ℕ). get_or (front ++ change ∷ []) j x) (sym same) ∙ get_or-append_seam front change [] x in
               let obeys : take k (front ++ change ∷ []) ≡ front = ap (λ (j : ℕ). take j (front ++ change ∷ [])) (sym same) ∙ take-append_seam front (change ∷ []) in
-              here (subst (λ (l : List Change). CollidesIn change (with_changes l contents)) obeys (subst (λ (c : Change). CollidesIn c (with_changes (take k (front ++ change ∷ [])) contents)) it any.collides))
+              here (subst (λ (l : List Change). CollidesIn change (with_changes l contents)) obeys
+              (subst (λ (c : Change). CollidesIn c (with_changes (take k (front ++ change ∷ [])) contents)) it any.collides))
         ]

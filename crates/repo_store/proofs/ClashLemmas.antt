@@ -38,7 +38,8 @@ cut_rises (byte ∷ text) [] [] below = refl
 cut_rises (byte ∷ text) [] (y ∷ q) below = refl
 cut_rises (byte ∷ text) (x ∷ p) [] below = absurd (let less = below.is_less in let never : Greater ≡ Less = less in cc)
 cut_rises (byte ∷ text) (x ∷ p) (y ∷ q) below =
-    then_not_less (nat_cmp x y) (nat_cmp y x) (path_cmp p q) (path_cmp (cut_to text q) (cut_to text p)) (nat_cmp_total.antisymm y x) below.is_less (λ less. cut_rises text p q (record { is_less = less }))
+    then_not_less (nat_cmp x y) (nat_cmp y x) (path_cmp p q) (path_cmp (cut_to text q) (cut_to text p)) (nat_cmp_total.antisymm y x) below.is_less
+    (λ less. cut_rises text p q (record { is_less = less }))
 
 -- ---- what lies below a folder
 
@@ -102,7 +103,8 @@ module _ (key : List ℕ → List ℕ) (rises : (p q : List ℕ) → IsBelow p q
       let here = get_or all k file in
       (k, file_of here, omega (arith, length-map all file_of), get_or-map file_of all k here ∙ ap file_of (get_or_default all k here file within), path_tied (key here.path) text (equal file))
 
-  missed : (files : List FileParts) (k : ℕ) → ((j : ℕ) (d : FileParts) → 0 ≤ j → j < k → side key text (get_or files j d) ≡ Less) → ((j : ℕ) (d : FileParts) → k ≤ j → j < length files → side key text (get_or files j d) ≡ Greater)
+  missed : (files : List FileParts) (k : ℕ) → ((j : ℕ) (d : FileParts) → 0 ≤ j → j < k → side key text (get_or files j d) ≡ Less)
+      → ((j : ℕ) (d : FileParts) → k ≤ j → j < length files → side key text (get_or files j d) ≡ Greater)
       → Any (λ (file : File). key file.path ≡ text) (map file_of files) → ⊥
   missed [] k before after any = let within = any.2 in omega arith
   missed (file ∷ files) k before after any =
@@ -148,7 +150,8 @@ below_searched folder files r rising within it =
 abbrev pub NoneBefore : List ℕ → List File → ℕ → Type 0
 NoneBefore path files n = (k : ℕ) → k < n → get_or path k 0 ≡ slash → Any (λ (file : File). file.path ≡ take k path) files → ⊥
 
-pub lies_at : (path : List ℕ) (files : List File) (k : ℕ) → k < length path → get_or path k 0 ≡ slash → Any (λ (file : File). file.path ≡ take k path) files → Any (λ (file : File). IsFolderOf file.path path) files
+pub lies_at : (path : List ℕ) (files : List File) (k : ℕ) → k < length path → get_or path k 0 ≡ slash → Any (λ (file : File). file.path ≡ take k path) files
+    → Any (λ (file : File). IsFolderOf file.path path) files
 lies_at path files k within is_slash =
     any_mapped (λ (file : File). file.path ≡ take k path) (λ (file : File). IsFolderOf file.path path) files
     (λ file same. record {

@@ -46,7 +46,8 @@ module _ (P : List ℕ → Type 0) where
   have_removed : (path : List ℕ) (rows : List File) → Have rows → Have (remove_file path rows)
   have_removed path [] all = tt
   have_removed path (row ∷ rows) all =
-      elim (bytes_eq path row.path) as (λ b. Have (if b then remove_file path rows else row ∷ remove_file path rows)) [ true ↦ have_removed path rows all.1 | false ↦ (all.0, have_removed path rows all.1) ]
+      elim (bytes_eq path row.path) as (λ b. Have (if b then remove_file path rows else row ∷ remove_file path rows))
+      [ true ↦ have_removed path rows all.1 | false ↦ (all.0, have_removed path rows all.1) ]
 
   have_rewritten : (path bytes : List ℕ) (rows : List File) → P bytes → Have rows → Have (rewrite_file path bytes rows)
   have_rewritten path bytes [] here all = tt
@@ -119,10 +120,12 @@ module _ (bytes : List ℕ) (contents : List (List ℕ)) (clear : ¬ Collides by
         at = i;
         within = within;
         same_digest = same;
-        differs = λ e. let there : has_content bytes contents ≡ true = list_any_at (bytes_eq bytes) contents i [] within (bytes_same bytes (get_or contents i []) (sym e)) in let never : true ≡ false = sym there ∙ absent in absurd (cc);
+        differs = λ e. let there : has_content bytes contents ≡ true = list_any_at (bytes_eq bytes) contents i [] within (bytes_same bytes (get_or contents i []) (sym e)) in let never : true ≡ false =
+            sym there ∙ absent in absurd (cc);
       })
 
-apart_pushed : (bytes : List ℕ) (contents : List (List ℕ)) → ¬ Collides bytes contents → has_content bytes contents ≡ false → HaveDistinctDigests contents → HaveDistinctDigests (contents ++ bytes ∷ [])
+apart_pushed : (bytes : List ℕ) (contents : List (List ℕ)) → ¬ Collides bytes contents → has_content bytes contents ≡ false → HaveDistinctDigests contents
+    → HaveDistinctDigests (contents ++ bytes ∷ [])
 apart_pushed bytes contents clear absent apart i j i_in j_in same =
     let one = length-append contents (bytes ∷ []) in
     let last : get_or (contents ++ bytes ∷ []) (length contents) [] ≡ bytes = get_or-append_seam contents bytes [] [] in
@@ -139,14 +142,16 @@ apart_pushed bytes contents clear absent apart i j i_in j_in same =
           let i_is : i ≡ length contents = omega arith in
           elim (cases_lt j (length contents)) [
             | inl j_lt ↦
-                absurd (no_same bytes contents clear absent j j_lt (ap sha256 (sym (get_or-append contents (bytes ∷ []) [] j j_lt)) ∙ sym same ∙ ap (λ (k : ℕ). sha256 (get_or (contents ++ bytes ∷ []) k [])) i_is ∙ ap sha256 last))
+                absurd (no_same bytes contents clear absent j j_lt (ap sha256 (sym (get_or-append contents (bytes ∷ []) [] j j_lt)) ∙ sym same
+                ∙ ap (λ (k : ℕ). sha256 (get_or (contents ++ bytes ∷ []) k [])) i_is ∙ ap sha256 last))
             | inr j_ge ↦ omega arith
           ]
     ]
 
 pub apart_with : (bytes : List ℕ) (contents : List (List ℕ)) → ¬ Collides bytes contents → HaveDistinctDigests contents → HaveDistinctDigests (with_content bytes contents)
 apart_with bytes contents clear apart =
-    elim (has_content bytes contents) as (λ b. has_content bytes contents ≡ b → HaveDistinctDigests (if b then contents else contents ++ bytes ∷ [])) [ true ↦ λ e. apart | false ↦ λ e. apart_pushed bytes contents clear e apart ] refl
+    elim (has_content bytes contents) as (λ b. has_content bytes contents ≡ b → HaveDistinctDigests (if b then contents else contents ++ bytes ∷ []))
+    [ true ↦ λ e. apart | false ↦ λ e. apart_pushed bytes contents clear e apart ] refl
 
 apart_new : (now : Option (List ℕ)) (contents : List (List ℕ)) → ¬ MatchOption now ⊥ (λ bytes. Collides bytes contents) → HaveDistinctDigests contents → HaveDistinctDigests (with_new now contents)
 apart_new None contents clear apart = apart
@@ -160,7 +165,8 @@ apart_all (change ∷ changes) contents clear apart =
 
 -- ---- the calls
 
-pub grown : (old new : List (List ℕ)) (repo : Repository) → ((x : List ℕ) → IsAmong old x → IsAmong new x) → AllByRecursion (λ (commit : Commit). HaveContents old commit.tree) repo.history → AllByRecursion (λ (commit : Commit). HaveContents new commit.tree) repo.history
+pub grown : (old new : List (List ℕ)) (repo : Repository) → ((x : List ℕ) → IsAmong old x → IsAmong new x) → AllByRecursion (λ (commit : Commit). HaveContents old commit.tree) repo.history
+    → AllByRecursion (λ (commit : Commit). HaveContents new commit.tree) repo.history
 grown old new repo grows all =
     all_weaker (λ (commit : Commit). HaveContents old commit.tree) (λ (commit : Commit). HaveContents new commit.tree) repo.history
     (λ commit there. all_weaker (λ (file : File). IsAmong old file.entry.bytes) (λ (file : File). IsAmong new file.entry.bytes) commit.tree (λ file. grows file.entry.bytes) there) all
@@ -186,9 +192,23 @@ records_grown old new answers grows all =
     }) all
 
 pub complete_empty : IsComplete nothing_kept
-complete_empty = record { sound = sound_empty; staged = tt; fixes = tt; trees = tt; sound_answers = tt; answers = tt; keys = tt; apart = λ i j i_in j_in same. absurd (omega arith); limited = record { at_least = omega arith; at_most = omega arith }; few = omega arith }
+complete_empty =
+    record {
+      sound = sound_empty;
+      staged = tt;
+      fixes = tt;
+      trees = tt;
+      sound_answers = tt;
+      answers = tt;
+      keys = tt;
+      apart = λ i j i_in j_in same. absurd (omega arith);
+      limited =
+          record { at_least = omega arith; at_most = omega arith };
+      few = omega arith;
+    }
 
-pub complete_staged : (path : List ℕ) (entry : FileEntry) (kept : Kept) → IsComplete kept → Fits (put_file path entry kept.repo.staged) → ¬ Collides entry.bytes kept.contents → IsComplete (staging path entry kept)
+pub complete_staged : (path : List ℕ) (entry : FileEntry) (kept : Kept) → IsComplete kept → Fits (put_file path entry kept.repo.staged) → ¬ Collides entry.bytes kept.contents
+    → IsComplete (staging path entry kept)
 complete_staged path entry kept it fits clear =
     let new = with_content entry.bytes kept.contents in
     let grows : (x : List ℕ) → IsAmong kept.contents x → IsAmong new x = λ x there. still x entry.bytes kept.contents there in
@@ -206,7 +226,20 @@ complete_staged path entry kept it fits clear =
     }
 
 pub complete_unstaged : (path : List ℕ) (kept : Kept) → IsComplete kept → IsComplete (unstaging path kept)
-complete_unstaged path kept it = record { sound = sound_unstaged path kept.repo it.sound; staged = have_removed (IsAmong kept.contents) path kept.repo.staged it.staged; fixes = tt; trees = it.trees; sound_answers = it.sound_answers; answers = it.answers; keys = it.keys; apart = it.apart; limited = it.limited; few = it.few }
+complete_unstaged path kept it =
+    record {
+      sound = sound_unstaged path kept.repo it.sound;
+      staged = have_removed (IsAmong kept.contents) path kept.repo.staged it.staged;
+      fixes = tt;
+      trees = it.trees;
+      sound_answers =
+          it.sound_answers;
+      answers = it.answers;
+      keys = it.keys;
+      apart = it.apart;
+      limited = it.limited;
+      few = it.few;
+    }
 
 pub complete_kept : (bytes : List ℕ) (kept : Kept) → IsComplete kept → ¬ Collides bytes kept.contents → IsComplete (keeping bytes kept)
 complete_kept bytes kept it clear =
@@ -240,7 +273,8 @@ complete_committed message kept it few = record {
 }
 
 pub complete_forgotten : (kept : Kept) → IsComplete kept → IsComplete (forgetting kept)
-complete_forgotten kept it = record { sound = it.sound; staged = it.staged; fixes = it.fixes; trees = it.trees; sound_answers = tt; answers = tt; keys = tt; apart = it.apart; limited = it.limited; few = omega arith }
+complete_forgotten kept it =
+    record { sound = it.sound; staged = it.staged; fixes = it.fixes; trees = it.trees; sound_answers = tt; answers = tt; keys = tt; apart = it.apart; limited = it.limited; few = omega arith }
 
 pub complete_limited : (limit : ℕ) (kept : Kept) → IsLimit limit → IsComplete kept → IsComplete (limiting limit kept)
 complete_limited limit kept limited it = record {
@@ -257,9 +291,23 @@ complete_limited limit kept limited it = record {
 }
 
 pub complete_accepted : (kept : Kept) → IsComplete kept → IsComplete (accepting kept)
-complete_accepted kept it = record { sound = sound_accepted kept.repo it.sound; staged = have_applied (IsAmong kept.contents) kept.repo.fixes kept.repo.staged it.fixes it.staged; fixes = tt; trees = it.trees; sound_answers = it.sound_answers; answers = it.answers; keys = it.keys; apart = it.apart; limited = it.limited; few = it.few }
+complete_accepted kept it =
+    record {
+      sound = sound_accepted kept.repo it.sound;
+      staged = have_applied (IsAmong kept.contents) kept.repo.fixes kept.repo.staged it.fixes it.staged;
+      fixes = tt;
+      trees = it.trees;
+      sound_answers =
+          it.sound_answers;
+      answers = it.answers;
+      keys = it.keys;
+      apart = it.apart;
+      limited = it.limited;
+      few = it.few;
+    }
 
-pub complete_set : (changes : List Change) (kept : Kept) → IsComplete kept → IsRisingChanges changes → ¬ FixCollides (staged_changes changes kept.repo.staged) kept.contents → IsComplete (setting changes kept)
+pub complete_set : (changes : List Change) (kept : Kept) → IsComplete kept → IsRisingChanges changes → ¬ FixCollides (staged_changes changes kept.repo.staged) kept.contents
+    → IsComplete (setting changes kept)
 complete_set changes kept it rising clear =
     let fixes = staged_changes changes kept.repo.staged in
     let new = with_changes fixes kept.contents in

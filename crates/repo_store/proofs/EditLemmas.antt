@@ -4,7 +4,7 @@ use Rattle.std.specs.Str.{bytes_eq}
 use Rattle.std.proofs.lemmas.List.{take_more, map-append}
 use Rattle.std.proofs.lemmas.Option.{slice_get_read}
 use Rattle.std.proofs.lemmas.List.Sorted.{IsPermutation-refl, IsPermutation-cons, IsPermutation-trans, IsPermutation-map}
-use Rattle.sqlite_keyed.proofs.ListLemmas.{IsPermutation-filter}
+use Rattle.repo_store.proofs.Kit.{IsPermutation-filter}
 use lib.Seq.{take-length, take-append_seam}
 use lib.ListN.{take-append-drop}
 use Rattle.sqlite_trees.specs.declared.store.Store.{Ghosts}
@@ -61,7 +61,8 @@ module _ (all : List StagingEdit) (kept : Kept) (i : ℕ) (edit : StagingEdit) (
   pub edited_next : (now next : Kept) → now ≡ all_edited (take i all) kept → next ≡ edited edit now → next ≡ all_edited (take (i + 1) all) kept
   edited_next now next before made = made ∙ ap (edited edit) before ∙ sym (ap (λ (l : List StagingEdit). all_edited l kept) one_more ∙ edited_more (take i all) edit kept)
 
-  pub made_next : (now : Kept) (made next : List PathEdit) → now ≡ all_edited (take i all) kept → made ≡ made_edits (take i all) kept → next ≡ made ++ made_edit edit now ∷ [] → next ≡ made_edits (take (i + 1) all) kept
+  pub made_next : (now : Kept) (made next : List PathEdit) → now ≡ all_edited (take i all) kept → made ≡ made_edits (take i all) kept → next ≡ made ++ made_edit edit now ∷ []
+      → next ≡ made_edits (take (i + 1) all) kept
   made_next now made next now_is before pushed =
       pushed ∙ ap₂ (λ (l : List PathEdit) (k : Kept). l ++ made_edit edit k ∷ []) before now_is ∙ sym (ap (λ (l : List StagingEdit). made_edits l kept) one_more ∙ made_more (take i all) edit kept)
 
@@ -132,13 +133,15 @@ module _ (kept after : Kept) (before : Before) (is : IsBefore kept before) (long
 
   pub same_repository : put_back after.repo.history (map file_of before.staged.items) (map fix_of before.fixes.items) ≡ kept.repo
   same_repository =
-      ap (λ (h : List Commit). put_back h (map file_of before.staged.items) (map fix_of before.fixes.items)) longer.history ∙ ap (λ (s : List File). put_back kept.repo.history s (map fix_of before.fixes.items)) is.staged
+      ap (λ (h : List Commit). put_back h (map file_of before.staged.items) (map fix_of before.fixes.items)) longer.history
+      ∙ ap (λ (s : List File). put_back kept.repo.history s (map fix_of before.fixes.items)) is.staged
       ∙ ap (λ (f : List Change). put_back kept.repo.history kept.repo.staged f) is.fixes
 
   pub counted_again : before.staged_bytes ≡ path_bytes (map file_of before.staged.items)
   counted_again = is.bytes ∙ sym (ap path_bytes is.staged)
 
-  pub all_same : (now : Kept) → now ≡ record after { repo = put_back after.repo.history (map file_of before.staged.items) (map fix_of before.fixes.items); contents = take before.count after.contents } → now ≡ kept
+  pub all_same : (now : Kept) → now ≡ record after { repo = put_back after.repo.history (map file_of before.staged.items) (map fix_of before.fixes.items); contents = take before.count after.contents }
+      → now ≡ kept
   all_same now now_is =
       now_is ∙ ap (λ (r : Repository). record after { repo = r; contents = take before.count after.contents }) same_repository
       ∙ ap (λ (l : List (List ℕ)). record after { repo = kept.repo; contents = l }) (ap (λ (n : ℕ). take n after.contents) is.count ∙ longer.front)
@@ -155,20 +158,25 @@ one_obeys (Add path bytes asked) kept may complete obeys =
     obeys_staged kept obeys path (entry_to_stage path bytes asked kept.repo.staged) may.legal may.small (one_complete (Add path bytes asked) kept may complete)
 one_obeys (Remove path) kept may complete obeys = obeys_unstaged kept obeys path (complete_unstaged path kept complete)
 
-pub all_stand : (edits : List StagingEdit) (kept : Kept) → AreEditable edits kept → IsComplete kept → AreStoreRows (tables_of kept) → IsComplete (all_edited edits kept) × AreStoreRows (tables_of (all_edited edits kept))
+pub all_stand : (edits : List StagingEdit) (kept : Kept) → AreEditable edits kept → IsComplete kept → AreStoreRows (tables_of kept)
+    → IsComplete (all_edited edits kept) × AreStoreRows (tables_of (all_edited edits kept))
 all_stand [] kept may complete obeys = (complete, obeys)
 all_stand (edit ∷ edits) kept may complete obeys = all_stand edits (edited edit kept) may.1 (one_complete edit kept may.0 complete) (one_obeys edit kept may.0 complete obeys)
 
 -- ---- the rows of the staged files
 
-other_rows : (path : List ℕ) (rows : List StagedRow) (files : List File) → IsPermutation rows (map staged_row files) → IsPermutation (filter (λ (row : StagedRow). not (bytes_eq row.path path)) rows) (map staged_row (remove_file path files))
+other_rows : (path : List ℕ) (rows : List StagedRow) (files : List File) → IsPermutation rows (map staged_row files)
+    → IsPermutation (filter (λ (row : StagedRow). not (bytes_eq row.path path)) rows) (map staged_row (remove_file path files))
 other_rows path rows files same =
-    subst (IsPermutation (filter (λ (row : StagedRow). not (bytes_eq row.path path)) rows)) (others_staged path files) (IsPermutation-filter (λ (row : StagedRow). not (bytes_eq row.path path)) rows (map staged_row files) same)
+    subst (IsPermutation (filter (λ (row : StagedRow). not (bytes_eq row.path path)) rows)) (others_staged path files)
+    (IsPermutation-filter (λ (row : StagedRow). not (bytes_eq row.path path)) rows (map staged_row files) same)
 
-one_rows : (edit : StagingEdit) (kept : Kept) (rows : List StagedRow) → IsRising kept.repo.staged → IsPermutation rows (map staged_row kept.repo.staged) → IsPermutation (edited_rows (made_edit edit kept) rows) (map staged_row (edited edit kept).repo.staged)
+one_rows : (edit : StagingEdit) (kept : Kept) (rows : List StagedRow) → IsRising kept.repo.staged → IsPermutation rows (map staged_row kept.repo.staged)
+    → IsPermutation (edited_rows (made_edit edit kept) rows) (map staged_row (edited edit kept).repo.staged)
 one_rows (Add path bytes asked) kept rows rising same =
     let file : File = record { path = path; entry = entry_to_stage path bytes asked kept.repo.staged } in
-    IsPermutation-trans _ _ _ (IsPermutation-cons (staged_row file) _ _ (other_rows path rows kept.repo.staged same)) (IsPermutation-map staged_row (file ∷ remove_file path kept.repo.staged) _ (put_moves file kept.repo.staged rising))
+    IsPermutation-trans _ _ _ (IsPermutation-cons (staged_row file) _ _ (other_rows path rows kept.repo.staged same))
+    (IsPermutation-map staged_row (file ∷ remove_file path kept.repo.staged) _ (put_moves file kept.repo.staged rising))
 one_rows (Remove path) kept rows rising same = other_rows path rows kept.repo.staged same
 
 one_rises : (edit : StagingEdit) (kept : Kept) → IsRising kept.repo.staged → IsRising (edited edit kept).repo.staged
@@ -181,7 +189,8 @@ rows_edited [] kept rows rising same = same
 rows_edited (edit ∷ edits) kept rows rising same = rows_edited edits (edited edit kept) (edited_rows (made_edit edit kept) rows) (one_rises edit kept rising) (one_rows edit kept rows rising same)
 
 -- what the code hands over makes of the tables those of the edited files
-pub editing_handed : (edits : List StagingEdit) (kept : Kept) (made : List PathEdit) (news : List (List ℕ)) → edits ≢ [] → IsRising kept.repo.staged → made ≡ made_edits edits kept → news ≡ drop (length kept.contents) (all_edited edits kept).contents
+pub editing_handed : (edits : List StagingEdit) (kept : Kept) (made : List PathEdit) (news : List (List ℕ)) → edits ≢ [] → IsRising kept.repo.staged → made ≡ made_edits edits kept
+    → news ≡ drop (length kept.contents) (all_edited edits kept).contents
     → IsSame (with_staged_rows (all_rows made (tables_of kept).staged) (without_fixes (with_blobs news (tables_of kept)))) (tables_of (all_edited edits kept))
 editing_handed edits kept made news some rising made_is news_is =
     let after = all_edited edits kept in
@@ -190,7 +199,9 @@ editing_handed edits kept made news some rising made_is news_is =
     subst (λ (l : List PathEdit). IsSame (with_staged_rows (all_rows l staged) (without_fixes (with_blobs news (tables_of kept)))) (tables_of after)) (sym made_is)
     (subst (λ (l : List (List ℕ)). IsSame (with_staged_rows (all_rows (made_edits edits kept) staged) (without_fixes (with_blobs l (tables_of kept)))) (tables_of after)) (sym news_is)
     (record {
-      meta = subst (λ (n : ℕ). IsPermutation (version_row ∷ limit_row (pos kept.limit) ∷ []) (version_row ∷ limit_row (pos n) ∷ [])) (sym longer.limit) (IsPermutation-refl (version_row ∷ limit_row (pos kept.limit) ∷ []));
+      meta =
+          subst (λ (n : ℕ). IsPermutation (version_row ∷ limit_row (pos kept.limit) ∷ []) (version_row ∷ limit_row (pos n) ∷ [])) (sym longer.limit)
+          (IsPermutation-refl (version_row ∷ limit_row (pos kept.limit) ∷ []));
       blobs = blobs_after kept.contents after.contents longer.front;
       staged = rows_edited edits kept staged rising (IsPermutation-refl staged);
       fixes = subst (λ (l : List Change). IsPermutation [] (map fix_row l)) (sym (no_fixes edits kept some)) (IsPermutation-refl []);
@@ -200,7 +211,8 @@ editing_handed edits kept made news some rising made_is news_is =
     }))
 
 -- the answers stay
-pub edits_go : {S A F : Type 0} (g : Ghosts S) (old new : Held S) (r : Result A F) (edits : List StagingEdit) (kept : Kept) (next : ℕ) (t u : Tables) → IsCall g old new r (λ db. HoldsListed next kept.answers db t) (λ db. HoldsListed next kept.answers db u)
+pub edits_go : {S A F : Type 0} (g : Ghosts S) (old new : Held S) (r : Result A F) (edits : List StagingEdit) (kept : Kept) (next : ℕ) (t u : Tables)
+    → IsCall g old new r (λ db. HoldsListed next kept.answers db t) (λ db. HoldsListed next kept.answers db u)
     → IsCall g old new r (λ db. HoldsListed next kept.answers db t) (λ db. HoldsListed next (all_edited edits kept).answers db u)
 edits_go g old new r edits kept next t u call =
     subst (λ (l : List KeptAnswer). IsCall g old new r (λ db. HoldsListed next kept.answers db t) (λ db. HoldsListed next l db u)) (sym (all_longer edits kept).answers) call
@@ -227,5 +239,6 @@ edits_more g old mid new news edits i edit within is one two =
     let rows : edited_rows (edit_of edit) (all_rows (map edit_of (take i edits)) t.staged) ≡ all_rows (map edit_of (take (i + 1) edits)) t.staged =
     sym (last_rows (map edit_of (take i edits)) (edit_of edit) t.staged) ∙ ap (λ (l : List PathEdit). all_rows l t.staged) (sym more) in
     same_staged (put (before t)) (all_rows (map edit_of (take (i + 1) edits)) t.staged)
-    (subst (λ (l : List StagedRow). IsPermutation (edited_rows (edit_of edit) (all_rows (map edit_of (take i edits)) t.staged)) l) rows (IsPermutation-refl (edited_rows (edit_of edit) (all_rows (map edit_of (take i edits)) t.staged)))))
+    (subst (λ (l : List StagedRow). IsPermutation (edited_rows (edit_of edit) (all_rows (map edit_of (take i edits)) t.staged)) l) rows
+    (IsPermutation-refl (edited_rows (edit_of edit) (all_rows (map edit_of (take i edits)) t.staged)))))
     both

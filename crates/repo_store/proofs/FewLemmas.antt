@@ -16,7 +16,7 @@ use Rattle.repo_store.specs.declared.accepted.Accepted.{Accepted}
 use Rattle.repo_store.specs.declared.accepted.Accepted.TheVariants.{Few, All}
 use Rattle.repo_store.specs.Shared.{FileParts}
 use Rattle.repo_store.specs.declared.shared.SharedFix.{SharedFix}
-use Rattle.repo_store.specs.Accepted.{HaveSameFixed, IsAccepted, accepted_files, file_at, files_with_fix}
+use Rattle.repo_store.specs.Accepted.{HaveSameFixed, HasAcceptedFiles, accepted_files, file_at, files_with_fix}
 use Rattle.repo_store.specs.Lists.{entry_in, file_of, fix_of}
 use Rattle.repo_store.proofs.AcceptLemmas.{earlier_entry, other_entry}
 use Rattle.repo_store.proofs.FixedLemmas.{next_file}
@@ -29,9 +29,11 @@ change_path change = change.path
 pub within_held : (path : List ℕ) (files : List FileParts) (k : ℕ) → IsAt path (map file_of files) k → k < length files
 within_held path files k at = let within = at_within path (map file_of files) k at in omega (arith, length-map files file_of)
 
-pub held_at : (path : List ℕ) (files : List FileParts) (k : ℕ) (file : FileParts) → IsAt path (map file_of files) k → file ≡ get_or files k file → (path ≡ file.path) × (entry_of path (map file_of files) ≡ Some (entry_in file))
+pub held_at : (path : List ℕ) (files : List FileParts) (k : ℕ) (file : FileParts) → IsAt path (map file_of files) k → file ≡ get_or files k file
+    → (path ≡ file.path) × (entry_of path (map file_of files) ≡ Some (entry_in file))
 held_at path [] k file at is = absurd at
-held_at path (first ∷ files) zero file at is = subst (λ (f : FileParts). (path ≡ f.path) × (entry_of path (map file_of (first ∷ files)) ≡ Some (entry_in f))) (sym is) (at, rw (bytes_same path first.path at) refl)
+held_at path (first ∷ files) zero file at is =
+    subst (λ (f : FileParts). (path ≡ f.path) × (entry_of path (map file_of (first ∷ files)) ≡ Some (entry_in f))) (sym is) (at, rw (bytes_same path first.path at) refl)
 held_at path (first ∷ files) (suc k) file at is =
     let rest = held_at path files k file at.1 is in
     (rest.0, rw (above_differs path first.path at.0) rest.1)
@@ -39,7 +41,8 @@ held_at path (first ∷ files) (suc k) file at is =
 pub named : (path : List ℕ) (file : FileParts) → path ≡ file.path → record { path = path; entry = entry_in file } ≡ file_of file
 named path file same = ap (λ (p : List ℕ). let made : File = record { path = p; entry = entry_in file } in made) same
 
-pub held_alone : (path : List ℕ) (files : List FileParts) (k : ℕ) (file : FileParts) → IsAt path (map file_of files) k → file ≡ get_or files k file → file_at path (entry_of path (map file_of files)) ≡ file_of file ∷ []
+pub held_alone : (path : List ℕ) (files : List FileParts) (k : ℕ) (file : FileParts) → IsAt path (map file_of files) k → file ≡ get_or files k file
+    → file_at path (entry_of path (map file_of files)) ≡ file_of file ∷ []
 held_alone path files k file at is =
     let both = held_at path files k file at is in
     ap (file_at path) both.1 ∙ ap (λ (f : File). f ∷ []) (named path file both.0)
@@ -60,7 +63,8 @@ own_entry path None (file ∷ files) =
       | false ↦ λ h. rw h (own_entry path None files)
     ] refl
 own_entry path (Some bytes) (file ∷ files) =
-    elim (bytes_eq path file.path) as (λ b. (bytes_eq path file.path ≡ b) → entry_of path ((if b then with_bytes bytes file else file) ∷ rewrite_file path bytes files) ≡ entry_now (Some bytes) (if b then Some file.entry else entry_of path files)) [
+    elim (bytes_eq path file.path) as (λ b. (bytes_eq path file.path ≡ b)
+    → entry_of path ((if b then with_bytes bytes file else file) ∷ rewrite_file path bytes files) ≡ entry_now (Some bytes) (if b then Some file.entry else entry_of path files)) [
       | true ↦ λ h. rw h refl
       | false ↦ λ h. rw h (own_entry path (Some bytes) files)
     ] refl
@@ -70,7 +74,8 @@ same_entry_at : (path at : List ℕ) (now : Option (List ℕ)) (xs ys : List Fil
 same_entry_at path at now xs ys same =
     elim (bytes_eq path at) as (λ b. (bytes_eq path at ≡ b) → entry_of path (apply_at at now xs) ≡ entry_of path (apply_at at now ys)) [
       | true ↦ λ h.
-          subst (λ (p : List ℕ). entry_of path (apply_at p now xs) ≡ entry_of path (apply_at p now ys)) ((bytes_decides path at).0 h) (own_entry path now xs ∙ ap (entry_now now) same ∙ sym (own_entry path now ys))
+          subst (λ (p : List ℕ). entry_of path (apply_at p now xs) ≡ entry_of path (apply_at p now ys)) ((bytes_decides path at).0 h)
+          (own_entry path now xs ∙ ap (entry_now now) same ∙ sym (own_entry path now ys))
       | false ↦ λ h. other_entry path at now xs h ∙ same ∙ sym (other_entry path at now ys h)
     ] refl
 
@@ -108,7 +113,8 @@ entry_there : (path at : List ℕ) (entry : Option FileEntry) (rest : List File)
 entry_there path at None rest differs = refl
 entry_there path at (Some entry) rest differs = rw differs refl
 
-first_more : (at : List ℕ) (entry : Option FileEntry) (xs ys : List File) (fixes : List Change) → IsBelowAll change_path at fixes → HaveSameFixed fixes xs ys → HaveSameFixed fixes (file_at at entry ++ xs) ys
+first_more : (at : List ℕ) (entry : Option FileEntry) (xs ys : List File) (fixes : List Change) → IsBelowAll change_path at fixes → HaveSameFixed fixes xs ys
+    → HaveSameFixed fixes (file_at at entry ++ xs) ys
 first_more at entry xs ys [] below same = tt
 first_more at entry xs ys (fix ∷ fixes) below same = (entry_there fix.path at entry xs (above_differs fix.path at below.0) ∙ same.0, first_more at entry xs ys fixes below.1 same.1)
 
@@ -125,12 +131,14 @@ all_same : (fixes : List Change) (files : List File) → HaveSameFixed fixes fil
 all_same [] files = tt
 all_same (fix ∷ fixes) files = (refl, all_same fixes files)
 
-pub accepted_same : (fixes : List Change) (staged : List File) (accepted : Accepted) → IsAccepted fixes staged accepted → HaveSameFixed fixes (map file_of (accepted_files accepted)) (apply_changes fixes staged)
+pub accepted_same : (fixes : List Change) (staged : List File) (accepted : Accepted) → HasAcceptedFiles fixes staged accepted
+    → HaveSameFixed fixes (map file_of (accepted_files accepted)) (apply_changes fixes staged)
 accepted_same fixes staged (Few files) is = is
 accepted_same fixes staged (All files) is = subst (λ (l : List File). HaveSameFixed fixes l (apply_changes fixes staged)) (sym is) (all_same fixes (apply_changes fixes staged))
 
 -- one more is found, at a step of the loop
-pub more_found : (made new all files : List File) (fixes : List SharedFix) (i : ℕ) (fix : SharedFix) → i < length fixes → fix ≡ get_or fixes i fix → new ≡ made ++ file_at fix.path (entry_of fix.path files)
+pub more_found : (made new all files : List File) (fixes : List SharedFix) (i : ℕ) (fix : SharedFix) → i < length fixes → fix ≡ get_or fixes i fix
+    → new ≡ made ++ file_at fix.path (entry_of fix.path files)
     → made ++ files_with_fix (map fix_of (drop i fixes)) files ≡ all → new ++ files_with_fix (map fix_of (drop (i + 1) fixes)) files ≡ all
 more_found made new all files fixes i fix within is new_is so_far =
     let rest = files_with_fix (map fix_of (drop (i + 1) fixes)) files in
@@ -167,7 +175,8 @@ was_there path now files entry is = some_before now (entry_of path files) entry 
 same_bytes_at : (entry old : FileEntry) (bytes : List ℕ) → Some (record { mode = old.mode; bytes = bytes }) ≡ Some entry → record { mode = old.mode; bytes = bytes } ≡ entry
 same_bytes_at entry old bytes is = cc
 
-pub put_fixed : (path : List ℕ) (now : Option (List ℕ)) (files : List File) (entry : FileEntry) → IsRising files → entry_of path (apply_at path now files) ≡ Some entry → put_row (record { path = path; entry = entry }) files ≡ apply_at path now files
+pub put_fixed : (path : List ℕ) (now : Option (List ℕ)) (files : List File) (entry : FileEntry) → IsRising files → entry_of path (apply_at path now files) ≡ Some entry
+    → put_row (record { path = path; entry = entry }) files ≡ apply_at path now files
 put_fixed path None files entry up is = let none = own_entry path None files in absurd (cc)
 put_fixed path (Some bytes) [] entry up is = absurd (cc)
 put_fixed path (Some bytes) (file ∷ files) entry up is =
@@ -179,30 +188,36 @@ put_fixed path (Some bytes) (file ∷ files) entry up is =
       | inl (inr same) ↦
           let first = entry_of-first path (with_bytes bytes file) (rewrite_file path bytes files) same in
           let whole : rewrite_file path bytes (file ∷ files) ≡ with_bytes bytes file ∷ files =
-          rw (bytes_same path file.path same) (ap (λ (l : List File). with_bytes bytes file ∷ l) (rewrite_file-later path bytes files (subst (λ (p : List ℕ). IsBelowAll path_of p files) (sym same) up.0))) in
+          rw (bytes_same path file.path same) (ap (λ (l : List File). with_bytes bytes file ∷ l)
+          (rewrite_file-later path bytes files (subst (λ (p : List ℕ). IsBelowAll path_of p files) (sym same) up.0))) in
           let now_is : entry_of path (with_bytes bytes file ∷ files) ≡ Some entry = ap (entry_of path) (sym whole) ∙ is in
           let one = entry_of-first path (with_bytes bytes file) files same in
           let new : record { path = path; entry = entry } ≡ with_bytes bytes file = joined path file entry bytes same (sym one ∙ now_is) in
           rw (path_itself path file.path same) (ap (λ (f : File). f ∷ files) new ∙ sym whole)
       | inr above ↦
-          let skip : entry_of path (rewrite_file path bytes (file ∷ files)) ≡ entry_of path (rewrite_file path bytes files) = rw (above_differs path file.path above, above_differs path file.path above) refl in
+          let skip : entry_of path (rewrite_file path bytes (file ∷ files)) ≡ entry_of path (rewrite_file path bytes files) =
+          rw (above_differs path file.path above, above_differs path file.path above) refl in
           let rest : rewrite_file path bytes (file ∷ files) ≡ file ∷ rewrite_file path bytes files = rw (above_differs path file.path above) refl in
           rw (greater_from_below file.path path above) (ap (λ (l : List File). file ∷ l) (put_fixed path (Some bytes) files entry up.1 (sym skip ∙ is)) ∙ sym rest)
     ]
   where
-    joined : (path : List ℕ) (file : File) (entry : FileEntry) (bytes : List ℕ) → path ≡ file.path → Some (with_bytes bytes file).entry ≡ Some entry → record { path = path; entry = entry } ≡ with_bytes bytes file
+    joined : (path : List ℕ) (file : File) (entry : FileEntry) (bytes : List ℕ) → path ≡ file.path → Some (with_bytes bytes file).entry ≡ Some entry
+        → record { path = path; entry = entry } ≡ with_bytes bytes file
     joined path file entry bytes same is =
         let entries : (with_bytes bytes file).entry ≡ entry = cc in
-        ap (λ (e : FileEntry). let made : File = record { path = path; entry = e } in made) (sym entries) ∙ ap (λ (p : List ℕ). let made : File = record { path = p; entry = (with_bytes bytes file).entry } in made) same
+        ap (λ (e : FileEntry). let made : File = record { path = path; entry = e } in made) (sym entries)
+        ∙ ap (λ (p : List ℕ). let made : File = record { path = p; entry = (with_bytes bytes file).entry } in made) same
 
 -- ---- the fixes put in place one by one
 
-pub first_fixed : (fix : Change) (fixes : List Change) (fixed files : List File) → IsRisingChanges (fix ∷ fixes) → HaveSameFixed (fix ∷ fixes) fixed (apply_changes (fix ∷ fixes) files) → entry_of fix.path fixed ≡ entry_of fix.path (apply_change fix files)
+pub first_fixed : (fix : Change) (fixes : List Change) (fixed files : List File) → IsRisingChanges (fix ∷ fixes) → HaveSameFixed (fix ∷ fixes) fixed (apply_changes (fix ∷ fixes) files)
+    → entry_of fix.path fixed ≡ entry_of fix.path (apply_change fix files)
 first_fixed fix fixes fixed files up same = same.0 ∙ earlier_entry fix.path fixes (apply_at fix.path fix.now files) up.0
 
 first_less : (at : List ℕ) (fixes : List Change) (xs ys : List File) → IsBelowAll change_path at fixes → HaveSameFixed fixes xs ys → HaveSameFixed fixes (remove_file at xs) ys
 first_less at [] xs ys below same = tt
 first_less at (fix ∷ fixes) xs ys below same = (other_entry fix.path at None xs (above_differs fix.path at below.0) ∙ same.0, first_less at fixes xs ys below.1 same.1)
 
-pub rest_fixed : (fix : Change) (fixes : List Change) (fixed files : List File) → IsRisingChanges (fix ∷ fixes) → HaveSameFixed (fix ∷ fixes) fixed (apply_changes (fix ∷ fixes) files) → HaveSameFixed fixes (remove_file fix.path fixed) (apply_changes fixes (apply_change fix files))
+pub rest_fixed : (fix : Change) (fixes : List Change) (fixed files : List File) → IsRisingChanges (fix ∷ fixes) → HaveSameFixed (fix ∷ fixes) fixed (apply_changes (fix ∷ fixes) files)
+    → HaveSameFixed fixes (remove_file fix.path fixed) (apply_changes fixes (apply_change fix files))
 rest_fixed fix fixes fixed files up same = first_less fix.path fixes fixed (apply_changes fixes (apply_at fix.path fix.now files)) up.0 same.1

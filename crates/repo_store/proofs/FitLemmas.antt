@@ -42,7 +42,8 @@ used_ticks high (answer ∷ answers) (tick ∷ ticks) most fall =
     let below = fall.1.0 in
     (record { tick = tick; is = refl; first = fall.0; last = omega arith }, used_ticks tick answers ticks (omega arith) fall.1.1)
 
-pub bounded_rows : (kept : Kept) (next : ℕ) (rows : List UseRow) → IsComplete kept → AreStoreRows (tables_of kept) → next ≤ greatest_tick + 1 → AreUsesOf next rows kept.answers → AreBoundedRows (tables_of kept) rows
+pub bounded_rows : (kept : Kept) (next : ℕ) (rows : List UseRow) → IsComplete kept → AreStoreRows (tables_of kept) → next ≤ greatest_tick + 1 → AreUsesOf next rows kept.answers
+    → AreBoundedRows (tables_of kept) rows
 bounded_rows kept next rows complete obeys most uses =
     let all = use_rows kept.answers uses.ticks in
     record {
@@ -121,6 +122,7 @@ left_fit s fault live settled unfit is_open kept left =
     let here = subst (λ (db : Database). Leaves kept db.trees) (sym (settled is_open)) left in held_fit s.now kept fault (left_holds s.now kept here (live is_open)) left.complete left.obeys unfit
 
 -- and nothing of a store of version 2 was left where the tables are those of version 1
-pub left_other : (s : State) → (IsTrue s.is_open → IsDatabase s.now) → (IsTrue s.is_open → s.now ≡ s.committed) → s.now.schema ≡ store_schema → IsTrue s.is_open → (kept : Kept) → Leaves kept s.committed.trees → ⊥
+pub left_other : (s : State) → (IsTrue s.is_open → IsDatabase s.now) → (IsTrue s.is_open → s.now ≡ s.committed) → s.now.schema ≡ store_schema → IsTrue s.is_open → (kept : Kept)
+    → Leaves kept s.committed.trees → ⊥
 left_other s live settled ours is_open kept left =
     let here = subst (λ (db : Database). Leaves kept db.trees) (sym (settled is_open)) left in two_versions (sym ours ∙ (left_holds s.now kept here (live is_open)).holds.holds.0.0.schema)

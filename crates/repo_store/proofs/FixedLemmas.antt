@@ -42,7 +42,8 @@ none_kept (fix ∷ fixes) = ap (apply_changes fixes) (later_kept fix.path fix.no
 -- ---- one file
 
 -- the first fix is of a later path
-left_alone : (file : File) (fix : Change) (fixes : List Change) → IsRisingChanges (fix ∷ fixes) → (IsBelow fix.path file.path → ⊥) → (fix.path ≡ file.path → ⊥) → apply_changes (fix ∷ fixes) (file ∷ []) ≡ file ∷ []
+left_alone : (file : File) (fix : Change) (fixes : List Change) → IsRisingChanges (fix ∷ fixes) → (IsBelow fix.path file.path → ⊥) → (fix.path ≡ file.path → ⊥)
+    → apply_changes (fix ∷ fixes) (file ∷ []) ≡ file ∷ []
 left_alone file fix fixes rising reached differs =
     elim (path_cases fix.path file.path) [
       | inl (inl below) ↦ absurd (reached below)
@@ -50,7 +51,8 @@ left_alone file fix fixes rising reached differs =
       | inr above ↦ one_kept file (fix ∷ fixes) (above, below_all_later change_path file.path fix.path fixes above rising.0)
     ]
 
-applied_at : (file : File) (path : List ℕ) (now : Option (List ℕ)) (fixes : List Change) → IsBelowAll change_path path fixes → path ≡ file.path → apply_changes fixes (apply_at path now (file ∷ [])) ≡ apply_at path now (file ∷ [])
+applied_at : (file : File) (path : List ℕ) (now : Option (List ℕ)) (fixes : List Change) → IsBelowAll change_path path fixes → path ≡ file.path
+    → apply_changes fixes (apply_at path now (file ∷ [])) ≡ apply_at path now (file ∷ [])
 applied_at file path None fixes below same = rw (bytes_same path file.path same) (none_kept fixes)
 applied_at file path (Some bytes) fixes below same = rw (bytes_same path file.path same) (one_kept (with_bytes bytes file) fixes (subst (λ (p : List ℕ). IsBelowAll change_path p fixes) same below))
 
@@ -58,11 +60,13 @@ applied_here : (file : File) (fix : Change) (fixes : List Change) → IsRisingCh
 applied_here file fix fixes rising same = applied_at file fix.path fix.now fixes rising.0 same
 
 pub taken_out : (file : File) (fix : Change) → fix.path ≡ file.path → fix.now ≡ None → apply_change fix (file ∷ []) ≡ []
-taken_out file fix same gone = ap (λ (now : Option (List ℕ)). apply_at fix.path now (file ∷ [])) gone ∙ (let here : remove_file fix.path (file ∷ []) ≡ [] = rw (bytes_same fix.path file.path same) refl in here)
+taken_out file fix same gone =
+    ap (λ (now : Option (List ℕ)). apply_at fix.path now (file ∷ [])) gone ∙ (let here : remove_file fix.path (file ∷ []) ≡ [] = rw (bytes_same fix.path file.path same) refl in here)
 
 pub written : (file : File) (fix : Change) (bytes : List ℕ) → fix.path ≡ file.path → fix.now ≡ Some bytes → apply_change fix (file ∷ []) ≡ with_bytes bytes file ∷ []
 written file fix bytes same now =
-    ap (λ (o : Option (List ℕ)). apply_at fix.path o (file ∷ [])) now ∙ (let here : rewrite_file fix.path bytes (file ∷ []) ≡ with_bytes bytes file ∷ [] = rw (bytes_same fix.path file.path same) refl in here)
+    ap (λ (o : Option (List ℕ)). apply_at fix.path o (file ∷ [])) now
+    ∙ (let here : rewrite_file fix.path bytes (file ∷ []) ≡ with_bytes bytes file ∷ [] = rw (bytes_same fix.path file.path same) refl in here)
 
 -- ---- the walk
 
@@ -70,7 +74,8 @@ at_apart : (path : List ℕ) (now : Option (List ℕ)) (xs ys : List File) → a
 at_apart path None [] ys = refl
 at_apart path (Some bytes) [] ys = refl
 at_apart path None (x ∷ xs) ys =
-    elim (bytes_eq path x.path) as (λ b. (if b then remove_file path (xs ++ ys) else x ∷ remove_file path (xs ++ ys)) ≡ (if b then remove_file path xs else x ∷ remove_file path xs) ++ remove_file path ys) [
+    elim (bytes_eq path x.path) as (λ b. (if b then remove_file path (xs ++ ys) else x ∷ remove_file path (xs ++ ys))
+    ≡ (if b then remove_file path xs else x ∷ remove_file path xs) ++ remove_file path ys) [
       | true ↦ at_apart path None xs ys
       | false ↦ ap (λ (l : List File). x ∷ l) (at_apart path None xs ys)
     ]
@@ -85,7 +90,8 @@ pub below_first : (file : File) (files : List File) → IsRising (file ∷ files
 below_first file files rising earlier below = (below, below_all_later path_of earlier file.path files below rising.0)
 
 -- one file more
-pub walked : (made all : List File) (file : File) (files : List File) (fixes left : List Change) → made ++ apply_changes fixes (file ∷ files) ≡ all → apply_changes fixes (file ∷ files) ≡ apply_changes left (file ∷ files)
+pub walked : (made all : List File) (file : File) (files : List File) (fixes left : List Change) → made ++ apply_changes fixes (file ∷ files) ≡ all
+    → apply_changes fixes (file ∷ files) ≡ apply_changes left (file ∷ files)
     → (made ++ apply_changes left (file ∷ [])) ++ apply_changes left files ≡ all
 walked made all file files fixes left so_far same =
     append_assoc made (apply_changes left (file ∷ [])) (apply_changes left files) ∙ ap (λ (l : List File). made ++ l) (sym (changes_apart left (file ∷ []) files) ∙ sym same) ∙ so_far
@@ -105,7 +111,8 @@ rising_from n files rising = subst (λ (l : List File). IsRising l) (drop-map fi
 
 pub walked_all : (made all : List File) (files : List FileParts) (left : List Change) (i : ℕ) → length files ≤ i → made ++ apply_changes left (map file_of (drop i files)) ≡ all → made ≡ all
 walked_all made all files left i over so_far =
-    sym (append-nil made) ∙ ap (λ (l : List File). made ++ l) (sym (none_kept left)) ∙ ap (λ (l : List FileParts). made ++ apply_changes left (map file_of l)) (sym (drop_of_length-le files over)) ∙ so_far
+    sym (append-nil made) ∙ ap (λ (l : List File). made ++ l) (sym (none_kept left)) ∙ ap (λ (l : List FileParts). made ++ apply_changes left (map file_of l)) (sym (drop_of_length-le files over))
+    ∙ so_far
 
 -- ---- passing over fixes of earlier paths
 
@@ -136,7 +143,8 @@ module _ (left : List SharedFix) (fix : SharedFix) (some : 1 ≤ length left) (i
   pub other_here : (file : File) → IsRisingChanges (map fix_of left) → HasReached file.path (map fix_of left) → (fix.path ≡ file.path → ⊥) → apply_changes (map fix_of left) (file ∷ []) ≡ file ∷ []
   other_here file rising reached differs =
       ap (λ (l : List Change). apply_changes l (file ∷ [])) (first_of left fix some is)
-      ∙ left_alone file (fix_of fix) (map fix_of (drop 1 left)) (subst (λ (l : List Change). IsRisingChanges l) (first_of left fix some is) rising) (subst (HasReached file.path) (first_of left fix some is) reached) differs
+      ∙ left_alone file (fix_of fix) (map fix_of (drop 1 left)) (subst (λ (l : List Change). IsRisingChanges l) (first_of left fix some is) rising)
+      (subst (HasReached file.path) (first_of left fix some is) reached) differs
 
 pub empty_here : (left : List SharedFix) (file : File) → length left < 1 → apply_changes (map fix_of left) (file ∷ []) ≡ file ∷ []
 empty_here [] file few = refl

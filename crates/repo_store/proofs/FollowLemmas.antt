@@ -5,13 +5,13 @@ use Rattle.std.specs.List.{AllByRecursion}
 use Rattle.std.specs.Option.{option_map_or}
 use Rattle.std.proofs.lemmas.List.{length-map, length-reverse, map-append, reverse-append, reverse-reverse, take_more}
 use Rattle.std.proofs.lemmas.List.Sorted.{IsPermutation-refl, IsPermutation-cons, IsPermutation-middle, IsPermutation-reverse, IsPermutation-sym, IsPermutation-trans, length_permutation}
-use Rattle.sha2.proofs.Facts256.{length-sha256}
+use Rattle.repo_store.proofs.Kit.{length-sha256}
 use Rattle.store_tables.specs.declared.rows.UseRow.{UseRow}
 use Rattle.repo_store.specs.Answers.{KeptAnswer}
 use Rattle.repo_store.specs.Bounded.{IsTick, key_of_use}
 use Rattle.repo_store.specs.FromRows.{AreMoved, HaveTicks, tick_in, tick_of}
 use Rattle.repo_store.specs.Index.{Key, key_of}
-use Rattle.repo_store.specs.ListedAnswers.{brought, has_key, of_key, of_other_keys}
+use Rattle.repo_store.specs.ListedAnswers.{brought_answers, has_key, of_key, of_other_keys}
 use Rattle.repo_store.specs.UsesOf.{AreUsesOf, FallBelow, use_row, use_rows}
 use Rattle.repo_store.specs.WrittenAnswers.{written_seen, written_words}
 use Rattle.repo_store.proofs.FromRowsLemmas.{all_of_at, all_pushed}
@@ -88,11 +88,13 @@ all_mapped : (key : Key) (answers : List KeptAnswer) → AllByRecursion (λ (ans
 all_mapped key [] none = tt
 all_mapped key (answer ∷ answers) none = (none.0, all_mapped key answers none.1)
 
-pub unanswered : (uses : List UseRow) (i : ℕ) (row : UseRow) (answers : List KeptAnswer) → i < length uses → row ≡ get_or uses i row → AllByRecursion (λ (answer : KeptAnswer). ¬ (key_of answer ≡ key_of_use row)) answers
+pub unanswered : (uses : List UseRow) (i : ℕ) (row : UseRow) (answers : List KeptAnswer) → i < length uses → row ≡ get_or uses i row
+    → AllByRecursion (λ (answer : KeptAnswer). ¬ (key_of answer ≡ key_of_use row)) answers
     → ¬ IsPermutation (map key_of_use uses) (map key_of answers)
 unanswered uses i row answers within is none same =
     let key = key_of_use row in
-    all_of_at key_of_use (λ (k : Key). ¬ (k ≡ key)) uses i row within is (all_same (λ (k : Key). ¬ (k ≡ key)) (map key_of answers) (map key_of_use uses) (IsPermutation-sym _ _ same) (all_mapped key answers none)) refl
+    all_of_at key_of_use (λ (k : Key). ¬ (k ≡ key)) uses i row within is
+    (all_same (λ (k : Key). ¬ (k ≡ key)) (map key_of answers) (map key_of_use uses) (IsPermutation-sym _ _ same) (all_mapped key answers none)) refl
 
 pub keys_count : (uses : List UseRow) (answers : List KeptAnswer) → IsPermutation (map key_of_use uses) (map key_of answers) → length uses ≡ length answers
 keys_count uses answers same =
@@ -101,7 +103,7 @@ keys_count uses answers same =
     let two = length-map answers key_of in
     omega arith
 
--- ---- answers brought to the front
+-- ---- answers brought_answers to the front
 
 pub moved_not : (answers : List KeptAnswer) → AreMoved answers answers
 moved_not answers = record { fewer = omega arith; moved = λ _. IsPermutation-refl answers }
@@ -148,11 +150,14 @@ module _ (key : Key) where
         )
         | false ↦ λ e.
             let rest = front_moved a xs e in
-            let below = rest.0 in
-            (omega arith, λ n. IsPermutation-trans (a ∷ x ∷ others xs) (x ∷ a ∷ others xs) (x ∷ xs) (IsPermutation-middle (a ∷ []) x (others xs)) (IsPermutation-cons x (a ∷ others xs) xs (rest.1 (omega arith))))
+            let below = rest.0 in (
+              omega arith,
+              λ n. IsPermutation-trans (a ∷ x ∷ others xs) (x ∷ a ∷ others xs) (x ∷ xs) (IsPermutation-middle (a ∷ []) x (others xs))
+                  (IsPermutation-cons x (a ∷ others xs) xs (rest.1 (omega arith))),
+            )
       ] is
 
-  pub brought_moved : (answers : List KeptAnswer) → AreMoved answers (brought key answers)
+  pub brought_moved : (answers : List KeptAnswer) → AreMoved answers (brought_answers key answers)
   brought_moved answers =
       elim (of_key key answers) as (λ o. of_key key answers ≡ o → AreMoved answers (option_map_or (λ answer. answer ∷ others answers) o answers)) [
         | None ↦ λ e. moved_not answers
@@ -161,7 +166,8 @@ module _ (key : Key) where
 
 -- ---- the order
 
-pub keys_same : (uses : List UseRow) (keys : List Key) → length uses ≡ length keys → ((k : ℕ) → k < length uses → (d : UseRow) (e : Key) → get_or keys k e ≡ key_of_use (get_or uses k d)) → map key_of_use uses ≡ keys
+pub keys_same : (uses : List UseRow) (keys : List Key) → length uses ≡ length keys → ((k : ℕ) → k < length uses → (d : UseRow) (e : Key) → get_or keys k e ≡ key_of_use (get_or uses k d))
+    → map key_of_use uses ≡ keys
 keys_same [] [] count same = refl
 keys_same [] (key ∷ keys) count same = absurd (omega arith)
 keys_same (row ∷ uses) [] count same = absurd (omega arith)
@@ -186,7 +192,8 @@ rows_from (row ∷ rows) (answer ∷ answers) keys ticks =
 keys_turned : (rows : List UseRow) (answers : List KeptAnswer) → map key_of_use rows ≡ map key_of (reverse answers) → map key_of_use (reverse rows) ≡ map key_of answers
 keys_turned rows answers keys = map_turned key_of_use rows ∙ ap reverse (keys ∙ map_turned key_of answers) ∙ reverse-reverse (map key_of answers)
 
-pub followed : (next : ℕ) (rows : List UseRow) (answers : List KeptAnswer) → map key_of_use rows ≡ map key_of (reverse answers) → HaveTicks rows → FallBelow next (map tick_of (reverse rows)) → AreUsesOf next rows answers
+pub followed : (next : ℕ) (rows : List UseRow) (answers : List KeptAnswer) → map key_of_use rows ≡ map key_of (reverse answers) → HaveTicks rows → FallBelow next (map tick_of (reverse rows))
+    → AreUsesOf next rows answers
 followed next rows answers keys ticks fall =
     let turned = reverse rows in
     let same = keys_turned rows answers keys in

@@ -41,7 +41,8 @@ module _ {X K S : Type 0} (same : K → K → Bool) (decides : (a b : K) → (sa
   apart_by m xs index i j i_in j_in one = same_some (sym (index.listed i i_in) ∙ ap (get same m) one ∙ index.listed j j_in)
 
   -- one more, whose key none has
-  pub pushed_by : (m n : HashMap K ℕ S) (xs : List X) (x : X) → IsIndexedBy same key blank m xs → get same m (key x) ≡ None → ((q : K) → get same n q ≡ cond (same (key x) q) (Some (length xs)) (get same m q)) → IsIndexedBy same key blank n (xs ++ x ∷ [])
+  pub pushed_by : (m n : HashMap K ℕ S) (xs : List X) (x : X) → IsIndexedBy same key blank m xs → get same m (key x) ≡ None
+      → ((q : K) → get same n q ≡ cond (same (key x) q) (Some (length xs)) (get same m q)) → IsIndexedBy same key blank n (xs ++ x ∷ [])
   pushed_by m n xs x index none puts = record { listed = λ k within. listed k within; found = λ q k at. found q k at }
     where
       before : (k : ℕ) → k < length xs → get_or (xs ++ x ∷ []) k blank ≡ get_or xs k blank
@@ -76,7 +77,8 @@ module _ {X K S : Type 0} (same : K → K → Bool) (decides : (a b : K) → (sa
           ] refl
 
   -- the last taken out
-  pub popped_by : (m n : HashMap K ℕ S) (xs : List X) (x : X) → IsIndexedBy same key blank m (xs ++ x ∷ []) → ((q : K) → get same n q ≡ cond (same (key x) q) None (get same m q)) → IsIndexedBy same key blank n xs
+  pub popped_by : (m n : HashMap K ℕ S) (xs : List X) (x : X) → IsIndexedBy same key blank m (xs ++ x ∷ []) → ((q : K) → get same n q ≡ cond (same (key x) q) None (get same m q))
+      → IsIndexedBy same key blank n xs
   popped_by m n xs x index puts = record { listed = λ k within. listed k within; found = λ q k at. found q k at }
     where
       before : (k : ℕ) → k < length xs → get_or (xs ++ x ∷ []) k blank ≡ get_or xs k blank

@@ -27,7 +27,8 @@ use Rattle.repo_store.proofs.SameLemmas.{IsSame, same_itself, same_blobs}
 -- the contents before, and those that came
 pub contents_before : (bytes : List ℕ) (contents : List (List ℕ)) → take (length contents) (with_content bytes contents) ≡ contents
 contents_before bytes contents =
-    elim (has_content bytes contents) as (λ b. take (length contents) (if b then contents else contents ++ bytes ∷ []) ≡ contents) [ true ↦ take-length contents | false ↦ take-append_seam contents (bytes ∷ []) ]
+    elim (has_content bytes contents) as (λ b. take (length contents) (if b then contents else contents ++ bytes ∷ []) ≡ contents)
+    [ true ↦ take-length contents | false ↦ take-append_seam contents (bytes ∷ []) ]
 
 pub blobs_after : (old new : List (List ℕ)) → take (length old) new ≡ old → IsPermutation (map blob_row (drop (length old) new) ++ map blob_row old) (map blob_row new)
 blobs_after old new front =
@@ -58,9 +59,11 @@ news_of bytes kept = drop (length kept.contents) (with_content bytes kept.conten
 module _ (file : File) (kept : Kept) (rising : IsRising kept.repo.staged) where
   staged_after : IsPermutation (staged_row file ∷ filter (λ (row : StagedRow). not (bytes_eq row.path file.path)) (map staged_row kept.repo.staged)) (map staged_row (put_row file kept.repo.staged))
   staged_after =
-      subst (λ (l : List StagedRow). IsPermutation (staged_row file ∷ l) (map staged_row (put_row file kept.repo.staged))) (sym (others_staged file.path kept.repo.staged)) (IsPermutation-map staged_row _ _ (put_moves file kept.repo.staged rising))
+      subst (λ (l : List StagedRow). IsPermutation (staged_row file ∷ l) (map staged_row (put_row file kept.repo.staged))) (sym (others_staged file.path kept.repo.staged))
+      (IsPermutation-map staged_row _ _ (put_moves file kept.repo.staged rising))
 
-  pub staging_tables : IsSame (tables.with_staged (staged_row file) (tables.without_staged file.path (without_fixes (with_blobs (news_of file.entry.bytes kept) (tables_of kept))))) (tables_of (staging file.path file.entry kept))
+  pub staging_tables : IsSame (tables.with_staged (staged_row file) (tables.without_staged file.path (without_fixes (with_blobs (news_of file.entry.bytes kept) (tables_of kept)))))
+      (tables_of (staging file.path file.entry kept))
   staging_tables = record {
     meta = IsPermutation-refl (version_row ∷ limit_row (pos kept.limit) ∷ []);
     blobs = blobs_after kept.contents (with_content file.entry.bytes kept.contents) (contents_before file.entry.bytes kept.contents);
@@ -75,9 +78,12 @@ module _ (file : File) (kept : Kept) (rising : IsRising kept.repo.staged) where
 pub staging_handed : (file handed : File) (path : List ℕ) (news : List (List ℕ)) (kept : Kept) → IsRising kept.repo.staged → handed ≡ file → path ≡ file.path → news ≡ news_of file.entry.bytes kept
     → IsSame (tables.with_staged (staged_row handed) (tables.without_staged path (without_fixes (with_blobs news (tables_of kept))))) (tables_of (staging file.path file.entry kept))
 staging_handed file handed path news kept rising is path_is news_is =
-    subst (λ (f : File). IsSame (tables.with_staged (staged_row f) (tables.without_staged path (without_fixes (with_blobs news (tables_of kept))))) (tables_of (staging file.path file.entry kept))) (sym is)
-    (subst (λ (p : List ℕ). IsSame (tables.with_staged (staged_row file) (tables.without_staged p (without_fixes (with_blobs news (tables_of kept))))) (tables_of (staging file.path file.entry kept))) (sym path_is)
-    (subst (λ (l : List (List ℕ)). IsSame (tables.with_staged (staged_row file) (tables.without_staged file.path (without_fixes (with_blobs l (tables_of kept))))) (tables_of (staging file.path file.entry kept))) (sym news_is) (staging_tables file kept rising)))
+    subst (λ (f : File). IsSame (tables.with_staged (staged_row f) (tables.without_staged path (without_fixes (with_blobs news (tables_of kept))))) (tables_of (staging file.path file.entry kept)))
+    (sym is)
+    (subst (λ (p : List ℕ). IsSame (tables.with_staged (staged_row file) (tables.without_staged p (without_fixes (with_blobs news (tables_of kept))))) (tables_of (staging file.path file.entry kept)))
+    (sym path_is)
+    (subst (λ (l : List (List ℕ)). IsSame (tables.with_staged (staged_row file) (tables.without_staged file.path (without_fixes (with_blobs l (tables_of kept)))))
+    (tables_of (staging file.path file.entry kept))) (sym news_is) (staging_tables file kept rising)))
 
 -- the contents that came are forgotten
 pub forgotten : (bytes : List ℕ) (kept mid now : Kept) (count : ℕ) → count ≡ length kept.contents → mid ≡ keeping bytes kept → now ≡ record mid { contents = take count mid.contents } → now ≡ kept
@@ -86,12 +92,14 @@ forgotten bytes kept mid now count count_is mid_is is =
 
 pub unstaging_tables : (path : List ℕ) (kept : Kept) → IsSame (without_fixes (tables.without_staged path (tables_of kept))) (tables_of (unstaging path kept))
 unstaging_tables path kept =
-    subst (λ (l : List StagedRow). IsSame (record (tables_of kept) { staged = l; fixes = [] }) (tables_of (unstaging path kept))) (sym (others_staged path kept.repo.staged)) (same_itself (tables_of (unstaging path kept)))
+    subst (λ (l : List StagedRow). IsSame (record (tables_of kept) { staged = l; fixes = [] }) (tables_of (unstaging path kept))) (sym (others_staged path kept.repo.staged))
+    (same_itself (tables_of (unstaging path kept)))
 
 pub keeping_handed : (bytes : List ℕ) (news : List (List ℕ)) (kept : Kept) → news ≡ news_of bytes kept → IsSame (with_blobs news (tables_of kept)) (tables_of (keeping bytes kept))
 keeping_handed bytes news kept is =
     subst (λ (l : List (List ℕ)). IsSame (with_blobs l (tables_of kept)) (tables_of (keeping bytes kept))) (sym is)
-    (same_blobs (with_blobs (news_of bytes kept) (tables_of kept)) (map blob_row (with_content bytes kept.contents)) (blobs_after kept.contents (with_content bytes kept.contents) (contents_before bytes kept.contents)))
+    (same_blobs (with_blobs (news_of bytes kept) (tables_of kept)) (map blob_row (with_content bytes kept.contents))
+    (blobs_after kept.contents (with_content bytes kept.contents) (contents_before bytes kept.contents)))
 
 -- ---- commits
 
@@ -107,33 +115,45 @@ entries_more n (first ∷ history) commit =
     ∙ sym (append_assoc (map (entry_row n) first.tree) (entry_rows (n + 1) history) (map (entry_row (n + length (first ∷ history))) commit.tree))
 
 pub committing_tables : (message : List ℕ) (kept : Kept)
-    → IsSame (without_fixes (with_entries (map (entry_row (length kept.repo.history + 1)) kept.repo.staged) (tables.with_commit (record { n = pos (length kept.repo.history + 1); message = message }) (tables_of kept)))) (tables_of (committing message kept))
+    → IsSame (without_fixes (with_entries (map (entry_row (length kept.repo.history + 1)) kept.repo.staged)
+    (tables.with_commit (record { n = pos (length kept.repo.history + 1); message = message }) (tables_of kept)))) (tables_of (committing message kept))
 committing_tables message kept =
     let history = kept.repo.history in
     let commit : Commit = record { message = message; tree = kept.repo.staged } in
     let next : 1 + length history ≡ length history + 1 = omega arith in
-    let commits : commit_rows 1 (history ++ commit ∷ []) ≡ commit_rows 1 history ++ commit_row (length history + 1) commit ∷ [] = commits_more 1 history commit ∙ ap (λ (m : ℕ). commit_rows 1 history ++ commit_row m commit ∷ []) next in
-    let entries : entry_rows 1 (history ++ commit ∷ []) ≡ entry_rows 1 history ++ map (entry_row (length history + 1)) kept.repo.staged = entries_more 1 history commit ∙ ap (λ (m : ℕ). entry_rows 1 history ++ map (entry_row m) kept.repo.staged) next in
+    let commits : commit_rows 1 (history ++ commit ∷ []) ≡ commit_rows 1 history ++ commit_row (length history + 1) commit ∷ [] =
+    commits_more 1 history commit ∙ ap (λ (m : ℕ). commit_rows 1 history ++ commit_row m commit ∷ []) next in
+    let entries : entry_rows 1 (history ++ commit ∷ []) ≡ entry_rows 1 history ++ map (entry_row (length history + 1)) kept.repo.staged =
+    entries_more 1 history commit ∙ ap (λ (m : ℕ). entry_rows 1 history ++ map (entry_row m) kept.repo.staged) next in
     record {
       meta = IsPermutation-refl (version_row ∷ limit_row (pos kept.limit) ∷ []);
       blobs = IsPermutation-refl (map blob_row kept.contents);
       staged = IsPermutation-refl (map staged_row kept.repo.staged);
       fixes = IsPermutation-refl [];
-      commits = subst (IsPermutation (commit_row (length history + 1) commit ∷ commit_rows 1 history)) (sym commits) (IsPermutation-sym _ _ (IsPermutation-to_front (commit_rows 1 history) (commit_row (length history + 1) commit)));
-      entries = subst (IsPermutation (map (entry_row (length history + 1)) kept.repo.staged ++ entry_rows 1 history)) (sym entries) (IsPermutation-append_comm (map (entry_row (length history + 1)) kept.repo.staged) (entry_rows 1 history));
+      commits =
+          subst (IsPermutation (commit_row (length history + 1) commit ∷ commit_rows 1 history)) (sym commits)
+          (IsPermutation-sym _ _ (IsPermutation-to_front (commit_rows 1 history) (commit_row (length history + 1) commit)));
+      entries =
+          subst (IsPermutation (map (entry_row (length history + 1)) kept.repo.staged ++ entry_rows 1 history)) (sym entries)
+          (IsPermutation-append_comm (map (entry_row (length history + 1)) kept.repo.staged) (entry_rows 1 history));
       answers = IsPermutation-refl (map answer_row kept.answers);
     }
 
 pub committing_handed : (message text : List ℕ) (n : ℕ) (files : List File) (kept : Kept) → text ≡ message → n ≡ length kept.repo.history + 1 → files ≡ kept.repo.staged
     → IsSame (without_fixes (with_entries (map (entry_row n) files) (tables.with_commit (record { n = pos n; message = text }) (tables_of kept)))) (tables_of (committing message kept))
 committing_handed message text n files kept text_is n_is files_is =
-    subst (λ (m : ℕ). IsSame (without_fixes (with_entries (map (entry_row m) files) (tables.with_commit (record { n = pos m; message = text }) (tables_of kept)))) (tables_of (committing message kept))) (sym n_is)
-    (subst (λ (p : List ℕ). IsSame (without_fixes (with_entries (map (entry_row (length kept.repo.history + 1)) files) (tables.with_commit (record { n = pos (length kept.repo.history + 1); message = p }) (tables_of kept)))) (tables_of (committing message kept))) (sym text_is)
-    (subst (λ (l : List File). IsSame (without_fixes (with_entries (map (entry_row (length kept.repo.history + 1)) l) (tables.with_commit (record { n = pos (length kept.repo.history + 1); message = message }) (tables_of kept)))) (tables_of (committing message kept))) (sym files_is) (committing_tables message kept)))
+    subst (λ (m : ℕ). IsSame (without_fixes (with_entries (map (entry_row m) files) (tables.with_commit (record { n = pos m; message = text }) (tables_of kept))))
+    (tables_of (committing message kept))) (sym n_is)
+    (subst (λ (p : List ℕ). IsSame (without_fixes (with_entries (map (entry_row (length kept.repo.history + 1)) files)
+    (tables.with_commit (record { n = pos (length kept.repo.history + 1); message = p }) (tables_of kept)))) (tables_of (committing message kept))) (sym text_is)
+    (subst (λ (l : List File). IsSame (without_fixes (with_entries (map (entry_row (length kept.repo.history + 1)) l)
+    (tables.with_commit (record { n = pos (length kept.repo.history + 1); message = message }) (tables_of kept)))) (tables_of (committing message kept))) (sym files_is)
+    (committing_tables message kept)))
 
 -- ---- fixes
 
-pub setting_handed : (changes fixes : List Change) (news : List (List ℕ)) (kept : Kept) → fixes ≡ staged_changes changes kept.repo.staged → news ≡ drop (length kept.contents) (with_changes (staged_changes changes kept.repo.staged) kept.contents)
+pub setting_handed : (changes fixes : List Change) (news : List (List ℕ)) (kept : Kept) → fixes ≡ staged_changes changes kept.repo.staged
+    → news ≡ drop (length kept.contents) (with_changes (staged_changes changes kept.repo.staged) kept.contents)
     → IsSame (with_fix_rows (map fix_row fixes) (with_blobs news (tables_of kept))) (tables_of (setting changes kept))
 setting_handed changes fixes news kept fixes_is news_is =
     let taken = staged_changes changes kept.repo.staged in
@@ -142,6 +162,8 @@ setting_handed changes fixes news kept fixes_is news_is =
     (same_blobs (with_fix_rows (map fix_row taken) (with_blobs (drop (length kept.contents) (with_changes taken kept.contents)) (tables_of kept))) (map blob_row (with_changes taken kept.contents))
     (blobs_after kept.contents (with_changes taken kept.contents) (changes_before taken kept.contents (with_changes taken kept.contents) refl))))
 
-pub forgotten_changes : (changes : List Change) (kept mid now : Kept) (count : ℕ) → count ≡ length kept.contents → mid ≡ record kept { contents = with_changes changes kept.contents } → now ≡ record mid { contents = take count mid.contents } → now ≡ kept
+pub forgotten_changes : (changes : List Change) (kept mid now : Kept) (count : ℕ) → count ≡ length kept.contents → mid ≡ record kept { contents = with_changes changes kept.contents }
+    → now ≡ record mid { contents = take count mid.contents } → now ≡ kept
 forgotten_changes changes kept mid now count count_is mid_is is =
-    is ∙ ap₂ (λ (n : ℕ) (k : Kept). record k { contents = take n k.contents }) count_is mid_is ∙ ap (λ (l : List (List ℕ)). record kept { contents = l }) (changes_before changes kept.contents (with_changes changes kept.contents) refl)
+    is ∙ ap₂ (λ (n : ℕ) (k : Kept). record k { contents = take n k.contents }) count_is mid_is
+    ∙ ap (λ (l : List (List ℕ)). record kept { contents = l }) (changes_before changes kept.contents (with_changes changes kept.contents) refl)

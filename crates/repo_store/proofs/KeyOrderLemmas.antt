@@ -5,7 +5,7 @@ use Rattle.std.specs.List.{AllByRecursion}
 use Rattle.std.specs.Ordering.{match_ordering}
 use Rattle.std.proofs.lemmas.List.{reverse-append, take_more}
 use Rattle.std.proofs.lemmas.List.Sorted.{IsPermutation-reverse}
-use Rattle.sqlite_keyed.proofs.ListLemmas.{all-append, ascending-append, ascending_from_map}
+use Rattle.repo_store.proofs.Kit.{all-append, ascending-append, ascending_from_map}
 use Rattle.sqlite_trees.specs.Tree.{IsAscending}
 use Rattle.hook_base.specs.Rising.{path_cmp}
 use Rattle.hook_base.specs.RisingLemmas.{path_tied}
@@ -82,6 +82,7 @@ module _ {X : Type 0} (R : X → X → Type 0) where
       (all_weaker (R x) (λ y. AllByRecursion (Back y) (x ∷ [])) (reverse xs) (λ y b. (b, tt)) all))
 
 -- rows that rise, the last one first, are those of answers that fall
-pub answers_fall : (rows : List AnswerRow) (answers : List KeptAnswer) → IsAscending IsKeyBelow rows → map answer_row answers ≡ reverse rows → IsAscending (λ a b. key_cmp (key_of b) (key_of a) ≡ Less) answers
+pub answers_fall : (rows : List AnswerRow) (answers : List KeptAnswer) → IsAscending IsKeyBelow rows → map answer_row answers ≡ reverse rows
+    → IsAscending (λ a b. key_cmp (key_of b) (key_of a) ≡ Less) answers
 answers_fall rows answers up same =
     ascending_from_map (Back IsKeyBelow) answer_row answers (subst (IsAscending (Back IsKeyBelow)) (sym same) (ascending_turned IsKeyBelow rows up))

@@ -21,6 +21,7 @@ pub mod IndexLemmas
 pub mod KeptLemmas
 pub mod KeyLemmas
 pub mod KeyOrderLemmas
+pub mod Kit
 pub mod ListLemmas
 pub mod ListedLemmas
 pub mod ManyLemmas

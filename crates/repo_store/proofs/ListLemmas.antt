@@ -19,7 +19,9 @@ turned (x ∷ a) (y ∷ b) = ap₂ ◌&&◌ (numbers x y) (turned a b)
 pub others_staged : (path : List ℕ) (files : List File) → filter (λ (row : StagedRow). not (bytes_eq row.path path)) (map staged_row files) ≡ map staged_row (remove_file path files)
 others_staged path [] = refl
 others_staged path (file ∷ files) =
-    (λ i. cond (not (turned file.path path i)) (staged_row file ∷ filter (λ (row : StagedRow). not (bytes_eq row.path path)) (map staged_row files)) (filter (λ (row : StagedRow). not (bytes_eq row.path path)) (map staged_row files)))
-    ∙ elim (bytes_eq path file.path) as (λ b. cond (not b) (staged_row file ∷ filter (λ (row : StagedRow). not (bytes_eq row.path path)) (map staged_row files)) (filter (λ (row : StagedRow). not (bytes_eq row.path path)) (map staged_row files))
+    (λ i. cond (not (turned file.path path i)) (staged_row file ∷ filter (λ (row : StagedRow). not (bytes_eq row.path path)) (map staged_row files))
+    (filter (λ (row : StagedRow). not (bytes_eq row.path path)) (map staged_row files)))
+    ∙ elim (bytes_eq path file.path) as (λ b. cond (not b) (staged_row file ∷ filter (λ (row : StagedRow). not (bytes_eq row.path path)) (map staged_row files))
+    (filter (λ (row : StagedRow). not (bytes_eq row.path path)) (map staged_row files))
     ≡ map staged_row (cond b (remove_file path files) (file ∷ remove_file path files)))
     [ true ↦ others_staged path files | false ↦ ap (λ l. staged_row file ∷ l) (others_staged path files) ]

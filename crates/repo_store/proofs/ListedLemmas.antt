@@ -7,11 +7,10 @@ use Rattle.sqlite.specs.declared.error.Error.{Error}
 use Rattle.sqlite.specs.Effect.{Database, IsDatabase}
 use Rattle.sqlite.specs.Held.{Held, state}
 use Rattle.sqlite.specs.State.{HasCleanDisk, IsUnchanged, IsRolledBack, Survives}
-use Rattle.sqlite.proofs.InsideLemmas.{keeps_then}
-use Rattle.sqlite.proofs.StateLemmas.{survives_then}
+use Rattle.repo_store.proofs.Kit.{keeps_then, survives_then}
 use Rattle.store_tables.specs.declared.rows.UseRow.{UseRow}
 use Rattle.store_tables.specs.Schema.{MoreTables, no_more, schema_with_uses, store_schema, store_with}
-use Rattle.store_tables.specs.Tables.{Tables, Holds, HoldsIn}
+use Rattle.store_tables.specs.Tables.{Tables, HoldsTables, HoldsIn}
 use Rattle.store_tables.specs.Uses.{HoldsUses, HoldsWithUses, IsReadOfUses, as_store}
 use Rattle.store_faults.specs.declared.fault.StoreFault.{StoreFault}
 use Rattle.store_faults.specs.declared.fault.StoreFault.TheVariants.{NotAStore, Damaged, Sql, OutOfMemory, Collision, TooLarge, TooMany}
@@ -20,7 +19,7 @@ use Rattle.repo_store.specs.Bounded.{AreBoundedRows, AreVersionRows, HoldsNext, 
 use Rattle.repo_store.specs.Calls.{Rests}
 use Rattle.repo_store.specs.Complete.{AreAlike, IsComplete}
 use Rattle.store_faults.specs.Faults.{IsRefusal}
-use Rattle.repo_store.specs.FromRows.{AreRefused, AreTablesShown, IsSame, rows_in}
+use Rattle.repo_store.specs.FromRows.{AreRowsRefused, AreTablesShown, IsSame, tables_of_rows}
 use Rattle.repo_store.specs.Index.{key_of}
 use Rattle.repo_store.specs.Kept.{Kept, Mirror}
 use Rattle.repo_store.specs.ListedAnswers.{IsNextTick}
@@ -28,7 +27,7 @@ use Rattle.repo_store.specs.Opening.{AreListed, AreListedAlone, AreRead, IsFound
 use Rattle.repo_store.specs.Rows.{first_tables_of, tables_of}
 use Rattle.repo_store.specs.RowRules.{AreFirstVersionRows, AreStoreRows}
 use Rattle.repo_store.specs.Shown.{Leaves}
-use Rattle.repo_store.specs.Standing.{StandsAt}
+use Rattle.repo_store.specs.Standing.{StandsAtTick}
 use Rattle.repo_store.specs.Unfit.{IsUnfit}
 use Rattle.repo_store.specs.UsesOf.{AreUsesOf}
 use Rattle.repo_store.proofs.AlikeLemmas.{left_alike}
@@ -107,7 +106,8 @@ module _ {S : Type 0} (g : Ghosts S) (a b c : Held S) (P : Trees → Type 0) (so
 
 -- ---- the rows of each version
 
-shown_holds : (listed : Schema) (db : Database) (tables : TableRows) → db.schema ≡ listed → IsDatabase db → AreTablesShown tables db.trees → HoldsIn listed db (rows_in tables.meta.items tables.store)
+shown_holds : (listed : Schema) (db : Database) (tables : TableRows) → db.schema ≡ listed → IsDatabase db → AreTablesShown tables db.trees
+    → HoldsIn listed db (tables_of_rows tables.meta.items tables.store)
 shown_holds listed db tables ours live shown =
     let store = shown.store in
     record {
@@ -125,7 +125,7 @@ shown_holds listed db tables ours live shown =
       answers_keyed = store.answers_keyed;
     }
 
-first_unfit : (db : Database) (t : Tables) → Holds db t → (fault : StoreFault) → AreRefused (AreFirstVersionRows t.meta) (AreStoreRows t) fault → IsUnfit db fault
+first_unfit : (db : Database) (t : Tables) → HoldsTables db t → (fault : StoreFault) → AreRowsRefused (AreFirstVersionRows t.meta) (AreStoreRows t) fault → IsUnfit db fault
 first_unfit db t hold NotAStore h = inr (inl (record { schema = hold.schema; rows = t.meta; stored = hold.meta; other = h }))
 first_unfit db t hold Damaged h = inl (record { tables = t; holds = hold; versioned = h.0; broken = h.1 })
 first_unfit db t hold (Sql error) h = tt
@@ -134,7 +134,8 @@ first_unfit db t hold Collision h = h
 first_unfit db t hold TooLarge h = h
 first_unfit db t hold TooMany h = h
 
-second_unfit : (db : Database) (t : Tables) (uses : List UseRow) → HoldsWithUses db t uses → (fault : StoreFault) → AreRefused (AreVersionRows t.meta) (AreBoundedRows t uses) fault → IsUnfit db fault
+second_unfit : (db : Database) (t : Tables) (uses : List UseRow) → HoldsWithUses db t uses → (fault : StoreFault) → AreRowsRefused (AreVersionRows t.meta) (AreBoundedRows t uses) fault
+    → IsUnfit db fault
 second_unfit db t uses hold NotAStore h = inr (inr (record { schema = hold.0.schema; rows = t.meta; stored = hold.0.meta; other = h }))
 second_unfit db t uses hold Damaged h = inr (record { tables = t; rows = uses; holds = hold; versioned = h.0; broken = h.1 })
 second_unfit db t uses hold (Sql error) h = tt
@@ -145,11 +146,12 @@ second_unfit db t uses hold TooMany h = h
 
 module _ (tables : TableRows) (db : Database) where
   abbrev t : Tables
-  t = rows_in tables.meta.items tables.store
+  t = tables_of_rows tables.meta.items tables.store
 
   pub first_decided : (r : Result Mirror StoreFault) → IfOk r (λ lists. IsSame t (first_tables_of lists.kept))
       → IfOk r (λ lists. IsAscending (λ a b. key_cmp (key_of b) (key_of a) ≡ Less) lists.kept.answers) → OnOk r (AreStoreRows t)
-      → IfErr r (AreRefused (AreFirstVersionRows t.meta) (AreStoreRows t)) → db.schema ≡ store_schema → IsDatabase db → AreTablesShown tables db.trees → MatchResult r (IsFoundFirst db) (IsUnfit db)
+      → IfErr r (AreRowsRefused (AreFirstVersionRows t.meta) (AreStoreRows t)) → db.schema ≡ store_schema → IsDatabase db → AreTablesShown tables db.trees
+      → MatchResult r (IsFoundFirst db) (IsUnfit db)
   first_decided (Ok lists) same fall obeys refused ours live shown = record {
     holds = holds_same db t (first_tables_of lists.kept) same (shown_holds store_schema db tables ours live shown);
     meta_keyed = shown.meta_keyed;
@@ -159,7 +161,7 @@ module _ (tables : TableRows) (db : Database) where
   first_decided (Err fault) same fall obeys refused ours live shown = first_unfit db t (shown_holds store_schema db tables ours live shown) fault refused
 
   pub second_decided : (uses : List UseRow) (r : Result Mirror StoreFault) → IfOk r (λ lists. IsSame t (tables_of lists.kept)) → IfOk r (λ lists. AreUsesOf lists.next uses lists.kept.answers)
-      → IfErr r (AreRefused (AreVersionRows t.meta) (AreBoundedRows t uses)) → db.schema ≡ schema_with_uses → IsDatabase db → AreTablesShown tables db.trees × HoldsUses db.trees uses
+      → IfErr r (AreRowsRefused (AreVersionRows t.meta) (AreBoundedRows t uses)) → db.schema ≡ schema_with_uses → IsDatabase db → AreTablesShown tables db.trees × HoldsUses db.trees uses
       → MatchResult r (IsFoundIn db) (IsUnfit db)
   second_decided uses (Ok lists) same used refused ours live shown = record {
     rows = uses;
@@ -169,12 +171,14 @@ module _ (tables : TableRows) (db : Database) where
   second_decided uses (Err fault) same used refused ours live shown = second_unfit db t uses (shown_holds schema_with_uses db tables ours live shown.0, shown.1) fault refused
 
 -- and those rows obey the rules
-pub listed_obey : (own : Kept → Tables) (t : Tables) (r : Result Mirror StoreFault) → IfOk r (λ lists. IsSame t (own lists.kept)) → OnOk r (AreStoreRows t) → IfOk r (λ lists. AreStoreRows (own lists.kept))
+pub listed_obey : (own : Kept → Tables) (t : Tables) (r : Result Mirror StoreFault) → IfOk r (λ lists. IsSame t (own lists.kept)) → OnOk r (AreStoreRows t)
+    → IfOk r (λ lists. AreStoreRows (own lists.kept))
 listed_obey own t (Ok lists) same obeys = obeys_same t (own lists.kept) same obeys
 listed_obey own t (Err fault) same obeys = same
 
 -- in a transaction of its own, which is rolled back
-pub loaded : {S : Type 0} (listed : Schema) (Found : Database → Mirror → Type 0) (g : Ghosts S) (old mid end new : Held S) (r : Result Mirror StoreFault) → mid ≡ record old { in_transaction = true } → AreListed listed Found g mid end r
+pub loaded : {S : Type 0} (listed : Schema) (Found : Database → Mirror → Type 0) (g : Ghosts S) (old mid end new : Held S) (r : Result Mirror StoreFault) → mid ≡ record old { in_transaction = true }
+    → AreListed listed Found g mid end r
     → new.in_transaction ≡ false
     → (HasCleanDisk (state g new) → IsRolledBack (state g end) (state g new)) → Survives (state g end) (state g new) (λ _. ⊥) → AreListedAlone listed Found g old new r
 loaded {S} listed Found g old mid end new r begun read outside undone survives = record {
@@ -190,7 +194,9 @@ loaded {S} listed Found g old mid end new r begun read outside undone survives =
         committed = λ h. (back.undone h).1 ∙ kept.committed (back.was_open h);
       };
   survives =
-      let all = survives_then (state g (record old { in_transaction = true })) (state g end) (state g new) _ _ (λ _. ⊥) (λ _ db none. none) (λ _ db none. none) it.survives survives in record { clean = all.clean; shield = all.shield; counts = all.counts; limit = all.limit; closes = all.closes; crash = all.crash };
+      let all =
+      survives_then (state g (record old { in_transaction = true })) (state g end) (state g new) _ _ (λ _. ⊥) (λ _ db none. none) (λ _ db none. none) it.survives
+      survives in record { clean = all.clean; shield = all.shield; counts = all.counts; limit = all.limit; closes = all.closes; crash = all.crash };
 }
   where
     open_at : (r : Result Mirror StoreFault) → OnOk r (IsUnchanged (state g (record old { in_transaction = true })) (state g end)) → OnOk r (IsTrue (state g old).is_open)
@@ -214,7 +220,8 @@ stored_as db kept holds = subst (λ (s : Schema). HoldsStore (record { schema = 
 
 module _ {S : Type 0} (g : Ghosts S) (old new : Held S) (lists : Mirror) (next : IsNextTick lists.next) (complete : IsComplete lists.kept) (obeys : AreStoreRows (tables_of lists.kept)) (ours :
     (state g old).now.schema ≡ schema_with_uses)
-    (live : IsTrue (state g old).is_open → IsDatabase (state g old).now) (settled : IsTrue (state g old).is_open → (state g old).now ≡ (state g old).committed) (load : AreListedAlone schema_with_uses IsFoundIn g old new (Ok lists))
+    (live : IsTrue (state g old).is_open → IsDatabase (state g old).now) (settled : IsTrue (state g old).is_open → (state g old).now ≡ (state g old).committed)
+    (load : AreListedAlone schema_with_uses IsFoundIn g old new (Ok lists))
     (dirty : ShutIfDirty (state g new)) where
   clean_new : IsTrue (state g new).is_open → HasCleanDisk (state g new)
   clean_new h = clean_if_open (state g new).is_clean (state g new).is_open dirty h
@@ -227,7 +234,7 @@ module _ {S : Type 0} (g : Ghosts S) (old new : Held S) (lists : Mirror) (next :
   pub opened_holds : IsTrue (state g new).is_open → HoldsStore (state g old).committed lists.kept
   opened_holds h = found_stored (state g old).committed lists next (opened_at h)
 
-  pub opened_stands_at : StandsAt g new lists.kept lists.next
+  pub opened_stands_at : StandsAtTick g new lists.kept lists.next
   opened_stands_at = record {
     outside = load.outside;
     complete = complete;
@@ -240,19 +247,22 @@ module _ {S : Type 0} (g : Ghosts S) (old new : Held S) (lists : Mirror) (next :
 
   -- the repository that was left is the one that is opened
   pub opened_again : IsTrue (state g new).is_open → (kept : Kept) → Leaves kept (state g old).committed.trees → AreAlike lists.kept kept
-  opened_again h kept left = left_alike (state g old).committed.trees lists.kept kept (record { holds = stored_as (state g old).committed lists.kept (opened_holds h); complete = complete; obeys = obeys }) left
+  opened_again h kept left =
+      left_alike (state g old).committed.trees lists.kept kept (record { holds = stored_as (state g old).committed lists.kept (opened_holds h); complete = complete; obeys = obeys }) left
 
   -- what a crash may leave was there before, and is what was committed
   pub opened_durable : ((trees : Trees) → IsTrue (state g old).is_open → (state g old).may_leave trees → trees ≡ (state g old).committed.trees)
       → HasCleanDisk (state g new) → (trees : Trees) → (state g new).may_leave trees → Leaves lists.kept trees
   opened_durable law clean trees left =
       let was : IsTrue (state g old).is_open = load.was_open clean ours in
-      let holds : HoldsStore (state g old).committed lists.kept = subst (λ (db : Database). HoldsStore db lists.kept) (settled was) (found_stored (state g old).now lists next (load.found clean ours live)) in
+      let holds : HoldsStore (state g old).committed lists.kept =
+      subst (λ (db : Database). HoldsStore db lists.kept) (settled was) (found_stored (state g old).now lists next (load.found clean ours live)) in
       let same : trees ≡ (state g old).committed.trees = law trees was (elim (load.survives.crash clean trees left) [ inl before ↦ before | inr none ↦ absurd none ]) in
       record { holds = subst (λ (l : Trees). HoldsStore (as_store l) lists.kept) (sym same) (stored_as (state g old).committed lists.kept holds); complete = complete; obeys = obeys }
 
 -- a read that left the connection open left the last commit
-pub rests_if_open : {S : Type 0} (listed : Schema) (Found : Database → Mirror → Type 0) (g : Ghosts S) (old new : Held S) (r : Result Mirror StoreFault) → (state g old).now.schema ≡ listed → AreListedAlone listed Found g old new r
+pub rests_if_open : {S : Type 0} (listed : Schema) (Found : Database → Mirror → Type 0) (g : Ghosts S) (old new : Held S) (r : Result Mirror StoreFault) → (state g old).now.schema ≡ listed
+    → AreListedAlone listed Found g old new r
     → ShutIfDirty (state g new) → Rests (state g old) (state g new)
 rests_if_open listed Found g old new r ours load dirty =
     let clean = λ (h : IsTrue (state g new).is_open). clean_if_open (state g new).is_clean (state g new).is_open dirty h in

@@ -123,7 +123,8 @@ module _ {X : Type 0} (contents_of : X → List (List ℕ)) (items : List X) (i 
   contents_around : flat_map contents_of items ≡ flat_map contents_of (take i items) ++ (contents_of x ++ flat_map contents_of (drop (i + 1) items))
   contents_around =
       ap (flat_map contents_of) (sym (take-append-drop (i + 1) items)) ∙ flat_map-append contents_of (take (i + 1) items) (drop (i + 1) items)
-      ∙ ap (λ (l : List (List ℕ)). l ++ flat_map contents_of (drop (i + 1) items)) contents_more ∙ append_assoc (flat_map contents_of (take i items)) (contents_of x) (flat_map contents_of (drop (i + 1) items))
+      ∙ ap (λ (l : List (List ℕ)). l ++ flat_map contents_of (drop (i + 1) items)) contents_more
+      ∙ append_assoc (flat_map contents_of (take i items)) (contents_of x) (flat_map contents_of (drop (i + 1) items))
 
   module _ (old mid : List (List ℕ)) (before : AreAllKept (flat_map contents_of (take i items)) old mid) where
     pub kept_more : (new : List (List ℕ)) → AreAllKept (contents_of x) mid new → AreAllKept (flat_map contents_of (take (i + 1) items)) old new
@@ -132,7 +133,8 @@ module _ {X : Type 0} (contents_of : X → List (List ℕ)) (items : List X) (i 
     pub stopped_at : (new : List (List ℕ)) (fault : StoreFault) → IsStopped (contents_of x) mid new fault → IsStopped (flat_map contents_of items) old new fault
     stopped_at new fault next =
         subst (λ (l : List (List ℕ)). IsStopped l old new fault) (sym contents_around)
-        (stopped_then (flat_map contents_of (take i items)) (contents_of x ++ flat_map contents_of (drop (i + 1) items)) old mid before new fault (stopped_front (contents_of x) (flat_map contents_of (drop (i + 1) items)) mid new fault next))
+        (stopped_then (flat_map contents_of (take i items)) (contents_of x ++ flat_map contents_of (drop (i + 1) items)) old mid before new fault
+        (stopped_front (contents_of x) (flat_map contents_of (drop (i + 1) items)) mid new fault next))
 
     pub stopped_there : (new : List (List ℕ)) → AreAllKept (contents_of x) mid new → IsStopped (flat_map contents_of items) old new OutOfMemory
     stopped_there new next = stopped_behind (flat_map contents_of (take (i + 1) items)) (flat_map contents_of items) old new (kept_more new next)

@@ -3,7 +3,7 @@ use Rattle.std.proofs.Common.{◌≡◌, ℕ, ◌≤◌, ℤ, pos, List, [], ◌
 use Rattle.std.specs.Prelude.{IfNone}
 use Rattle.std.specs.List.{AllByRecursion}
 use Rattle.std.proofs.lemmas.List.Sorted.{IsPermutation-middle, IsPermutation-sym, IsPermutation-trans, length_permutation}
-use Rattle.sqlite.proofs.Callers.{one_permutation}
+use Rattle.repo_store.proofs.Kit.{one_permutation}
 use Rattle.store_tables.specs.declared.rows.MetaRow.{MetaRow}
 use Rattle.repo_store.specs.Bounded.{AreVersionRows}
 use Rattle.repo_store.specs.FromRows.{HasLimit}

@@ -7,7 +7,7 @@ use Rattle.std.proofs.lemmas.Cmp.{int_cmp_total, tied_itself}
 use Rattle.std.proofs.lemmas.List.{append-nil}
 use Rattle.std.proofs.lemmas.List.Elements.{filter-append}
 use Rattle.std.proofs.lemmas.List.Sorted.{length_permutation, IsPermutation-refl, IsPermutation-sym}
-use Rattle.sqlite_keyed.proofs.ListLemmas.{IsPermutation-filter, filter_all, filter_none}
+use Rattle.repo_store.proofs.Kit.{IsPermutation-filter, filter_all, filter_none}
 use Rattle.sqlite_trees.specs.Tree.{IsAscending}
 use Rattle.hook_base.specs.declared.file.File.{File}
 use Rattle.hook_base.specs.declared.change.Change.{Change}
@@ -42,7 +42,8 @@ module _ {X : Type 0} (is_before : X → X → Bool) (never_back : (x y : X) →
   same_first x y xs ys up also same =
       elim (all_same (λ z. (z ≡ y) ⊎ (is_before y z ≡ true)) (y ∷ ys) (x ∷ xs) (IsPermutation-sym _ _ same) (first_or_later y ys also)).0 [
         | inl is ↦ is
-        | inr y_first ↦ elim (all_same (λ z. (z ≡ x) ⊎ (is_before x z ≡ true)) (x ∷ xs) (y ∷ ys) same (first_or_later x xs up)).0 [ inl is ↦ sym is | inr x_first ↦ absurd (never_back x y x_first y_first) ]
+        | inr y_first ↦ elim (all_same (λ z. (z ≡ x) ⊎ (is_before x z ≡ true)) (x ∷ xs) (y ∷ ys) same (first_or_later x xs up)).0
+            [ inl is ↦ sym is | inr x_first ↦ absurd (never_back x y x_first y_first) ]
       ]
 
   all_but_first : (x : X) (xs : List X) → Rises (x ∷ xs) → filter (is_before x) (x ∷ xs) ≡ xs
@@ -115,7 +116,8 @@ later_files k n (file ∷ files) below = (ap is_lt (pos_less k n below), later_f
 later_entries : (k n : ℕ) (history : List Commit) → k < n → AllByRecursion (λ (row : EntryRow). is_later k row.n ≡ true) (entry_rows n history)
 later_entries k n [] below = tt
 later_entries k n (commit ∷ history) below =
-    all_both (λ (row : EntryRow). is_later k row.n ≡ true) (map (entry_row n) commit.tree) (entry_rows (n + 1) history) (later_files k n commit.tree below) (later_entries k (n + 1) history (omega arith))
+    all_both (λ (row : EntryRow). is_later k row.n ≡ true) (map (entry_row n) commit.tree) (entry_rows (n + 1) history) (later_files k n commit.tree below)
+    (later_entries k (n + 1) history (omega arith))
 
 here_files : (n : ℕ) (files : List File) → AllByRecursion (λ (row : EntryRow). is_later n row.n ≡ false) (map (entry_row n) files)
 here_files n [] = tt
@@ -128,8 +130,10 @@ module _ (n : ℕ) (files : List File) (history : List Commit) where
   files_here : filter (λ row. not (later row)) (map (entry_row n) files ++ entry_rows (n + 1) history) ≡ map (entry_row n) files
   files_here =
       filter-append (λ row. not (later row)) (map (entry_row n) files) (entry_rows (n + 1) history)
-      ∙ ap₂ ◌++◌ (filter_all (λ row. not (later row)) (map (entry_row n) files) (all_weaker (λ row. later row ≡ false) (λ row. not (later row) ≡ true) (map (entry_row n) files) (λ row. ap not) (here_files n files)))
-      (filter_none (λ row. not (later row)) (entry_rows (n + 1) history) (all_weaker (λ row. later row ≡ true) (λ row. not (later row) ≡ false) (entry_rows (n + 1) history) (λ row. ap not) (later_entries n (n + 1) history (omega arith))))
+      ∙ ap₂ ◌++◌ (filter_all (λ row. not (later row)) (map (entry_row n) files)
+      (all_weaker (λ row. later row ≡ false) (λ row. not (later row) ≡ true) (map (entry_row n) files) (λ row. ap not) (here_files n files)))
+      (filter_none (λ row. not (later row)) (entry_rows (n + 1) history)
+      (all_weaker (λ row. later row ≡ true) (λ row. not (later row) ≡ false) (entry_rows (n + 1) history) (λ row. ap not) (later_entries n (n + 1) history (omega arith))))
       ∙ append-nil (map (entry_row n) files)
 
   files_later : filter later (map (entry_row n) files ++ entry_rows (n + 1) history) ≡ entry_rows (n + 1) history
@@ -155,11 +159,14 @@ module _ (a b : List (List ℕ)) (same : IsPermutation a b) (apart : HaveDistinc
       let row : commit_row n c ≡ commit_row n d = cc in
       let first : c.message ≡ d.message = ap (λ (r : CommitRow). r.message) row in
       let rest : commit_rows (n + 1) g ≡ commit_rows (n + 1) h = cc in
-      let here = filtered (λ (row : EntryRow). not (later n c.tree g row)) (entry_rows n (c ∷ g)) (entry_rows n (d ∷ h)) (map (entry_row n) c.tree) (map (entry_row n) d.tree) (files_here n c.tree g) (files_here n d.tree h) entries in
+      let here =
+      filtered (λ (row : EntryRow). not (later n c.tree g row)) (entry_rows n (c ∷ g)) (entry_rows n (d ∷ h)) (map (entry_row n) c.tree) (map (entry_row n) d.tree) (files_here n c.tree g)
+      (files_here n d.tree h) entries in
       let behind = filtered (later n c.tree g) (entry_rows n (c ∷ g)) (entry_rows n (d ∷ h)) (entry_rows (n + 1) g) (entry_rows (n + 1) h) (files_later n c.tree g) (files_later n d.tree h) entries in
       let shown = one_rising path_of (entry_row n) (λ (row : EntryRow). row.path) (λ file. refl) c.tree d.tree up.0 also.0 here in
       let tree = same_files a b same apart (entry_row n) (λ (row : EntryRow). record { path = row.path; mode = row.mode; digest = row.digest }) (λ file. refl) c.tree d.tree g_in.0 h_in.0 shown in
-      ap₂ (λ (x : Commit) (l : List Commit). x ∷ l) (ap₂ (λ (m : List ℕ) (t : List File). let made : Commit = record { message = m; tree = t } in made) first tree) (same_history (n + 1) g h rest behind up.1 also.1 g_in.1 h_in.1)
+      ap₂ (λ (x : Commit) (l : List Commit). x ∷ l) (ap₂ (λ (m : List ℕ) (t : List File). let made : Commit = record { message = m; tree = t } in made) first tree)
+      (same_history (n + 1) g h rest behind up.1 also.1 g_in.1 h_in.1)
 
 -- ---- all of it
 
@@ -171,7 +178,8 @@ alike_from_same a b obeys other same ordered =
     (one_rising path_of staged_row (λ (row : StagedRow). row.path) (λ file. refl) a.repo.staged b.repo.staged obeys.sound.staged_rise other.sound.staged_rise same.staged) in
     let fixes =
     same_fixes a.contents b.contents contents other.apart a.repo.fixes b.repo.fixes obeys.fixes other.fixes
-    (one_rising (λ (change : Change). change.path) fix_row (λ (row : FixRow). row.path) (λ change. fix_path change.path change.now) a.repo.fixes b.repo.fixes obeys.sound.fixes_rise other.sound.fixes_rise same.fixes) in
+    (one_rising (λ (change : Change). change.path) fix_row (λ (row : FixRow). row.path) (λ change. fix_path change.path change.now) a.repo.fixes b.repo.fixes obeys.sound.fixes_rise
+    other.sound.fixes_rise same.fixes) in
     let history =
     same_history a.contents b.contents contents other.apart 1 a.repo.history b.repo.history (same_commits a.repo.history b.repo.history same.commits) same.entries
     obeys.sound.trees_rise other.sound.trees_rise obeys.trees other.trees in

@@ -5,7 +5,7 @@ use Rattle.sqlite_trees.specs.Tree.{Trees}
 use Rattle.sqlite.specs.Effect.{Database, IsDatabase}
 use Rattle.sqlite.specs.Held.{Held, state}
 use Rattle.sqlite.specs.State.{State}
-use Rattle.sqlite.proofs.StateLemmas.{survives_weaker}
+use Rattle.repo_store.proofs.Kit.{survives_weaker}
 use Rattle.store_tables.specs.Schema.{schema_with_uses, store_schema}
 use Rattle.store_faults.specs.declared.fault.StoreFault.{StoreFault}
 use Rattle.store_faults.specs.declared.fault.StoreFault.TheVariants.{NotAStore}
@@ -26,7 +26,8 @@ use Rattle.repo_store.proofs.StandLemmas.{ShutIfDirty, clean_of, store_of, survi
 abbrev pub IsSettled : State → Type 0
 IsSettled s = (trees : Trees) → IsTrue s.is_open → s.may_leave trees → trees ≡ s.committed.trees
 
-module _ {S : Type 0} (g : Ghosts S) (old : Held S) (live : IsTrue (state g old).is_open → IsDatabase (state g old).now) (settled : IsTrue (state g old).is_open → (state g old).now ≡ (state g old).committed) where
+module _ {S : Type 0} (g : Ghosts S) (old : Held S) (live : IsTrue (state g old).is_open → IsDatabase (state g old).now)
+    (settled : IsTrue (state g old).is_open → (state g old).now ≡ (state g old).committed) where
   -- a database of neither version
   pub no_store : old.in_transaction ≡ false → ((state g old).now.schema ≡ store_schema → ⊥) → ((state g old).now.schema ≡ schema_with_uses → ⊥) → IsOpening g old old (Err NotAStore)
   no_store outside not_first not_second = record {
@@ -73,7 +74,8 @@ module _ {S : Type 0} (g : Ghosts S) (old : Held S) (live : IsTrue (state g old)
 
   -- one of version 1
   module _ (new : Held S) (dirty : ShutIfDirty (state g new)) (ours : (state g old).now.schema ≡ store_schema) (law : IsSettled (state g new)) where
-    pub first_opened : (r : Result Mirror StoreFault) → IsTakingOver g old new r → IfOk r (λ lists. IsNextTick lists.next) → IfOk r (λ lists. IsComplete lists.kept) → IfOk r (λ lists. AreStoreRows (tables_of lists.kept))
+    pub first_opened : (r : Result Mirror StoreFault) → IsTakingOver g old new r → IfOk r (λ lists. IsNextTick lists.next) → IfOk r (λ lists. IsComplete lists.kept)
+        → IfOk r (λ lists. AreStoreRows (tables_of lists.kept))
         → IsOpening g old new r
     first_opened (Ok lists) it next complete obeys = record {
       outside = it.outside;
@@ -96,7 +98,9 @@ module _ {S : Type 0} (g : Ghosts S) (old : Held S) (live : IsTrue (state g old)
       durable = λ clean trees left.
           let done = (it.taken clean).1 in
           record {
-            holds = store_of lists.next _ lists.kept (next.first, next.last) (leaves_commit (state g new).committed trees lists.next lists.kept.answers (tables_of lists.kept) done.committed (law trees done.is_open left));
+            holds =
+                store_of lists.next _ lists.kept (next.first, next.last) (leaves_commit (state g new).committed trees lists.next lists.kept.answers (tables_of lists.kept) done.committed
+                (law trees done.is_open left));
             complete = complete;
             obeys = obeys;
           };

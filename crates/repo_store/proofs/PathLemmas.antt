@@ -6,7 +6,7 @@ use Rattle.hook_base.specs.Paths.{path_fault}
 use Rattle.store_faults.specs.declared.fault.StoreFault.TheVariants.{OutOfMemory as Wanting}
 use Rattle.repo_store.specs.declared.staging_refusal.StagingFault.{StagingFault}
 use Rattle.repo_store.specs.declared.staging_refusal.StagingFault.TheVariants.{BadPath, Store}
-use Rattle.repo_store.specs.Edits.{of_path}
+use Rattle.repo_store.specs.Edits.{staging_fault_of_path}
 
 other_than : (b : Bool) (fault : PathFault) (rest : Option PathFault) → fault ≢ OutOfMemory → rest ≢ Some OutOfMemory → (if b then Some fault else rest) ≢ Some OutOfMemory
 other_than true fault rest other more is = other (cc)
@@ -19,7 +19,8 @@ none_isnt rest none is = cc
 pub never_wanting : (path : List ℕ) → path_fault path ≢ Some OutOfMemory
 unfolding path_fault
 never_wanting path =
-    other_than _ Empty _ (λ h. cc) (other_than _ TooLong _ (λ h. cc) (other_than _ ControlByte _ (λ h. cc) (other_than _ Absolute _ (λ h. cc) (other_than _ EmptyPart _ (λ h. cc) (other_than _ DotPart _ (λ h. cc) (other_than _ UnderGit None (λ h. cc) (none_isnt None refl)))))))
+    other_than _ Empty _ (λ h. cc) (other_than _ TooLong _ (λ h. cc) (other_than _ ControlByte _ (λ h. cc)
+    (other_than _ Absolute _ (λ h. cc) (other_than _ EmptyPart _ (λ h. cc) (other_than _ DotPart _ (λ h. cc) (other_than _ UnderGit None (λ h. cc) (none_isnt None refl)))))))
 
 -- the reading of a text was refused so
 abbrev pub IsReadFault : List ℕ → PathFault → Type 0
@@ -29,7 +30,7 @@ module _ (P : StagingFault → Type 0) (path : List ℕ) (bad : (fault : PathFau
   at_fault : (fault : PathFault) → fault ≢ OutOfMemory → IsReadFault path fault → P (BadPath fault)
   at_fault fault other why = elim why [ inl none ↦ absurd (other none.0) | inr is ↦ bad fault is ]
 
-  pub read_refused : (fault : PathFault) → IsReadFault path fault → P (of_path fault)
+  pub read_refused : (fault : PathFault) → IsReadFault path fault → P (staging_fault_of_path fault)
   read_refused Empty why = at_fault Empty (λ h. cc) why
   read_refused Absolute why = at_fault Absolute (λ h. cc) why
   read_refused DotPart why = at_fault DotPart (λ h. cc) why

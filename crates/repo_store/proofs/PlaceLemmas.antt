@@ -55,14 +55,21 @@ module _ (path : List ℕ) where
       let same : path ≡ (get_or all k file).path = sym (path_tied (get_or all k file).path path (equal file)) in
       found path (map file_of all) k (file_of file) inside rising (same ∙ ap (λ (r : File). r.path) (sym (get_or-map file_of all k file)))
 
-  gap_between : (files : List FileParts) (k : ℕ) → k ≤ length files → ((j : ℕ) (d : FileParts) → 0 ≤ j → j < k → side (get_or files j d) ≡ Less) → ((j : ℕ) (d : FileParts) → k ≤ j → j < length files → side (get_or files j d) ≡ Greater)
+  gap_between : (files : List FileParts) (k : ℕ) → k ≤ length files → ((j : ℕ) (d : FileParts) → 0 ≤ j → j < k → side (get_or files j d) ≡ Less)
+      → ((j : ℕ) (d : FileParts) → k ≤ j → j < length files → side (get_or files j d) ≡ Greater)
       → IsGap path (map file_of files) k
   gap_between [] zero within before after = tt
   gap_between [] (suc k) within before after = absurd (omega arith)
-  gap_between (file ∷ files) zero within before after =
-      (below_from_greater path file.path (after 0 file (omega arith) (omega arith)), gap_between files zero (omega arith) (λ j d low high. absurd (omega arith)) (λ j d low high. after (suc j) d (omega arith) (omega arith)))
-  gap_between (file ∷ files) (suc k) within before after =
-      (record { is_less = before 0 file (omega arith) (omega arith) }, gap_between files k (omega arith) (λ j d low high. before (suc j) d (omega arith) (omega arith)) (λ j d low high. after (suc j) d (omega arith) (omega arith)))
+  gap_between (file ∷ files) zero within before after = (
+    below_from_greater path file.path (after 0 file (omega arith) (omega arith)),
+    gap_between files zero (omega arith) (λ j d low high. absurd (omega arith))
+        (λ j d low high. after (suc j) d (omega arith) (omega arith)),
+  )
+  gap_between (file ∷ files) (suc k) within before after = (
+    record { is_less = before 0 file (omega arith) (omega arith) },
+    gap_between files k (omega arith) (λ j d low high. before (suc j) d (omega arith) (omega arith))
+        (λ j d low high. after (suc j) d (omega arith) (omega arith)),
+  )
 
   -- what the search by halves says
   pub placed : (files : List FileParts) (r : Result ℕ ℕ) → IsRising (map file_of files) → MatchResult r (λ k. k < length files) (λ k. k ≤ length files) → IsBinarySearchResult side files r
@@ -77,7 +84,8 @@ path_length file = length file.path
 
 pub bytes_at : (new : File) (rows : List File) (k : ℕ) → IsAt new.path rows k → path_bytes (put_row new rows) ≡ path_bytes rows
 bytes_at new [] k at = absurd at
-bytes_at new (row ∷ rows) zero at = rw (path_itself new.path row.path at) (sum_by-cons path_length new rows ∙ ap (λ (p : List ℕ). length p + path_bytes rows) at ∙ sym (sum_by-cons path_length row rows))
+bytes_at new (row ∷ rows) zero at =
+    rw (path_itself new.path row.path at) (sum_by-cons path_length new rows ∙ ap (λ (p : List ℕ). length p + path_bytes rows) at ∙ sym (sum_by-cons path_length row rows))
 bytes_at new (row ∷ rows) (suc k) at =
     rw (greater_from_below row.path new.path at.0) (sum_by-cons path_length row (put_row new rows) ∙ ap (λ n. length row.path + n) (bytes_at new rows k at.1) ∙ sym (sum_by-cons path_length row rows))
 
@@ -96,7 +104,8 @@ module _ (new : File) (rows : List File) (k : ℕ) (gap : IsGap new.path rows k)
   pub more_bytes : path_bytes (put_row new rows) ≡ path_bytes rows + length new.path
   more_bytes = ap path_bytes (put_row-gap new rows k gap) ∙ sum_by-insert (λ (file : File). length file.path) rows k new
 
-  pub fits_gap : (bytes : ℕ) → bytes ≡ path_bytes rows + length new.path → length rows < most_files → (IsTrue (leb bytes most_tree_path_bytes) → Fits (put_row new rows)) × (Fits (put_row new rows) → IsTrue (leb bytes most_tree_path_bytes))
+  pub fits_gap : (bytes : ℕ) → bytes ≡ path_bytes rows + length new.path → length rows < most_files
+      → (IsTrue (leb bytes most_tree_path_bytes) → Fits (put_row new rows)) × (Fits (put_row new rows) → IsTrue (leb bytes most_tree_path_bytes))
   fits_gap bytes is room = (
     λ small. let most = leb-true bytes most_tree_path_bytes small in record { files_fit = omega (arith, one_more); paths_fit = omega (arith, more_bytes) },
     λ fits. le-leb bytes most_tree_path_bytes (let paths_fit = fits.paths_fit in omega (arith, more_bytes)),
@@ -129,7 +138,8 @@ fits_removed path rows fits =
     removed path [] = (omega arith, omega arith)
     removed path (row ∷ rows) =
         let rest = removed path rows in
-        elim (bytes_eq path row.path) as (λ b. (length (if b then remove_file path rows else row ∷ remove_file path rows) ≤ suc (length rows)) × (path_bytes (if b then remove_file path rows else row ∷ remove_file path rows) ≤ path_bytes (row ∷ rows))) [
+        elim (bytes_eq path row.path) as (λ b. (length (if b then remove_file path rows else row ∷ remove_file path rows) ≤ suc (length rows))
+        × (path_bytes (if b then remove_file path rows else row ∷ remove_file path rows) ≤ path_bytes (row ∷ rows))) [
           | true ↦ (omega arith, omega (arith, sum_by-cons path_length row rows))
           | false ↦ (omega arith, omega (arith, sum_by-cons path_length row rows, sum_by-cons path_length row (remove_file path rows)))
         ]
@@ -144,7 +154,8 @@ held_insert files k new gap =
     map-append file_of (take k files) (new ∷ drop k files) ∙ ap₂ (λ (a b : List File). a ++ (file_of new ∷ b)) (sym (take-map file_of k files)) (sym (drop-map file_of k files))
     ∙ sym (put_row-gap (file_of new) (map file_of files) k gap)
 
-pub held_remove : (files : List FileParts) (k : ℕ) (path : List ℕ) → IsRising (map file_of files) → IsAt path (map file_of files) k → map file_of (remove files k) ≡ remove_file path (map file_of files)
+pub held_remove : (files : List FileParts) (k : ℕ) (path : List ℕ) → IsRising (map file_of files) → IsAt path (map file_of files) k
+    → map file_of (remove files k) ≡ remove_file path (map file_of files)
 held_remove files k path rising at =
     map-append file_of (take k files) (drop (suc k) files) ∙ ap₂ (λ (a b : List File). a ++ b) (sym (take-map file_of k files)) (sym (drop-map file_of (suc k) files))
     ∙ sym (remove_file-at path (map file_of files) k rising at)

@@ -3,7 +3,7 @@ use Rattle.std.proofs.Common.{◌≡◌, ℕ, zero, suc, ◌+◌, ◌<◌, ◌�
 use Rattle.std.specs.List.{AllByRecursion, Any, slice_get}
 use Rattle.std.proofs.lemmas.Bool.{false_from_ne_true, lt-ltb}
 use Rattle.std.proofs.lemmas.List.{take_all}
-use Rattle.sqlite_keyed.proofs.ListLemmas.{filter_all}
+use Rattle.repo_store.proofs.Kit.{filter_all}
 use Rattle.sqlite_trees.specs.declared.store.Store.{Ghosts}
 use Rattle.sqlite.specs.declared.error.Error.{Error}
 use Rattle.sqlite.specs.Effect.{Database}
@@ -75,7 +75,8 @@ front_is : (answer : KeptAnswer) (others : List KeptAnswer) → HaveOwnKeys (ans
 front_is answer others own =
     ap (λ (l : List KeptAnswer). answer ∷ l)
     (filter_all (λ (x : KeptAnswer). not (is_for answer.words answer.seen x)) others
-    (all_weaker (λ (x : KeptAnswer). have_one_key answer x ≡ false) (λ (x : KeptAnswer). not (is_for answer.words answer.seen x) ≡ true) others (λ x apart. ap not (other_key_back answer x apart)) own.0))
+    (all_weaker (λ (x : KeptAnswer). have_one_key answer x ≡ false) (λ (x : KeptAnswer). not (is_for answer.words answer.seen x) ≡ true) others (λ x apart. ap not (other_key_back answer x apart))
+    own.0))
 
 pub own_with : (answer : KeptAnswer) (others : List KeptAnswer) → HaveOwnKeys others → AllByRecursion (λ (other : KeptAnswer). ¬ (key_of other ≡ key_of answer)) others → HaveOwnKeys (answer ∷ others)
 own_with answer others own absent = (
@@ -112,8 +113,10 @@ module _ {S A : Type 0} (g : Ghosts S) (old new : Held S) (r : Result A Error) (
       (front_is answer others own ∙ sym (take_all limit (answer ∷ others) fits)) (sym (no_surplus limit (answer ∷ others) fits)) call
 
   -- or the last one goes
-  pub put_in_place : (limit : ℕ) (words seen : List ℕ) → TellKeys (answer ∷ others) → 1 ≤ limit → length others ≤ limit → limit < length (answer ∷ others) → last_key (answer ∷ others) ≡ Some (words, seen)
-      → ((front : List KeptAnswer) (last : KeptAnswer) → key_of last ≡ (words, seen) → TakesPlace answer last front → IsCall g old new r (λ db. HoldsListed tick (front ++ last ∷ []) db t) (λ db. HoldsListed (tick + 1) (answer ∷ front) db (without_answer words seen put)))
+  pub put_in_place : (limit : ℕ) (words seen : List ℕ) → TellKeys (answer ∷ others) → 1 ≤ limit → length others ≤ limit → limit < length (answer ∷ others)
+      → last_key (answer ∷ others) ≡ Some (words, seen)
+      → ((front : List KeptAnswer) (last : KeptAnswer) → key_of last ≡ (words, seen) → TakesPlace answer last front
+      → IsCall g old new r (λ db. HoldsListed tick (front ++ last ∷ []) db t) (λ db. HoldsListed (tick + 1) (answer ∷ front) db (without_answer words seen put)))
       → Puts limit
   put_in_place zero words seen tells some few over key call = absurd (omega arith)
   put_in_place (suc limit) words seen tells some few over key call =
@@ -153,7 +156,8 @@ module _ {S A E : Type 0} (g : Ghosts S) (old new : Held S) (r : Result A E) (ti
 
   -- or none was
   pub put_anew : HaveOwnKeys (answer ∷ answers)
-      → IsCall g old new r (λ db. HoldsListed tick answers db t) (λ db. HoldsListed (tick + 1) (take limit (answer ∷ answers)) db (without_key_row (surplus_of limit (answer ∷ answers)) put)) → PutsWithin
+      → IsCall g old new r (λ db. HoldsListed tick answers db t) (λ db. HoldsListed (tick + 1) (take limit (answer ∷ answers)) db (without_key_row (surplus_of limit (answer ∷ answers)) put))
+      → PutsWithin
   put_anew own call =
       subst (λ (l : List KeptAnswer). IsCall g old new r (λ db. HoldsListed tick answers db t) (λ db. HoldsListed (tick + 1) (take limit l) db (without_key_row (surplus_of limit l) put)))
       (sym (front_is answer answers own)) call
@@ -185,32 +189,41 @@ module _ {S A : Type 0} (g : Ghosts S) (old new : Held S) (r : Result A Error) (
 
     pub newest_in_place : (words seen : List ℕ) → limit < length all → last_key all ≡ Some (words, seen)
         → ((front : List KeptAnswer) (last : KeptAnswer) → key_of last ≡ (words, seen) → TakesPlace newest last front
-        → IsCall g old new r (λ db. HoldsListed tick (front ++ last ∷ []) db t) (λ db. HoldsListed (tick + 1) (newest ∷ front) db (without_answer words seen (with_answer_row (answer_row newest) (with_blobs handed t)))))
+        → IsCall g old new r (λ db. HoldsListed tick (front ++ last ∷ []) db t)
+        (λ db. HoldsListed (tick + 1) (newest ∷ front) db (without_answer words seen (with_answer_row (answer_row newest) (with_blobs handed t)))))
         → PutsNewest
     newest_in_place words seen over key call =
         put_in_place g old new r tick answer others t (with_answer_row (answer_row answer) (with_blobs news t)) own limit words seen tells some few
         (subst (λ (l : List KeptAnswer). limit < length l) is over) (subst (λ (l : List KeptAnswer). last_key l ≡ Some (words, seen)) is key)
         (subst₂ (λ (a : KeptAnswer) (n : List (List ℕ)). (front : List KeptAnswer) (last : KeptAnswer) → key_of last ≡ (words, seen) → TakesPlace a last front
-        → IsCall g old new r (λ db. HoldsListed tick (front ++ last ∷ []) db t) (λ db. HoldsListed (tick + 1) (a ∷ front) db (without_answer words seen (with_answer_row (answer_row a) (with_blobs n t))))) newest_is news_is call)
+        → IsCall g old new r (λ db. HoldsListed tick (front ++ last ∷ []) db t)
+        (λ db. HoldsListed (tick + 1) (a ∷ front) db (without_answer words seen (with_answer_row (answer_row a) (with_blobs n t))))) newest_is news_is call)
 
     pub newest_beside : length all ≤ limit
-        → (AllByRecursion (TellsKey newest) others → IsCall g old new r (λ db. HoldsListed tick others db t) (λ db. HoldsListed (tick + 1) (in_front newest others) db (with_answer_row (answer_row newest) (with_blobs handed t))))
+        → (AllByRecursion (TellsKey newest) others → IsCall g old new r (λ db. HoldsListed tick others db t)
+        (λ db. HoldsListed (tick + 1) (in_front newest others) db (with_answer_row (answer_row newest) (with_blobs handed t))))
         → PutsNewest
     newest_beside fits call =
-        let put = subst₂ (λ (a : KeptAnswer) (n : List (List ℕ)). AllByRecursion (TellsKey a) others → IsCall g old new r (λ db. HoldsListed tick others db t) (λ db. HoldsListed (tick + 1) (in_front a others) db (with_answer_row (answer_row a) (with_blobs n t)))) newest_is news_is call in
+        let put =
+        subst₂ (λ (a : KeptAnswer) (n : List (List ℕ)). AllByRecursion (TellsKey a) others
+        → IsCall g old new r (λ db. HoldsListed tick others db t) (λ db. HoldsListed (tick + 1) (in_front a others) db (with_answer_row (answer_row a) (with_blobs n t)))) newest_is news_is call in
         put_beside g old new r tick answer others t (with_answer_row (answer_row answer) (with_blobs news t)) own limit (subst (λ (l : List KeptAnswer). length l ≤ limit) is fits) (put tells.0.1)
 
 -- ---- the newest one put, and then the last one gone in memory too
 
 module _ {S A E : Type 0} (g : Ghosts S) (old new : Held S) (r : Result A E) (tick before : ℕ) where
   abbrev pub NewestPut : Kept → Type 0
-  NewestPut mid = (answer : KeptAnswer) (others : List KeptAnswer) → mid.answers ≡ answer ∷ others → HaveOwnKeys (answer ∷ others) → TellKeys (answer ∷ others) → 1 ≤ mid.limit → length others ≤ mid.limit → (t : Tables)
+  NewestPut mid =
+      (answer : KeptAnswer) (others : List KeptAnswer) → mid.answers ≡ answer ∷ others → HaveOwnKeys (answer ∷ others) → TellKeys (answer ∷ others) → 1 ≤ mid.limit → length others ≤ mid.limit
+      → (t : Tables)
       → IsCall g old new r (λ db. HoldsListed tick others db t)
-      (λ db. HoldsListed (tick + 1) (take mid.limit (answer ∷ others)) db (without_key_row (surplus_of mid.limit (answer ∷ others)) (with_answer_row (answer_row answer) (with_blobs (drop before mid.contents) t))))
+      (λ db. HoldsListed (tick + 1) (take mid.limit (answer ∷ others)) db
+      (without_key_row (surplus_of mid.limit (answer ∷ others)) (with_answer_row (answer_row answer) (with_blobs (drop before mid.contents) t))))
 
   pub put_anew_from : (kept mid : Kept) (answer : KeptAnswer) → mid ≡ record kept { answers = answer ∷ kept.answers } → HaveOwnKeys (answer ∷ kept.answers) → TellKeys (answer ∷ kept.answers)
       → 1 ≤ kept.limit → length kept.answers ≤ kept.limit → NewestPut mid
-      → (t : Tables) → IsCall g old new r (λ db. HoldsListed tick kept.answers db t) (λ db. HoldsListed (tick + 1) (with_answer_within kept.limit answer kept.answers) db (put_tables kept.limit kept.answers answer (drop before kept.contents) t))
+      → (t : Tables) → IsCall g old new r (λ db. HoldsListed tick kept.answers db t)
+      (λ db. HoldsListed (tick + 1) (with_answer_within kept.limit answer kept.answers) db (put_tables kept.limit kept.answers answer (drop before kept.contents) t))
   put_anew_from kept mid answer mid_is own tells some few call t =
       let there : NewestPut (record kept { answers = answer ∷ kept.answers }) = subst NewestPut mid_is call in
       put_anew g old new r tick kept.limit answer kept.answers (drop before kept.contents) t own (there answer kept.answers refl own tells some few t)

@@ -7,8 +7,7 @@ use Rattle.sqlite.specs.Effect.{Database}
 use Rattle.sqlite_schema.specs.declared.schema.Schema.{Schema}
 use Rattle.sqlite.specs.Held.{Held, state}
 use Rattle.sqlite.specs.State.{State, HasCleanDisk, IsUnchanged, KeepsCommit, Survives}
-use Rattle.sqlite.proofs.InsideLemmas.{keeps_then}
-use Rattle.sqlite.proofs.StateLemmas.{survives_then}
+use Rattle.repo_store.proofs.Kit.{keeps_then, survives_then}
 use Rattle.store_tables.specs.Schema.{MoreTables, store_with}
 use Rattle.store_tables.specs.Steps.{IsRead}
 use Rattle.repo_store.specs.Opening.{AreRead}
@@ -50,7 +49,8 @@ module _ {S : Type 0} (g : Ghosts S) (a b c : Held S) (P : Trees → Type 0) (so
     survives = along two.survives;
   }
 
-  pub read_stops : {X A : Type 0} (e d : Error) (Rows : X → Trees → Type 0) (out : Result A Error) (Found : A → Trees → Type 0) → out ≡ Err d → IsRead {A = X} g b c (Err e) Rows → AreRead g a c out Found
+  pub read_stops : {X A : Type 0} (e d : Error) (Rows : X → Trees → Type 0) (out : Result A Error) (Found : A → Trees → Type 0) → out ≡ Err d → IsRead {A = X} g b c (Err e) Rows
+      → AreRead g a c out Found
   read_stops e d Rows out Found is two = record {
     rows = λ more clean ours. rw is tt;
     kept = λ more clean ours inside.
@@ -92,7 +92,8 @@ module _ {S X : Type 0} (g : Ghosts S) (a b c : Held S) (x : X) (Rows : X → Tr
   part_ours : (listed : Schema) → IsUnchanged (state g a) (state g b) → (state g a).now.schema ≡ listed → (state g b).now.schema ≡ listed
   part_ours listed same ours = ap (λ (db : Database). db.schema) same.0.now_is ∙ ours
 
-  pub part_stops : {Y A : Type 0} (e d : Error) (Found : Y → Trees → Type 0) (out : Result A Error) (All : A → Trees → Type 0) → out ≡ Err d → AreRead {A = Y} g b c (Err e) Found → AreRead g a c out All
+  pub part_stops : {Y A : Type 0} (e d : Error) (Found : Y → Trees → Type 0) (out : Result A Error) (All : A → Trees → Type 0) → out ≡ Err d → AreRead {A = Y} g b c (Err e) Found
+      → AreRead g a c out All
   part_stops e d Found out All is two = record {
     rows = λ more clean ours. rw is tt;
     kept = λ more clean ours inside.
@@ -116,5 +117,7 @@ module _ {S X : Type 0} (g : Ghosts S) (a b c : Held S) (x : X) (Rows : X → Tr
   }
 
 -- what two clauses say of one read
-pub both_read : {S X : Type 0} (g : Ghosts S) (a b : Held S) (x : X) (P Q : X → Trees → Type 0) → IsRead g a b (Ok x) P → IsRead g a b (Ok x) Q → IsRead g a b (Ok x) (λ rows trees. P rows trees × Q rows trees)
-both_read g a b x P Q one two = record { rows = λ more clean ours. let first = one.rows more clean ours in (first.0, (first.1, (two.rows more clean ours).1)); kept = one.kept; survives = one.survives }
+pub both_read : {S X : Type 0} (g : Ghosts S) (a b : Held S) (x : X) (P Q : X → Trees → Type 0) → IsRead g a b (Ok x) P → IsRead g a b (Ok x) Q
+    → IsRead g a b (Ok x) (λ rows trees. P rows trees × Q rows trees)
+both_read g a b x P Q one two =
+    record { rows = λ more clean ours. let first = one.rows more clean ours in (first.0, (first.1, (two.rows more clean ours).1)); kept = one.kept; survives = one.survives }

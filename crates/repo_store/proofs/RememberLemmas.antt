@@ -104,7 +104,8 @@ rows_left answer [] tells = refl
 rows_left answer (other ∷ others) tells =
     let left = without_key answer.words answer.seen others in
     ap₂ (λ (b : Bool) (l : List AnswerRow). if b then answer_row other ∷ l else l) (row_told answer other tells.0) (rows_left answer others tells.1)
-    ∙ elim (have_one_key other answer) as (λ b. (if not b then answer_row other ∷ map answer_row left else map answer_row left) ≡ map answer_row (if not b then other ∷ left else left)) [ true ↦ refl | false ↦ refl ]
+    ∙ elim (have_one_key other answer) as (λ b. (if not b then answer_row other ∷ map answer_row left else map answer_row left) ≡ map answer_row (if not b then other ∷ left else left))
+    [ true ↦ refl | false ↦ refl ]
 
 -- what came is forgotten
 pub forgotten_answer : (all : List (List ℕ)) (kept mid now : Kept) (count : ℕ) → count ≡ length kept.contents → mid ≡ record kept { contents = with_contents all kept.contents }
@@ -116,7 +117,8 @@ forgotten_answer all kept mid now count count_is mid_is is =
 -- ---- the digests of the answers tell their keys
 
 module _ (contents : List (List ℕ)) (apart : HaveDistinctDigests contents) where
-  pub told_by : (answer : KeptAnswer) → HasRecords contents answer → (others : List KeptAnswer) → AllByRecursion IsSoundAnswer others → HaveRecords contents others → AllByRecursion (TellsKey answer) others
+  pub told_by : (answer : KeptAnswer) → HasRecords contents answer → (others : List KeptAnswer) → AllByRecursion IsSoundAnswer others → HaveRecords contents others
+      → AllByRecursion (TellsKey answer) others
   told_by answer here [] sound have = tt
   told_by answer here (other ∷ others) sound have = (keys_told contents apart other answer sound.0 have.0 here, told_by answer here others sound.1 have.1)
 

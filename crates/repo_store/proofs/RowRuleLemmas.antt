@@ -23,7 +23,7 @@ use Rattle.store_tables.specs.Uses.{use_cells}
 use Rattle.sqlite_schema.specs.declared.schema.Schema.{Schema}
 use Rattle.store_tables.specs.Tables.{Tables, HoldsIn, Stored, meta_cells, blob_cells, staged_cells, fix_cells, commit_cells, entry_cells, answer_cells}
 use Rattle.repo_store.specs.FromRows.{IsSame}
-use Rattle.repo_store.specs.RowRules.{AreCommitRows, AreStagedRows, HasKept, HaveKeptContents, HaveKeptNewContents, IsAnswerRow, IsBlobRow, IsEntryRow, IsFileRow, IsFixRow, IsMarked, IsNumbered, IsStagedRow, AreStoreRows, is_kept, number_in, numbers_from}
+use Rattle.repo_store.specs.RowRules.{AreCommitRows, AreStagedRows, HasKept, HaveKeptContents, HaveKeptNewContents, IsAnswerRow, IsBlobRow, IsEntryRow, IsFileRow, IsFixRow, IsMarked, IsNumbered, IsStagedRow, AreStoreRows, is_kept, commit_number_in, numbers_from}
 
 -- ---- rows from what SQL shows of them
 
@@ -58,25 +58,41 @@ pub same_meta : (xs ys : List MetaRow) (rows : List Row) → Stored meta_cells (
 same_meta xs ys rows one two = same_stored meta_cells (λ row. record { name = text_in (column row 0); value = int_in (column row 1) }) (λ x. refl) (1 ∷ 2 ∷ []) xs ys rows one two
 
 pub same_uses : (xs ys : List UseRow) (rows : List Row) → Stored use_cells (1 ∷ 2 ∷ 3 ∷ []) xs rows → Stored use_cells (1 ∷ 2 ∷ 3 ∷ []) ys rows → IsPermutation xs ys
-same_uses xs ys rows one two = same_stored use_cells (λ row. record { words = blob_in (column row 0); seen = blob_in (column row 1); tick = int_in (column row 2) }) (λ x. refl) (1 ∷ 2 ∷ 3 ∷ []) xs ys rows one two
+same_uses xs ys rows one two =
+    same_stored use_cells (λ row. record { words = blob_in (column row 0); seen = blob_in (column row 1); tick = int_in (column row 2) }) (λ x. refl) (1 ∷ 2 ∷ 3 ∷ []) xs ys rows one two
 
 -- a database holds one set of rows in each table
 pub holds_one : {listed other : Schema} (db : Database) (t u : Tables) → HoldsIn listed db t → HoldsIn other db u → IsSame t u
 holds_one db t u a b = record {
   meta = same_meta t.meta u.meta (db.trees 0) a.meta b.meta;
   blobs = same_stored blob_cells (λ row. record { digest = blob_in (column row 0); bytes = blob_in (column row 1) }) (λ x. refl) (1 ∷ 2 ∷ []) t.blobs u.blobs (db.trees 2) a.blobs b.blobs;
-  staged = same_stored staged_cells (λ row. record { path = text_in (column row 0); mode = int_in (column row 1); digest = blob_in (column row 2) }) (λ x. refl) (1 ∷ 2 ∷ 3 ∷ []) t.staged u.staged (db.trees 4) a.staged b.staged;
-  fixes = same_stored fix_cells (λ row. record { path = text_in (column row 0); gone = int_in (column row 1); digest = blob_if_any (column row 2) }) fix_back (1 ∷ 2 ∷ 3 ∷ []) t.fixes u.fixes (db.trees 6) a.fixes b.fixes;
+  staged =
+      same_stored staged_cells (λ row. record { path = text_in (column row 0); mode = int_in (column row 1); digest = blob_in (column row 2) }) (λ x. refl) (1 ∷ 2 ∷ 3 ∷ []) t.staged u.staged
+      (db.trees 4) a.staged b.staged;
+  fixes =
+      same_stored fix_cells (λ row. record { path = text_in (column row 0); gone = int_in (column row 1); digest = blob_if_any (column row 2) }) fix_back (1 ∷ 2 ∷ 3 ∷ []) t.fixes u.fixes (db.trees 6)
+      a.fixes b.fixes;
   commits = same_stored commit_cells (λ row. record { n = int_in (column row 0); message = blob_in (column row 1) }) (λ x. refl) (0 ∷ 2 ∷ []) t.commits u.commits (db.trees 8) a.commits b.commits;
-  entries = same_stored entry_cells (λ row. record { n = int_in (column row 0); path = text_in (column row 1); mode = int_in (column row 2); digest = blob_in (column row 3) }) (λ x. refl) (1 ∷ 2 ∷ 3 ∷ 4 ∷ []) t.entries u.entries (db.trees 9) a.entries b.entries;
-  answers = same_stored answer_cells (λ row. record { words = blob_in (column row 0); seen = blob_in (column row 1); output = blob_in (column row 2); changes = blob_in (column row 3); status = int_in (column row 4) }) (λ x. refl) (1 ∷ 2 ∷ 3 ∷ 4 ∷ 5 ∷ []) t.answers u.answers (db.trees 11) a.answers b.answers;
+  entries =
+      same_stored entry_cells (λ row. record { n = int_in (column row 0); path = text_in (column row 1); mode = int_in (column row 2); digest = blob_in (column row 3) }) (λ x. refl)
+      (1 ∷ 2 ∷ 3 ∷ 4 ∷ []) t.entries u.entries (db.trees 9) a.entries b.entries;
+  answers =
+      same_stored answer_cells (λ row. record {
+        words = blob_in (column row 0);
+        seen = blob_in (column row 1);
+        output = blob_in (column row 2);
+        changes = blob_in (column row 3);
+        status = int_in
+            (column row 4);
+      }) (λ x. refl) (1 ∷ 2 ∷ 3 ∷ 4 ∷ 5 ∷ []) t.answers u.answers (db.trees 11) a.answers b.answers;
 }
   where
     fix_back : (x : FixRow) → (let row = fix_cells x in let made : FixRow = record { path = text_in (column row 0); gone = int_in (column row 1); digest = blob_if_any (column row 2) } in made) ≡ x
     fix_back x = go x.path x.gone x.digest
       where
         go : (path : List ℕ) (gone : ℤ) (digest : Option (List ℕ))
-            → (let made : FixRow = record { path = path; gone = gone; digest = blob_if_any (column (fix_cells (record { path = path; gone = gone; digest = digest })) 2) } in made) ≡ record { path = path; gone = gone; digest = digest }
+            → (let made : FixRow = record { path = path; gone = gone; digest = blob_if_any (column (fix_cells (record { path = path; gone = gone; digest = digest })) 2) } in made)
+            ≡ record { path = path; gone = gone; digest = digest }
         go path gone None = refl
         go path gone (Some bytes) = refl
 
@@ -159,7 +175,9 @@ commits_same : (xs ys : List CommitRow) → IsPermutation xs ys → AreCommitRow
 commits_same xs ys moved h =
     let count = length_permutation xs ys moved in
     record {
-      numbered = subst (IsPermutation (map number_in ys)) (numbers_same 1 xs ys (omega arith)) (IsPermutation-trans _ _ _ (IsPermutation-map number_in ys xs (IsPermutation-sym xs ys moved)) h.numbered);
+      numbered =
+          subst (IsPermutation (map commit_number_in ys)) (numbers_same 1 xs ys (omega arith))
+          (IsPermutation-trans _ _ _ (IsPermutation-map commit_number_in ys xs (IsPermutation-sym xs ys moved)) h.numbered);
       few = let few = h.few in omega arith;
       messages_small = all_same _ xs ys moved h.messages_small;
     }
@@ -169,11 +187,14 @@ pub obeys_same : (t u : Tables) → IsSame t u → AreStoreRows t → AreStoreRo
 obeys_same t u same obeys = record {
   blobs = all_same IsBlobRow t.blobs u.blobs same.blobs obeys.blobs;
   staged = staged_same t.blobs u.blobs same.blobs t.staged u.staged same.staged obeys.staged;
-  fixes = all_same (IsFixRow u.blobs u.staged) t.fixes u.fixes same.fixes (all_weaker (IsFixRow t.blobs t.staged) (IsFixRow u.blobs u.staged) t.fixes (fix_same t.blobs u.blobs same.blobs t.staged u.staged same.staged) obeys.fixes);
+  fixes =
+      all_same (IsFixRow u.blobs u.staged) t.fixes u.fixes same.fixes (all_weaker (IsFixRow t.blobs t.staged) (IsFixRow u.blobs u.staged) t.fixes
+      (fix_same t.blobs u.blobs same.blobs t.staged u.staged same.staged) obeys.fixes);
   commits = commits_same t.commits u.commits same.commits obeys.commits;
   entries =
       let count = length_permutation t.commits u.commits same.commits in
       all_same (IsEntryRow u.blobs (length u.commits)) t.entries u.entries same.entries
-      (all_weaker (IsEntryRow t.blobs (length t.commits)) (IsEntryRow u.blobs (length u.commits)) t.entries (entry_same t.blobs u.blobs same.blobs (length t.commits) (length u.commits) (omega arith)) obeys.entries);
+      (all_weaker (IsEntryRow t.blobs (length t.commits)) (IsEntryRow u.blobs (length u.commits)) t.entries (entry_same t.blobs u.blobs same.blobs (length t.commits) (length u.commits) (omega arith))
+      obeys.entries);
   answers = all_same (IsAnswerRow u.blobs) t.answers u.answers same.answers (all_weaker (IsAnswerRow t.blobs) (IsAnswerRow u.blobs) t.answers (answer_same t.blobs u.blobs same.blobs) obeys.answers);
 }

@@ -52,7 +52,8 @@ staged_paths blobs [] all = tt
 staged_paths blobs (file ∷ files) all = (all.0.path_legal, staged_paths blobs files all.1)
 
 module _ (blobs : List BlobRow) (commits : ℕ) where
-  entry_paths : (n : ℕ) (files : List File) (more : List EntryRow) → AllByRecursion (IsEntryRow blobs commits) (map (entry_row n) files ++ more) → ArePaths files × AllByRecursion (IsEntryRow blobs commits) more
+  entry_paths : (n : ℕ) (files : List File) (more : List EntryRow) → AllByRecursion (IsEntryRow blobs commits) (map (entry_row n) files ++ more)
+      → ArePaths files × AllByRecursion (IsEntryRow blobs commits) more
   entry_paths n [] more all = (tt, all)
   entry_paths n (file ∷ files) more all = let rest = entry_paths n files more all.1 in ((all.0.file.path_legal, rest.0), rest.1)
 
@@ -60,7 +61,8 @@ module _ (blobs : List BlobRow) (commits : ℕ) where
   tree_paths n [] all = tt
   tree_paths n (commit ∷ history) all = let it = entry_paths n commit.tree (entry_rows (n + 1) history) all in (it.0, tree_paths (n + 1) history it.1)
 
-row_messages : (n : ℕ) (history : List Commit) → AllByRecursion (λ (row : CommitRow). IsSmall row.message) (commit_rows n history) → AllByRecursion (λ (commit : Commit). IsSmall commit.message) history
+row_messages : (n : ℕ) (history : List Commit) → AllByRecursion (λ (row : CommitRow). IsSmall row.message) (commit_rows n history)
+    → AllByRecursion (λ (commit : Commit). IsSmall commit.message) history
 row_messages n [] all = tt
 row_messages n (commit ∷ history) all = (all.0, row_messages (n + 1) history all.1)
 
@@ -113,7 +115,8 @@ module _ (contents : List (List ℕ)) where
         | false ↦ λ _ later. legal_at path files legal.1 later
       ] refl there
 
-  fix_rows : (files : List File) (fixes : List Change) → ArePaths files → AreStaged fixes files → HaveNewContents contents fixes → AllByRecursion (IsFixRow blobs (map staged_row files)) (map fix_row fixes)
+  fix_rows : (files : List File) (fixes : List Change) → ArePaths files → AreStaged fixes files → HaveNewContents contents fixes
+      → AllByRecursion (IsFixRow blobs (map staged_row files)) (map fix_row fixes)
   fix_rows files [] legal staged have = tt
   fix_rows files (fix ∷ fixes) legal staged have = (
     record {
@@ -127,13 +130,16 @@ module _ (contents : List (List ℕ)) where
   module _ (commits : ℕ) where
     file_entries : (at : ℕ) (files : List File) → at + 1 ≤ commits → ArePaths files → HaveContents contents files → AllByRecursion (IsEntryRow blobs commits) (map (entry_row (at + 1)) files)
     file_entries at [] within legal have = tt
-    file_entries at (file ∷ files) within legal have = (record { owned = record { at = at; is = refl; within = within }; file = file_row file legal.0 have.0 }, file_entries at files within legal.1 have.1)
+    file_entries at (file ∷ files) within legal have =
+        (record { owned = record { at = at; is = refl; within = within }; file = file_row file legal.0 have.0 }, file_entries at files within legal.1 have.1)
 
-    tree_entries : (at : ℕ) (history : List Commit) → at + length history ≤ commits → AllByRecursion (λ (commit : Commit). ArePaths commit.tree) history → AllByRecursion (λ (commit : Commit). HaveContents contents commit.tree) history
+    tree_entries : (at : ℕ) (history : List Commit) → at + length history ≤ commits → AllByRecursion (λ (commit : Commit). ArePaths commit.tree) history
+        → AllByRecursion (λ (commit : Commit). HaveContents contents commit.tree) history
         → AllByRecursion (IsEntryRow blobs commits) (entry_rows (at + 1) history)
     tree_entries at [] within legal have = tt
     tree_entries at (commit ∷ history) within legal have =
-        all_both (IsEntryRow blobs commits) (map (entry_row (at + 1)) commit.tree) (entry_rows ((at + 1) + 1) history) (file_entries at commit.tree (omega arith) legal.0 have.0) (tree_entries (at + 1) history (omega arith) legal.1 have.1)
+        all_both (IsEntryRow blobs commits) (map (entry_row (at + 1)) commit.tree) (entry_rows ((at + 1) + 1) history) (file_entries at commit.tree (omega arith) legal.0 have.0)
+        (tree_entries (at + 1) history (omega arith) legal.1 have.1)
 
 numbered_rows : (n : ℕ) (history : List Commit) → AllByRecursion (λ (commit : Commit). IsSmall commit.message) history → AreNumbered n (commit_rows n history)
 numbered_rows n [] small = tt
@@ -163,12 +169,14 @@ obeys_by kept complete rules =
 paths_put : (new : File) (rows : List File) → IsPathText new.path → ArePaths rows → ArePaths (put_row new rows)
 paths_put new [] legal all = (legal, tt)
 paths_put new (row ∷ rows) legal all =
-    elim (path_cmp new.path row.path) as (λ o. ArePaths (put_before o new row rows (put_row new rows))) [ Less ↦ (legal, all) | Equal ↦ (legal, all.1) | Greater ↦ (all.0, paths_put new rows legal all.1) ]
+    elim (path_cmp new.path row.path) as (λ o. ArePaths (put_before o new row rows (put_row new rows)))
+    [ Less ↦ (legal, all) | Equal ↦ (legal, all.1) | Greater ↦ (all.0, paths_put new rows legal all.1) ]
 
 paths_removed : (path : List ℕ) (rows : List File) → ArePaths rows → ArePaths (remove_file path rows)
 paths_removed path [] all = tt
 paths_removed path (row ∷ rows) all =
-    elim (bytes_eq path row.path) as (λ b. ArePaths (if b then remove_file path rows else row ∷ remove_file path rows)) [ true ↦ paths_removed path rows all.1 | false ↦ (all.0, paths_removed path rows all.1) ]
+    elim (bytes_eq path row.path) as (λ b. ArePaths (if b then remove_file path rows else row ∷ remove_file path rows))
+    [ true ↦ paths_removed path rows all.1 | false ↦ (all.0, paths_removed path rows all.1) ]
 
 paths_rewritten : (path bytes : List ℕ) (rows : List File) → ArePaths rows → ArePaths (rewrite_file path bytes rows)
 paths_rewritten path bytes [] all = tt

@@ -77,7 +77,8 @@ code_in (negsuc n) = 0
 -- the row is that of the answer
 abbrev shows : AnswerRow → KeptAnswer → Bool
 shows row answer =
-    bytes_eq row.words (sha256 (written_words answer)) && (bytes_eq row.seen (sha256 (written_seen answer)) && (bytes_eq row.output (sha256 answer.output) && (bytes_eq row.changes (sha256 (written_changes answer)) && eqb (code_in row.status) answer.status)))
+    bytes_eq row.words (sha256 (written_words answer)) && (bytes_eq row.seen (sha256 (written_seen answer)) &&
+    (bytes_eq row.output (sha256 answer.output) && (bytes_eq row.changes (sha256 (written_changes answer)) && eqb (code_in row.status) answer.status)))
 
 abbrev blank : KeptAnswer
 blank = record { words = []; seen = []; output = []; changes = []; status = 0 }
@@ -136,7 +137,8 @@ module _ (b : List (List ℕ)) (apart : HaveDistinctDigests b) where
   all_back answers [] each = refl
   all_back answers (x ∷ some) each = ap₂ (λ (y : KeptAnswer) (l : List KeptAnswer). y ∷ l) each.0 (all_back answers some each.1)
 
-  rows_back : (answers some : List KeptAnswer) → AllByRecursion IsKeptWhole answers → AllByRecursion IsKeptWhole some → ((x : KeptAnswer) → Contains some x → Contains answers x) → map (first_shown answers) (map answer_row some) ≡ some
+  rows_back : (answers some : List KeptAnswer) → AllByRecursion IsKeptWhole answers → AllByRecursion IsKeptWhole some → ((x : KeptAnswer) → Contains some x → Contains answers x)
+      → map (first_shown answers) (map answer_row some) ≡ some
   rows_back answers some all each within =
       all_back answers some (recursion_from_All (λ (x : KeptAnswer). first_shown answers (answer_row x) ≡ x) some (λ k d below.
       let here = Contains-get_or some k d below in
@@ -151,7 +153,8 @@ module _ (b : List (List ℕ)) (apart : HaveDistinctDigests b) where
       (subst (IsPermutation (map (first_shown all) (map answer_row xs))) (rows_back all ys each ys_whole (λ x. Contains-append_right xs ys x)) read)
 
 -- rows tell the answers, in some order
-pub same_answers : (a b : List (List ℕ)) → IsPermutation a b → HaveDistinctDigests b → (xs ys : List KeptAnswer) → AllByRecursion IsSoundAnswer xs → HaveRecords a xs → AllByRecursion IsSoundAnswer ys → HaveRecords b ys
+pub same_answers : (a b : List (List ℕ)) → IsPermutation a b → HaveDistinctDigests b → (xs ys : List KeptAnswer) → AllByRecursion IsSoundAnswer xs → HaveRecords a xs → AllByRecursion IsSoundAnswer ys
+    → HaveRecords b ys
     → IsPermutation (map answer_row xs) (map answer_row ys) → IsPermutation xs ys
 same_answers a b same apart xs ys xs_sound xs_in ys_sound ys_in rows =
     let moved : (x : List ℕ) → IsAmong a x → IsAmong b x = λ x there. sym (list_any-IsPermutation (bytes_eq x) a b same) ∙ there in

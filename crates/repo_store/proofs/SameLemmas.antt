@@ -12,7 +12,7 @@ use Rattle.store_tables.specs.declared.rows.StagedRow.{StagedRow}
 use Rattle.store_tables.specs.declared.rows.FixRow.{FixRow}
 use Rattle.store_tables.specs.declared.rows.EntryRow.{EntryRow}
 use Rattle.sqlite_schema.specs.declared.schema.Schema.{Schema}
-use Rattle.store_tables.specs.Steps.{IsStep, IsDone}
+use Rattle.store_tables.specs.Steps.{IsStep, IsStatementDone}
 use Rattle.store_tables.specs.Tables.{Tables, HoldsIn, Stored, meta_cells, blob_cells, staged_cells, fix_cells, commit_cells, entry_cells, answer_cells}
 pub use Rattle.repo_store.specs.FromRows.{IsSame}
 
@@ -91,9 +91,12 @@ holds_same db t u same h = record {
 }
 
 -- a step, told by rows in another order
-pub step_same : {S A : Type 0} (g : Ghosts S) (old new : Held S) (r : Result A Error) (first second : Tables → Tables) → ((t : Tables) → IsSame (first t) (second t)) → IsStep g old new r first → IsStep g old new r second
+pub step_same : {S A : Type 0} (g : Ghosts S) (old new : Held S) (r : Result A Error) (first second : Tables → Tables) → ((t : Tables) → IsSame (first t) (second t)) → IsStep g old new r first
+    → IsStep g old new r second
 step_same g old new r first second same h = record {
-  done = λ clean inside. on_ok_weaker r (λ (d : IsDone (state g old) (state g new) first). record { shown = d.shown; holds = λ more t before. holds_same (state g new).now (first t) (second t) (same t) (d.holds more t before); keeps = d.keeps }) (h.done clean inside);
+  done =
+      λ clean inside. on_ok_weaker r (λ (d : IsStatementDone (state g old) (state g new) first).
+      record { shown = d.shown; holds = λ more t before. holds_same (state g new).now (first t) (second t) (same t) (d.holds more t before); keeps = d.keeps }) (h.done clean inside);
   kept = h.kept;
   survives = h.survives;
 }

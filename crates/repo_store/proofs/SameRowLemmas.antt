@@ -49,14 +49,17 @@ row_at files i d = get_or-map staged_row (map file_of files) i (file_of d) ∙ a
 rows_count : (files : List FileParts) → length (map staged_row (map file_of files)) ≡ length files
 rows_count files = length-map (map file_of files) staged_row ∙ length-map files file_of
 
-pub rows_apart : (files others : List FileParts) (i : ℕ) (file other : FileParts) → i < length others → file ≡ get_or files i file → other ≡ get_or others i other → map staged_row (map file_of files) ≡ map staged_row (map file_of others) → row_of file ≡ row_of other
+pub rows_apart : (files others : List FileParts) (i : ℕ) (file other : FileParts) → i < length others → file ≡ get_or files i file → other ≡ get_or others i other
+    → map staged_row (map file_of files) ≡ map staged_row (map file_of others) → row_of file ≡ row_of other
 rows_apart files others i file other within file_is other_is same =
-    ap row_of file_is ∙ sym (row_at files i file) ∙ ap (λ (rows : List StagedRow). get_or rows i (row_of file)) same ∙ row_at others i file ∙ ap row_of (get_or_default others i file other within ∙ sym other_is)
+    ap row_of file_is ∙ sym (row_at files i file) ∙ ap (λ (rows : List StagedRow). get_or rows i (row_of file)) same ∙ row_at others i file
+    ∙ ap row_of (get_or_default others i file other within ∙ sym other_is)
 
 pub rows_differ_in_number : (files others : List FileParts) → map staged_row (map file_of files) ≡ map staged_row (map file_of others) → length files ≡ length others
 rows_differ_in_number files others same = sym (rows_count files) ∙ ap length same ∙ rows_count others
 
-pub more_same : (files others : List FileParts) (i : ℕ) (file other : FileParts) → i < length files → i < length others → file ≡ get_or files i file → other ≡ get_or others i other → SameRows files others i → row_of file ≡ row_of other → SameRows files others (i + 1)
+pub more_same : (files others : List FileParts) (i : ℕ) (file other : FileParts) → i < length files → i < length others → file ≡ get_or files i file → other ≡ get_or others i other
+    → SameRows files others i → row_of file ≡ row_of other → SameRows files others (i + 1)
 more_same files others i file other within inside file_is other_is before same =
     below_more (λ (k : ℕ). (d : FileParts) → row_of (get_or files k d) ≡ row_of (get_or others k d)) i before
     (λ d. ap row_of (get_or_default files i d file within ∙ sym file_is) ∙ same ∙ ap row_of (other_is ∙ get_or_default others i other d inside))
@@ -72,19 +75,24 @@ rows_same (file ∷ files) others count same =
 -- files of the same rows are the same within one store
 pub same_from_rows : (kept : Kept) → IsComplete kept → map staged_row kept.repo.staged ≡ map staged_row (last_tree kept.repo.history) → kept.repo.staged ≡ last_tree kept.repo.history
 same_from_rows kept complete rows =
-    same_files kept.contents kept.contents (IsPermutation-refl kept.contents) complete.apart staged_row (λ (row : StagedRow). row) (λ file. refl) kept.repo.staged (last_tree kept.repo.history) complete.staged
+    same_files kept.contents kept.contents (IsPermutation-refl kept.contents) complete.apart staged_row (λ (row : StagedRow). row) (λ file. refl) kept.repo.staged (last_tree kept.repo.history)
+    complete.staged
     (last_has kept.contents kept.repo.history complete.trees) rows
 
 -- ---- entries of one path
 
-pub same_from_digests : (contents : List (List ℕ)) (path : List ℕ) (files others : List File) (file other : FileParts) → HaveDistinctDigests contents → HaveContents contents files → HaveContents contents others
-    → Some (entry_in file) ≡ entry_of path files → Some (entry_in other) ≡ entry_of path others → file.mode ≡ other.mode → sha256 file.content ≡ sha256 other.content → entry_of path files ≡ entry_of path others
+pub same_from_digests : (contents : List (List ℕ)) (path : List ℕ) (files others : List File) (file other : FileParts) → HaveDistinctDigests contents → HaveContents contents files
+    → HaveContents contents others
+    → Some (entry_in file) ≡ entry_of path files → Some (entry_in other) ≡ entry_of path others → file.mode ≡ other.mode → sha256 file.content ≡ sha256 other.content
+    → entry_of path files ≡ entry_of path others
 same_from_digests contents path files others file other apart have also file_is other_is mode digest =
     let bytes =
-    same_bytes contents contents (IsPermutation-refl contents) apart file.content other.content (entry_has contents path files (entry_in file) have (sym file_is)) (entry_has contents path others (entry_in other) also (sym other_is)) digest in
+    same_bytes contents contents (IsPermutation-refl contents) apart file.content other.content (entry_has contents path files (entry_in file) have (sym file_is))
+    (entry_has contents path others (entry_in other) also (sym other_is)) digest in
     sym file_is ∙ ap Some (ap₂ (λ (m : Mode) (b : List ℕ). let made : FileEntry = record { mode = m; bytes = b } in made) mode bytes) ∙ other_is
 
-pub entries_parts : (path : List ℕ) (files others : List File) (file other : FileParts) → Some (entry_in file) ≡ entry_of path files → Some (entry_in other) ≡ entry_of path others → entry_of path files ≡ entry_of path others
+pub entries_parts : (path : List ℕ) (files others : List File) (file other : FileParts) → Some (entry_in file) ≡ entry_of path files → Some (entry_in other) ≡ entry_of path others
+    → entry_of path files ≡ entry_of path others
     → (file.mode ≡ other.mode) × (sha256 file.content ≡ sha256 other.content)
 entries_parts path files others file other file_is other_is same =
     let all : ◌≡◌ {A = Option FileEntry} (Some (entry_in file)) (Some (entry_in other)) = file_is ∙ same ∙ sym other_is in
@@ -102,7 +110,8 @@ module _ (kept : Kept) (here there : List File) (here_is : here ≡ kept.repo.st
   pub head_tells : (r : Bool) → (IsTrue r → map staged_row here ≡ map staged_row there) × (map staged_row here ≡ map staged_row there → IsTrue r)
       → (IsTrue (not r) → kept.repo.staged ≢ last_tree kept.repo.history) × (kept.repo.staged ≢ last_tree kept.repo.history → IsTrue (not r))
   head_tells r tells =
-      opposite r (λ h. same_from_rows kept complete (ap (map staged_row) (sym here_is) ∙ tells.0 h ∙ ap (map staged_row) there_is)) (λ same. tells.1 (ap (map staged_row) (here_is ∙ same ∙ sym there_is)))
+      opposite r (λ h. same_from_rows kept complete (ap (map staged_row) (sym here_is) ∙ tells.0 h ∙ ap (map staged_row) there_is))
+      (λ same. tells.1 (ap (map staged_row) (here_is ∙ same ∙ sym there_is)))
 
   abbrev Tells : List ℕ → Bool → List File → List File → Type 0
   Tells path r a b = (IsTrue r → entry_of path a ≢ entry_of path b) × (entry_of path a ≢ entry_of path b → IsTrue r)

@@ -128,7 +128,8 @@ module _ (contents : List (List ℕ)) where
       let there : IsAmong contents other = list_any_at (bytes_eq other) contents collides.at [] collides.within (bytes_same other other refl) in
       collides.differs (same_bytes contents contents (IsPermutation-refl contents) apart other bytes there among collides.same_digest)
 
-  none_meets : HaveDistinctDigests contents → (files : List File) (a b : List ℕ) → HaveContents contents files → IsAmong contents a → IsAmong contents b → ¬ AnyCollides (contents_in_files files ++ (a ∷ b ∷ [])) contents
+  none_meets : HaveDistinctDigests contents → (files : List File) (a b : List ℕ) → HaveContents contents files → IsAmong contents a → IsAmong contents b
+      → ¬ AnyCollides (contents_in_files files ++ (a ∷ b ∷ [])) contents
   none_meets apart [] a b have a_in b_in any =
       elim (any_cases (λ bytes. Collides bytes contents) a (b ∷ []) any) [
         | inl here ↦ among_apart apart a a_in here
@@ -140,7 +141,8 @@ module _ (contents : List (List ℕ)) where
         | inr later ↦ none_meets apart files a b have.1 a_in b_in later
       ]
 
-  pub known_apart : (words : List (List ℕ)) (seen : List File) → HaveDistinctDigests contents → IsKnownRecord contents (words_record words) → AreKnownFiles contents seen → ¬ AnyCollides (contents_of_key words seen) contents
+  pub known_apart : (words : List (List ℕ)) (seen : List File) → HaveDistinctDigests contents → IsKnownRecord contents (words_record words) → AreKnownFiles contents seen
+      → ¬ AnyCollides (contents_of_key words seen) contents
   known_apart words seen apart words_known seen_known =
       none_meets apart seen (words_record words) (seen_record (seen_of_files seen)) seen_known.contents_known words_known.among seen_known.record_known.among
 
@@ -175,7 +177,8 @@ module _ (contents words : List (List ℕ)) (seen : List File) where
 -- ---- the answer of a key
 
 module _ (contents : List (List ℕ)) where
-  each_answer : (P : KeptAnswer → Type 0) → ((answer : KeptAnswer) → IsSoundAnswer answer → HasRecords contents answer → P answer) → (answers : List KeptAnswer) → AllByRecursion IsSoundAnswer answers → HaveRecords contents answers
+  each_answer : (P : KeptAnswer → Type 0) → ((answer : KeptAnswer) → IsSoundAnswer answer → HasRecords contents answer → P answer) → (answers : List KeptAnswer) → AllByRecursion IsSoundAnswer answers
+      → HaveRecords contents answers
       → AllByRecursion P answers
   each_answer P holds [] sound have = tt
   each_answer P holds (answer ∷ answers) sound have = (holds answer sound.0 have.0, each_answer P holds answers sound.1 have.1)
@@ -187,7 +190,8 @@ module _ (kept : Kept) (it : IsComplete kept) (words : List (List ℕ)) (seen : 
   lacking : ((answer : KeptAnswer) → IsSoundAnswer answer → HasRecords kept.contents answer → answer.words ≡ words → answer.seen ≡ seen → ⊥) → answer_for words seen kept.answers ≡ None
   lacking none =
       finds_none words seen kept.answers (each_answer kept.contents (λ answer. is_for words seen answer ≡ false)
-      (λ answer sound have. false_from_ne_true (is_for words seen answer) (λ h. let same = (is_for_decides words seen answer).0 h in none answer sound have same.0 same.1)) kept.answers it.sound_answers it.answers)
+      (λ answer sound have. false_from_ne_true (is_for words seen answer) (λ h. let same = (is_for_decides words seen answer).0 h in none answer sound have same.0 same.1)) kept.answers
+      it.sound_answers it.answers)
 
   pub none_by_words : ¬ IsPlacedRecord kept.contents (words_record words) → answer_for words seen kept.answers ≡ None
   none_by_words absent =
@@ -220,7 +224,8 @@ module _ (kept : Kept) (it : IsComplete kept) (words : List (List ℕ)) (seen : 
         go answers apart.1,
       )
 
-  pub found_by_key : (answer : KeptAnswer) → Contains kept.answers answer → key_of answer ≡ key → IsKnownRecord kept.contents (words_record words) → AreKnownFiles kept.contents seen → answer_for words seen kept.answers ≡ Some answer
+  pub found_by_key : (answer : KeptAnswer) → Contains kept.answers answer → key_of answer ≡ key → IsKnownRecord kept.contents (words_record words) → AreKnownFiles kept.contents seen
+      → answer_for words seen kept.answers ≡ Some answer
   found_by_key answer there same words_known seen_known =
       let sound = All-contains IsSoundAnswer kept.answers answer (All-from_recursion IsSoundAnswer kept.answers it.sound_answers) there in
       let have = All-contains (HasRecords kept.contents) kept.answers answer (All-from_recursion (HasRecords kept.contents) kept.answers it.answers) there in

@@ -9,14 +9,14 @@ use Rattle.hook_base.specs.declared.change.Change.{Change}
 use Rattle.hook_base.specs.Rising.{IsBelowAll}
 use Rattle.hook_base.specs.RisingLemmas.{path_cases, below_all_later, IsRisingBy-filter}
 use Rattle.store_faults.specs.Limits.{Fits, most_commits, most_files}
-use Rattle.repo_store.specs.Repository.{Commit, Repository, empty, with_staged, without_staged, with_new_commit, staged_changes, accepted}
+use Rattle.repo_store.specs.Repository.{Commit, Repository, empty, with_staged_file, without_staged_file, with_new_commit, staged_changes, accepted}
 use Rattle.repo_store.specs.Sound.{IsSound}
 use Rattle.repo_store.proofs.PlaceLemmas.{fits_removed, fits_applied}
 
 pub sound_empty : IsSound empty
 sound_empty = record { staged_rise = tt; staged_fit = record { files_fit = omega arith; paths_fit = omega arith }; fixes_rise = tt; fixes_fit = omega arith; trees_rise = tt; numbered = omega arith }
 
-pub sound_staged : (path : List ℕ) (entry : FileEntry) (repo : Repository) → IsSound repo → Fits (put_file path entry repo.staged) → IsSound (with_staged path entry repo)
+pub sound_staged : (path : List ℕ) (entry : FileEntry) (repo : Repository) → IsSound repo → Fits (put_file path entry repo.staged) → IsSound (with_staged_file path entry repo)
 sound_staged path entry repo sound fits = record {
   staged_rise = IsRising-put_row (record { path = path; entry = entry }) repo.staged sound.staged_rise;
   staged_fit = fits;
@@ -26,7 +26,7 @@ sound_staged path entry repo sound fits = record {
   numbered = sound.numbered;
 }
 
-pub sound_unstaged : (path : List ℕ) (repo : Repository) → IsSound repo → IsSound (without_staged path repo)
+pub sound_unstaged : (path : List ℕ) (repo : Repository) → IsSound repo → IsSound (without_staged_file path repo)
 sound_unstaged path repo sound = record {
   staged_rise = IsRising-remove_file path repo.staged sound.staged_rise;
   staged_fit = fits_removed path repo.staged sound.staged_fit;
@@ -36,7 +36,8 @@ sound_unstaged path repo sound = record {
   numbered = sound.numbered;
 }
 
-all_pushed : (history : List Commit) (commit : Commit) → AllByRecursion (λ (c : Commit). IsRising c.tree) history → IsRising commit.tree → AllByRecursion (λ (c : Commit). IsRising c.tree) (history ++ commit ∷ [])
+all_pushed : (history : List Commit) (commit : Commit) → AllByRecursion (λ (c : Commit). IsRising c.tree) history → IsRising commit.tree
+    → AllByRecursion (λ (c : Commit). IsRising c.tree) (history ++ commit ∷ [])
 all_pushed [] commit all one = (one, tt)
 all_pushed (first ∷ history) commit all one = (all.0, all_pushed history commit all.1 one)
 
@@ -59,7 +60,8 @@ change_path change = change.path
 
 pub all_kept : {X : Type 0} (p : X → Bool) (xs : List X) → AllByRecursion (λ x. p x ≡ true) (filter p xs)
 all_kept p [] = tt
-all_kept {X} p (x ∷ xs) = elim (p x) as (λ b. p x ≡ b → AllByRecursion (λ (y : X). p y ≡ true) (if b then x ∷ filter p xs else filter p xs)) [ true ↦ λ e. (e, all_kept p xs) | false ↦ λ e. all_kept p xs ] refl
+all_kept {X} p (x ∷ xs) =
+    elim (p x) as (λ b. p x ≡ b → AllByRecursion (λ (y : X). p y ≡ true) (if b then x ∷ filter p xs else filter p xs)) [ true ↦ λ e. (e, all_kept p xs) | false ↦ λ e. all_kept p xs ] refl
 
 abbrev pub AreStaged : List Change → List File → Type 0
 AreStaged changes rows = AllByRecursion (λ (change : Change). is_some (entry_of change.path rows) ≡ true) changes

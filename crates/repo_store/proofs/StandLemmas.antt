@@ -7,7 +7,7 @@ use Rattle.sqlite_trees.specs.Tree.{Trees}
 use Rattle.sqlite.specs.Effect.{Database}
 use Rattle.sqlite.specs.Held.{Held, state}
 use Rattle.sqlite.specs.State.{State, HasCleanDisk, Survives}
-use Rattle.sqlite.proofs.StateLemmas.{survives_weaker}
+use Rattle.repo_store.proofs.Kit.{survives_weaker}
 use Rattle.store_tables.specs.Schema.{no_schema}
 use Rattle.store_tables.specs.Tables.{Tables, IsBare}
 use Rattle.store_tables.specs.Uses.{as_store}
@@ -18,7 +18,7 @@ use Rattle.repo_store.specs.Complete.{IsComplete}
 use Rattle.repo_store.specs.Kept.{Kept, nothing_kept}
 pub use Rattle.repo_store.specs.Rows.{tables_of}
 use Rattle.repo_store.specs.Shown.{Shown, Stands, Leaves, IsOneTransaction}
-use Rattle.repo_store.specs.Standing.{StandsAt}
+use Rattle.repo_store.specs.Standing.{StandsAtTick}
 use Rattle.repo_store.specs.RowRules.{AreStoreRows}
 use Rattle.repo_store.specs.UsesOf.{greatest_tick}
 use Rattle.repo_store.proofs.CallLemmas.{clean_if_open, leaves_commit}
@@ -38,7 +38,8 @@ unnamed_in kept = unnamed (tables_of kept)
 pub listed_same : (db : Database) (t u : Tables) (next : ℕ) (answers : List KeptAnswer) → IsSame t u → HoldsListed next answers db t → HoldsListed next answers db u
 listed_same db t u next answers same h = record { rows = h.rows; holds = ((holds_same db t u same h.holds.0.0, h.holds.0.1), h.holds.1); uses = h.uses }
 
-same_count : (t u : Tables) (next other : ℕ) (answers others : List KeptAnswer) (trees : Trees) → HoldsListed next answers (as_store trees) t → HoldsListed other others (as_store trees) u → length t.meta ≡ length u.meta
+same_count : (t u : Tables) (next other : ℕ) (answers others : List KeptAnswer) (trees : Trees) → HoldsListed next answers (as_store trees) t → HoldsListed other others (as_store trees) u
+    → length t.meta ≡ length u.meta
 same_count t u next other answers others trees a b = sym (length_permutation t.meta u.meta (same_meta t.meta u.meta (trees 0) a.holds.0.0.meta b.holds.0.0.meta))
 
 -- a call from what is kept to these tables and answers
@@ -60,7 +61,7 @@ IsNextTick next = (1 ≤ next) × (next ≤ greatest_tick + 1)
 pub store_of : (next : ℕ) (db : Database) (kept : Kept) → IsNextTick next → HoldsNext next db kept → HoldsStore db kept
 store_of next db kept within holds = record { next = next; first = within.0; last = within.1; holds = holds }
 
-pub stands_of : {S : Type 0} (g : Ghosts S) (conn : Held S) (kept : Kept) (next : ℕ) → StandsAt g conn kept next → Stands g conn kept
+pub stands_of : {S : Type 0} (g : Ghosts S) (conn : Held S) (kept : Kept) (next : ℕ) → StandsAtTick g conn kept next → Stands g conn kept
 stands_of g conn kept next it = record {
   outside = it.outside;
   complete = it.complete;
@@ -75,12 +76,13 @@ pub leaves_same : (after : Kept) (later : ℕ) (t : Tables) → IsSame t (tables
 leaves_same after later t is complete obeys within trees h =
     record { holds = store_of later (as_store trees) after within (listed_same (as_store trees) t (tables_of after) later after.answers is h); complete = complete; obeys = obeys }
 
-module _ {S A F : Type 0} (g : Ghosts S) (old new : Held S) (next later : ℕ) (kept after : Kept) (t : Tables) (stands : StandsAt g old kept next) (is : IsSame t (tables_of after)) (dirty : ShutIfDirty (state g new))
+module _ {S A F : Type 0} (g : Ghosts S) (old new : Held S) (next later : ℕ) (kept after : Kept) (t : Tables) (stands : StandsAtTick g old kept next) (is : IsSame t (tables_of after))
+    (dirty : ShutIfDirty (state g new))
     (complete : IsComplete after) (obeys : AreStoreRows (tables_of after)) (within : IsNextTick later) where
   abbrev Goes : Result A F → Type 0
   Goes r = Calls g old new next kept later after.answers t r
 
-  rests : (e : F) → Goes (Err e) → StandsAt g new kept next
+  rests : (e : F) → Goes (Err e) → StandsAtTick g new kept next
   rests e call = record {
     outside = call.outside;
     complete = stands.complete;
@@ -91,7 +93,7 @@ module _ {S A F : Type 0} (g : Ghosts S) (old new : Held S) (next later : ℕ) (
     committed = λ h. subst (λ (db : Database). HoldsNext next db kept) (sym (call.kept.committed h)) (stands.committed (call.kept.was_open h));
   }
 
-  stands_on : (x : A) → Goes (Ok x) → StandsAt g new after later
+  stands_on : (x : A) → Goes (Ok x) → StandsAtTick g new after later
   stands_on x call = record {
     outside = call.outside;
     complete = complete;
@@ -103,16 +105,19 @@ module _ {S A F : Type 0} (g : Ghosts S) (old new : Held S) (next later : ℕ) (
   }
 
   crash_leaves : (r : Result A F) → Goes r → Survives (state g old) (state g new) (Leaves after)
-  crash_leaves r call = survives_weaker (state g old) (state g new) (λ trees. HoldsListed later after.answers (as_store trees) t) (Leaves after) (λ _ trees h. leaves_same after later t is complete obeys within trees h) (call.survives stands.now)
+  crash_leaves r call =
+      survives_weaker (state g old) (state g new) (λ trees. HoldsListed later after.answers (as_store trees) t) (Leaves after) (λ _ trees h. leaves_same after later t is complete obeys within trees h)
+      (call.survives stands.now)
 
-  pub refused_stands : (tick : ℕ) → tick ≡ next → (now : Kept) → now ≡ kept → (e : F) → Goes (Err e) → StandsAt g new now tick
-  refused_stands tick at now same e call = subst (λ (k : Kept). StandsAt g new k tick) (sym same) (subst (StandsAt g new kept) (sym at) (rests e call))
+  pub refused_stands : (tick : ℕ) → tick ≡ next → (now : Kept) → now ≡ kept → (e : F) → Goes (Err e) → StandsAtTick g new now tick
+  refused_stands tick at now same e call = subst (λ (k : Kept). StandsAtTick g new k tick) (sym same) (subst (StandsAtTick g new kept) (sym at) (rests e call))
 
-  pub done_stands : (tick : ℕ) → tick ≡ later → (now : Kept) → now ≡ after → (x : A) → Goes (Ok x) → StandsAt g new now tick
-  done_stands tick at now same x call = subst (λ (k : Kept). StandsAt g new k tick) (sym same) (subst (StandsAt g new after) (sym at) (stands_on x call))
+  pub done_stands : (tick : ℕ) → tick ≡ later → (now : Kept) → now ≡ after → (x : A) → Goes (Ok x) → StandsAtTick g new now tick
+  done_stands tick at now same x call = subst (λ (k : Kept). StandsAtTick g new k tick) (sym same) (subst (StandsAtTick g new after) (sym at) (stands_on x call))
 
   -- A connection that is shut holds other tables as well as these, so that nothing it leaves can be both.
-  shut_leaves : (r : Result A F) → Goes r → (Before : Database → Type 0) (u : Tables) (other : ℕ) (others : List KeptAnswer) → IsCall g old new r Before (λ db. HoldsListed other others db u) → (length t.meta ≡ length u.meta → ⊥)
+  shut_leaves : (r : Result A F) → Goes r → (Before : Database → Type 0) (u : Tables) (other : ℕ) (others : List KeptAnswer) → IsCall g old new r Before (λ db. HoldsListed other others db u)
+      → (length t.meta ≡ length u.meta → ⊥)
       → (state g old).is_open ≡ false → Survives (state g old) (state g new) (λ _. ⊥)
   shut_leaves r call Before u other others also apart shut =
       let here = call.survives (λ h. absurd (both_ways _ shut h)) in
@@ -129,7 +134,8 @@ module _ {S A F : Type 0} (g : Ghosts S) (old new : Held S) (next later : ℕ) (
         ];
       }
 
-  pub refused_transaction : {B E : Type 0} (tick : ℕ) → tick ≡ next → (now : Kept) → now ≡ kept → (e : F) → Goes (Err e) → (fault : E) → (Before : Database → Type 0) (u : Tables) (other : ℕ) (others : List KeptAnswer)
+  pub refused_transaction : {B E : Type 0} (tick : ℕ) → tick ≡ next → (now : Kept) → now ≡ kept → (e : F) → Goes (Err e) → (fault : E)
+      → (Before : Database → Type 0) (u : Tables) (other : ℕ) (others : List KeptAnswer)
       → IsCall {A = A} {E = F} g old new (Err e) Before (λ db. HoldsListed other others db u) → (length t.meta ≡ length u.meta → ⊥)
       → IsOneTransaction {A = B} g (record { conn = old; kept = kept; next = next }) (record { conn = new; kept = now; next = tick }) (Err fault) after
   refused_transaction tick at now same e call fault Before u other others also apart = record {
@@ -140,8 +146,10 @@ module _ {S A F : Type 0} (g : Ghosts S) (old new : Held S) (next later : ℕ) (
     opened = λ clean. tt;
   }
 
-  pub done_transaction : {B E : Type 0} → ((trees : Trees) → IsTrue (state g new).is_open → (state g new).may_leave trees → trees ≡ (state g new).committed.trees) → (tick : ℕ) → tick ≡ later → (now : Kept) → now ≡ after → (x : A) → Goes (Ok x) → (y : B)
-      → (Before : Database → Type 0) (u : Tables) (other : ℕ) (others : List KeptAnswer) → IsCall {A = A} {E = F} g old new (Ok x) Before (λ db. HoldsListed other others db u) → (length t.meta ≡ length u.meta → ⊥)
+  pub done_transaction : {B E : Type 0} → ((trees : Trees) → IsTrue (state g new).is_open → (state g new).may_leave trees → trees ≡ (state g new).committed.trees) → (tick : ℕ) → tick ≡ later
+      → (now : Kept) → now ≡ after → (x : A) → Goes (Ok x) → (y : B)
+      → (Before : Database → Type 0) (u : Tables) (other : ℕ) (others : List KeptAnswer) → IsCall {A = A} {E = F} g old new (Ok x) Before (λ db. HoldsListed other others db u)
+      → (length t.meta ≡ length u.meta → ⊥)
       → IsOneTransaction {E = E} g (record { conn = old; kept = kept; next = next }) (record { conn = new; kept = now; next = tick }) (Ok y) after
   done_transaction settled tick at now same x call y Before u other others also apart = record {
     stands = stands_of g new now tick (done_stands tick at now same x call);
@@ -179,10 +187,11 @@ unasked g shown fault after stands = record {
 }
 
 -- an empty store in a database that had no tables
-pub made_stands : {S A F : Type 0} (g : Ghosts S) (old new : Held S) (now : Kept) (tick : ℕ) (x : A) → IsCall {A = A} {E = F} g old new (Ok x) (IsBare no_schema) (λ db. HoldsNext 1 db nothing_kept) → (IsTrue (state g old).is_open → IsBare no_schema (state g old).now)
-    → ShutIfDirty (state g new) → now ≡ nothing_kept → tick ≡ 1 → StandsAt g new now tick
+pub made_stands : {S A F : Type 0} (g : Ghosts S) (old new : Held S) (now : Kept) (tick : ℕ) (x : A) → IsCall {A = A} {E = F} g old new (Ok x) (IsBare no_schema) (λ db. HoldsNext 1 db nothing_kept)
+    → (IsTrue (state g old).is_open → IsBare no_schema (state g old).now)
+    → ShutIfDirty (state g new) → now ≡ nothing_kept → tick ≡ 1 → StandsAtTick g new now tick
 made_stands g old new now tick x call bare dirty is at =
-    subst (λ (k : Kept). StandsAt g new k tick) (sym is) (subst (StandsAt g new nothing_kept) (sym at) (record {
+    subst (λ (k : Kept). StandsAtTick g new k tick) (sym is) (subst (StandsAtTick g new nothing_kept) (sym at) (record {
       outside = call.outside;
       complete = complete_empty;
       obeys = obeys_empty;

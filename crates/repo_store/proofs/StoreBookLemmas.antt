@@ -11,7 +11,7 @@ use Rattle.hook_base.specs.Trees.{entry_of}
 use Rattle.sqlite_trees.specs.declared.store.Store.{Ghosts}
 use Rattle.sqlite.specs.Held.{state}
 use Rattle.sqlite.specs.State.{HasCleanDisk}
-use Rattle.sqlite.proofs.StateLemmas.{survives_weaker}
+use Rattle.repo_store.proofs.Kit.{survives_weaker}
 use Rattle.store_faults.specs.declared.fault.StoreFault.{StoreFault}
 use Rattle.repo_store.specs.declared.stored_answer.StoredAnswer.{StoredAnswer}
 use Rattle.repo_store.specs.AllOrNothing.{IsAllOrNothing}
@@ -38,7 +38,8 @@ use Rattle.repo_store.proofs.StoreRowLemmas.{distinct_rows, has_from, lacks_from
 -- ---- what is found
 
 module _ (words : List (List ℕ)) (seen : List File) where
-  finds_as : (limit : ℕ) (answers : List KeptAnswer) (found : Option KeptAnswer) → answer_for words seen answers ≡ found → Finds words seen (with_rows limit (map row_of answers)) (option_map answer_in (option_map stored_answer found))
+  finds_as : (limit : ℕ) (answers : List KeptAnswer) (found : Option KeptAnswer) → answer_for words seen answers ≡ found
+      → Finds words seen (with_rows limit (map row_of answers)) (option_map answer_in (option_map stored_answer found))
   finds_as limit answers None is = lacks_from words seen answers is
   finds_as limit answers (Some found) is = has_from words seen answers found is
 
@@ -66,7 +67,8 @@ put_book : (new : KeptAnswer) (kept : Kept) → remembered_by (remembering new k
 put_book new kept = ap (with_rows kept.limit) (rows_put kept.limit new kept.answers)
 
 -- what a use leaves
-pub after_use : (words : List (List ℕ)) (seen : List File) (kept : Kept) (after : Contents) → HaveOwnKeys kept.answers → after ≡ remembered_by (using words seen kept) → AfterFind words seen (remembered_by kept) after
+pub after_use : (words : List (List ℕ)) (seen : List File) (kept : Kept) (after : Contents) → HaveOwnKeys kept.answers → after ≡ remembered_by (using words seen kept)
+    → AfterFind words seen (remembered_by kept) after
 after_use words seen kept after own is = after_found words seen (remembered_by kept) after (distinct_rows kept.answers own) (is ∙ used_book words seen kept)
 
 -- what a new answer leaves
@@ -142,7 +144,8 @@ module _ {S A : Type 0} (g : Ghosts S) (old new : Shown S) (result : Result A St
         | inr none ↦ absurd none
       ]
 
-module _ {S A : Type 0} (g : Ghosts S) (old new : Shown S) (result : Result A StoreFault) (after : Kept) (change : IsAllOrNothing old.kept new.kept result after) (it : IsOneTransaction g old new result after) where
+module _ {S A : Type 0} (g : Ghosts S) (old new : Shown S) (result : Result A StoreFault) (after : Kept) (change : IsAllOrNothing old.kept new.kept result after)
+    (it : IsOneTransaction g old new result after) where
   -- the repository that stood in the tables may have been left before
   shown_left : Stays g old → Stands g old.conn old.kept → IsTrue (state g old.conn).is_open → MayLeave g old old.kept.repo
   shown_left stays stands is_open = record {
@@ -247,7 +250,8 @@ module _ {S A : Type 0} (g : Ghosts S) (stays : (shown : Shown S) → Stays g sh
         | inr it_is ↦ rest_use g stays old new result (using words seen old.kept) it_is change refl (λ bytes among. among)
       ]
 
-module _ {S A : Type 0} (g : Ghosts S) (stays : (shown : Shown S) → Stays g shown) (old new : Shown S) (result : Result A StoreFault) (kept : KeptAnswer) (answer : Answer) (is : given_answer kept ≡ answer)
+module _ {S A : Type 0} (g : Ghosts S) (stays : (shown : Shown S) → Stays g shown) (old new : Shown S) (result : Result A StoreFault) (kept : KeptAnswer) (answer : Answer)
+    (is : given_answer kept ≡ answer)
     (it : IsOneUse g old new result (remembering kept old.kept)) where
   pub left_put : (left : Contents) → MayRemember g new left → MayRemember g old left ⊎ AfterPut kept.words kept.seen answer (remembered_by old.kept) left
   left_put left may =

@@ -32,7 +32,8 @@ module _ (words : List (List ℕ)) (seen : List File) where
   pub has_from : (answers : List KeptAnswer) (found : KeptAnswer) → answer_for words seen answers ≡ Some found → HaveRow words seen (given_answer found) (map row_of answers)
   has_from [] found some = absurd (cc)
   has_from (kept ∷ answers) found some =
-      elim (is_for words seen kept) as (λ b. is_for words seen kept ≡ b → (if b then Some kept else answer_for words seen answers) ≡ Some found → HaveRow words seen (given_answer found) (row_of kept ∷ map row_of answers)) [
+      elim (is_for words seen kept) as (λ b. is_for words seen kept ≡ b → (if b then Some kept else answer_for words seen answers) ≡ Some found
+      → HaveRow words seen (given_answer found) (row_of kept ∷ map row_of answers)) [
         | true ↦ λ is here. let same : kept ≡ found = cc in inl (key_of words seen kept is, ap given_answer same)
         | false ↦ λ isnt later. inr (has_from answers found later)
       ] refl some
@@ -54,7 +55,8 @@ module _ (words : List (List ℕ)) (seen : List File) where
   pub rows_without : (answers : List KeptAnswer) → map row_of (without_key words seen answers) ≡ other_rows words seen (map row_of answers)
   rows_without [] = refl
   rows_without (kept ∷ answers) =
-      elim (is_for words seen kept) as (λ b. map row_of (cond (not b) (kept ∷ without_key words seen answers) (without_key words seen answers)) ≡ cond (not b) (row_of kept ∷ other_rows words seen (map row_of answers)) (other_rows words seen (map row_of answers))) [
+      elim (is_for words seen kept) as (λ b. map row_of (cond (not b) (kept ∷ without_key words seen answers) (without_key words seen answers))
+      ≡ cond (not b) (row_of kept ∷ other_rows words seen (map row_of answers)) (other_rows words seen (map row_of answers))) [
         | true ↦ rows_without answers
         | false ↦ ap (λ (rows : List BookRow). row_of kept ∷ rows) (rows_without answers)
       ]
@@ -67,7 +69,8 @@ module _ (words : List (List ℕ)) (seen : List File) where
         | false ↦ row_found answers
       ]
 
-  brought_found : (answers : List KeptAnswer) (found : Option KeptAnswer) → answer_for words seen answers ≡ found → map row_of (in_front_if_any found answers) ≡ cons_option (option_map row_of found) (other_rows words seen (map row_of answers))
+  brought_found : (answers : List KeptAnswer) (found : Option KeptAnswer) → answer_for words seen answers ≡ found
+      → map row_of (in_front_if_any found answers) ≡ cons_option (option_map row_of found) (other_rows words seen (map row_of answers))
   brought_found answers None is = sym (all_others words seen (map row_of answers) (lacks_from words seen answers is))
   brought_found answers (Some kept) is =
       let key = key_of words seen kept (found_among words seen kept answers is).1 in

@@ -10,10 +10,10 @@ use Rattle.sqlite.specs.declared.error.Error.{Error}
 use Rattle.sqlite.specs.Effect.{Database, IsDatabase}
 use Rattle.sqlite.specs.Held.{Held, state}
 use Rattle.sqlite.specs.State.{HasCleanDisk, Survives}
-use Rattle.sqlite.proofs.StateLemmas.{survives_then, survives_weaker}
+use Rattle.repo_store.proofs.Kit.{survives_then, survives_weaker}
 use Rattle.store_tables.specs.declared.rows.AnswerRow.{AnswerRow}
 use Rattle.store_tables.specs.Schema.{store_schema}
-use Rattle.store_tables.specs.Tables.{AreKeyed, Holds, Tables, with_meta, with_new_meta}
+use Rattle.store_tables.specs.Tables.{AreKeyed, HoldsTables, Tables, with_meta, with_new_meta}
 use Rattle.store_tables.specs.Uses.{as_store}
 use Rattle.store_faults.specs.declared.fault.StoreFault.{StoreFault}
 use Rattle.repo_store.specs.Answers.{HaveOwnKeys, KeptAnswer}
@@ -90,14 +90,18 @@ taken_is db lists found = record {
 call_as : {S A F : Type 0} (g : Ghosts S) (old new : Held S) (r : Result A F) (P Q R : Database → Type 0) → ((db : Database) → Q db → R db) → IsCall g old new r P Q → IsCall g old new r P R
 call_as g old new r P Q R f call = record {
   outside = call.outside;
-  done = λ clean before. on_ok_weaker r (λ (c : Commits (state g new) Q). record { is_open = c.is_open; now = f (state g new).now c.now; committed = f (state g new).committed c.committed }) (call.done clean before);
+  done =
+      λ clean before. on_ok_weaker r (λ (c : Commits (state g new) Q). record { is_open = c.is_open; now = f (state g new).now c.now; committed = f (state g new).committed c.committed })
+      (call.done clean before);
   kept = call.kept;
   survives = λ before. survives_weaker (state g old) (state g new) (λ trees. Q (as_store trees)) (λ trees. R (as_store trees)) (λ _ trees h. f (as_store trees) h) (call.survives before);
 }
 
 abbrev pub Moves : {S : Type 0} → Ghosts S → Held S → Held S → Result (Unit {0}) Error → List Key → ℕ → Type 0
-Moves g old new r keys dropped = (t : Tables) (front back : List KeptAnswer) → keys ≡ map key_of (reverse (front ++ back)) → dropped ≡ length back → HaveOwnKeys (front ++ back) → TellTheirKeys (front ++ back) back
-    → IsCall g old new r (λ db. Holds db t × AreKeyed (db.trees 0)) (λ db. (length keys ≤ greatest_tick) × HoldsListed (length (front ++ back) + 1) front db (moved_tables (map key_of (reverse back)) t))
+Moves g old new r keys dropped =
+    (t : Tables) (front back : List KeptAnswer) → keys ≡ map key_of (reverse (front ++ back)) → dropped ≡ length back → HaveOwnKeys (front ++ back) → TellTheirKeys (front ++ back) back
+    → IsCall g old new r (λ db. HoldsTables db t × AreKeyed (db.trees 0))
+    (λ db. (length keys ≤ greatest_tick) × HoldsListed (length (front ++ back) + 1) front db (moved_tables (map key_of (reverse back)) t))
 
 -- the database is the migrated store, and there were no more answers than ticks
 abbrev pub IsMoved : List Key → Kept → Database → Type 0
@@ -105,14 +109,15 @@ IsMoved keys first db = (length keys ≤ greatest_tick) × HoldsNext (length fir
 
 moved_call : {S : Type 0} (g : Ghosts S) (old new : Held S) (r : Result (Unit {0}) Error) (keys : List Key) (dropped : ℕ) (first : Kept) → HaveOwnKeys first.answers → TellKeys first.answers
     → keys ≡ map key_of (reverse first.answers) → dropped ≡ length (drop first_limit first.answers) → Moves g old new r keys dropped
-    → IsCall g old new r (λ db. Holds db (first_tables_of first) × AreKeyed (db.trees 0)) (IsMoved keys first)
+    → IsCall g old new r (λ db. HoldsTables db (first_tables_of first) × AreKeyed (db.trees 0)) (IsMoved keys first)
 moved_call g old new r keys dropped first own tells keys_are count moves =
     let front = take first_limit first.answers in
     let back = drop first_limit first.answers in
     let whole : front ++ back ≡ first.answers = take-append-drop first_limit first.answers in
     let t = first_tables_of first in
     let gone = map key_of (reverse back) in
-    call_as g old new r (λ db. Holds db t × AreKeyed (db.trees 0)) (λ db. (length keys ≤ greatest_tick) × HoldsListed (length (front ++ back) + 1) front db (moved_tables gone t)) (IsMoved keys first)
+    call_as g old new r (λ db. HoldsTables db t × AreKeyed (db.trees 0)) (λ db. (length keys ≤ greatest_tick) × HoldsListed (length (front ++ back) + 1) front db (moved_tables gone t))
+    (IsMoved keys first)
     (λ db h. (
       h.0,
       listed_same db (moved_tables gone t) (tables_of (limiting first_limit first)) (length first.answers + 1) front (moved_same first own tells)
@@ -151,17 +156,19 @@ module _ {S : Type 0} (g : Ghosts S) (old mid : Held S) (ours : (state g old).no
     }
 
     module _ (own : HaveOwnKeys lists.kept.answers) (tells : TellKeys lists.kept.answers) (complete : IsComplete (limiting first_limit lists.kept)) (obeys : AreStoreRows (first_tables_of lists.kept))
-        (new : Held S) (keys : List Key) (dropped : ℕ) (keys_are : keys ≡ map key_of (reverse lists.kept.answers)) (count : dropped ≡ length (drop first_limit lists.kept.answers)) (as_many : length keys ≡ length lists.kept.answers) where
-      call_of : (r : Result (Unit {0}) Error) → Moves g mid new r keys dropped → IsCall g mid new r (λ db. Holds db (first_tables_of lists.kept) × AreKeyed (db.trees 0)) (IsMoved keys lists.kept)
+        (new : Held S) (keys : List Key) (dropped : ℕ) (keys_are : keys ≡ map key_of (reverse lists.kept.answers)) (count : dropped ≡ length (drop first_limit lists.kept.answers))
+        (as_many : length keys ≡ length lists.kept.answers) where
+      call_of : (r : Result (Unit {0}) Error) → Moves g mid new r keys dropped
+          → IsCall g mid new r (λ db. HoldsTables db (first_tables_of lists.kept) × AreKeyed (db.trees 0)) (IsMoved keys lists.kept)
       call_of r moves = moved_call g mid new r keys dropped lists.kept own tells keys_are count moves
 
-      before : IsTrue (state g mid).is_open → Holds (state g mid).now (first_tables_of lists.kept) × AreKeyed ((state g mid).now.trees 0)
+      before : IsTrue (state g mid).is_open → HoldsTables (state g mid).now (first_tables_of lists.kept) × AreKeyed ((state g mid).now.trees 0)
       before h =
           let rest = read_rests (Ok lists) load in
           let was = rest.was_open h in
           let found = load.found (clean_mid h) ours live in
           let same : (state g mid).now ≡ (state g old).now = rest.now h ∙ sym (settled was) in
-          subst (λ (db : Database). Holds db (first_tables_of lists.kept) × AreKeyed (db.trees 0)) (sym same) (found.holds, found.meta_keyed)
+          subst (λ (db : Database). HoldsTables db (first_tables_of lists.kept) × AreKeyed (db.trees 0)) (sym same) (found.holds, found.meta_keyed)
         where
           clean_mid : IsTrue (state g mid).is_open → HasCleanDisk (state g mid)
           clean_mid h = clean_of (state g mid) dirty h
@@ -169,14 +176,20 @@ module _ {S : Type 0} (g : Ghosts S) (old mid : Held S) (ours : (state g old).no
       leaves_moved : (trees : Trees) → IsMoved keys lists.kept (as_store trees) → Leaves (limiting first_limit lists.kept) trees
       leaves_moved trees h =
           let few = h.0 in
-          leaves_same (limiting first_limit lists.kept) (length lists.kept.answers + 1) (tables_of (limiting first_limit lists.kept)) (same_itself (tables_of (limiting first_limit lists.kept))) complete (moved_obey lists.kept obeys)
+          leaves_same (limiting first_limit lists.kept) (length lists.kept.answers + 1) (tables_of (limiting first_limit lists.kept)) (same_itself (tables_of (limiting first_limit lists.kept)))
+          complete (moved_obey lists.kept obeys)
           (omega arith, omega arith) trees h.1
 
       pub move_survives : (r : Result (Unit {0}) Error) → Moves g mid new r keys dropped → Survives (state g old) (state g new) (TakesOver (state g old).now)
       move_survives r moves =
           let two = (call_of r moves).survives before in
           survives_then (state g old) (state g mid) (state g new) (λ _. ⊥) (λ trees. IsMoved keys lists.kept (as_store trees)) (TakesOver (state g old).now) (λ _ _ none. absurd none)
-          (λ clean trees h. record { kept = limiting first_limit lists.kept; taken = taken_is (state g old).now lists (load.found (omega (arith, two.clean, clean)) ours live); leaves = leaves_moved trees h }) load.survives two
+          (λ clean trees h. record {
+            kept = limiting first_limit lists.kept;
+            taken = taken_is (state g old).now lists (load.found (omega (arith, two.clean, clean)) ours live);
+            leaves = leaves_moved
+                trees h;
+          }) load.survives two
 
       pub refused_taken : (e : Error) (fault : StoreFault) → IsRefusal ⊥ ⊥ ⊥ fault → Moves g mid new (Err e) keys dropped → IsTakingOver g old new (Err fault)
       refused_taken e fault why moves =
@@ -194,11 +207,14 @@ module _ {S : Type 0} (g : Ghosts S) (old mid : Held S) (ours : (state g old).no
             survives = move_survives (Err e) moves;
           }
 
-      pub moved_taken : (after : Mirror) → after.kept ≡ limiting first_limit lists.kept → after.next ≡ length lists.kept.answers + 1 → Moves g mid new (Ok tt) keys dropped → IsTakingOver g old new (Ok after)
+      pub moved_taken : (after : Mirror) → after.kept ≡ limiting first_limit lists.kept → after.next ≡ length lists.kept.answers + 1 → Moves g mid new (Ok tt) keys dropped
+          → IsTakingOver g old new (Ok after)
       moved_taken after kept_is next_is moves =
           let call = call_of (Ok tt) moves in
           let two = call.survives before in
-          let shown = λ (db : Database) (h : HoldsNext (length lists.kept.answers + 1) db (limiting first_limit lists.kept)). subst (λ (n : ℕ). HoldsNext n db after.kept) (sym next_is) (subst (λ (k : Kept). HoldsNext (length lists.kept.answers + 1) db k) (sym kept_is) h) in
+          let shown =
+          λ (db : Database) (h : HoldsNext (length lists.kept.answers + 1) db (limiting first_limit lists.kept)). subst (λ (n : ℕ). HoldsNext n db after.kept) (sym next_is)
+          (subst (λ (k : Kept). HoldsNext (length lists.kept.answers + 1) db k) (sym kept_is) h) in
           record {
             outside = call.outside;
             taken = λ clean.

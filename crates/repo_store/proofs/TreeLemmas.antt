@@ -35,7 +35,8 @@ rising_front zero rows rising = tt
 rising_front (suc n) [] rising = tt
 rising_front (suc n) (row ∷ rows) rising = (below_front row.path n rows rising.0, rising_front n rows rising.1)
 
-pub tree_more : (files : List FileParts) (i : ℕ) (file : FileParts) (tree : List File) → i < length files → file ≡ get_or files i file → IsRising (map file_of files) → tree ≡ map file_of (take i files) → put_row (file_of file) tree ≡ map file_of (take (i + 1) files)
+pub tree_more : (files : List FileParts) (i : ℕ) (file : FileParts) (tree : List File) → i < length files → file ≡ get_or files i file → IsRising (map file_of files)
+    → tree ≡ map file_of (take i files) → put_row (file_of file) tree ≡ map file_of (take (i + 1) files)
 tree_more files i file tree within is rising tree_is =
     let step : map file_of (take (i + 1) files) ≡ map file_of (take i files) ++ file_of file ∷ [] =
     ap (map file_of) (take_more files i file within ∙ ap (λ (f : FileParts). take i files ++ f ∷ []) (sym is)) ∙ map-append file_of (take i files) (file ∷ []) in
@@ -51,26 +52,31 @@ all_at P (first ∷ xs) (suc k) x all is = all_at P xs k x all.1 is
 
 pub log_more : (n : ℕ) (history : List Commit) (commit : Commit) → log_from n (history ++ commit ∷ []) ≡ log_from n history ++ entry_at (n + length history) commit ∷ []
 log_more n [] commit = ap (λ (m : ℕ). entry_at m commit ∷ []) (omega arith)
-log_more n (first ∷ history) commit = ap (λ (l : List LogEntry). entry_at n first ∷ l) (log_more (n + 1) history commit ∙ ap (λ (m : ℕ). log_from (n + 1) history ++ entry_at m commit ∷ []) (omega arith))
+log_more n (first ∷ history) commit =
+    ap (λ (l : List LogEntry). entry_at n first ∷ l) (log_more (n + 1) history commit ∙ ap (λ (m : ℕ). log_from (n + 1) history ++ entry_at m commit ∷ []) (omega arith))
 
-pub log_step : (history : List SharedCommit) (i : ℕ) (commit : SharedCommit) (number : ℕ) (message : List ℕ) (log : List LogEntry) → i < length history → commit ≡ get_or history i commit → number ≡ i + 1 → message ≡ commit.message
+pub log_step : (history : List SharedCommit) (i : ℕ) (commit : SharedCommit) (number : ℕ) (message : List ℕ) (log : List LogEntry) → i < length history → commit ≡ get_or history i commit
+    → number ≡ i + 1 → message ≡ commit.message
     → log ≡ log_from 1 (map commit_of (take i history)) → log ++ record { number = number; message = message } ∷ [] ≡ log_from 1 (map commit_of (take (i + 1) history))
 log_step history i commit number message log within is number_is message_is log_is =
     let front = map commit_of (take i history) in
     let count : number ≡ 1 + length front = omega (arith, length-map (take i history) commit_of, length-take i history) in
     let step : map commit_of (take (i + 1) history) ≡ front ++ commit_of commit ∷ [] =
     ap (map commit_of) (take_more history i commit within ∙ ap (λ (c : SharedCommit). take i history ++ c ∷ []) (sym is)) ∙ map-append commit_of (take i history) (commit ∷ []) in
-    ap₂ (λ (l : List LogEntry) (e : LogEntry). l ++ e ∷ []) log_is (ap₂ (λ (n : ℕ) (m : List ℕ). log_entry n m) count message_is) ∙ sym (log_more 1 front (commit_of commit)) ∙ ap (log_from 1) (sym step)
+    ap₂ (λ (l : List LogEntry) (e : LogEntry). l ++ e ∷ []) log_is (ap₂ (λ (n : ℕ) (m : List ℕ). log_entry n m) count message_is) ∙ sym (log_more 1 front (commit_of commit))
+    ∙ ap (log_from 1) (sym step)
   where
     log_entry : ℕ → List ℕ → LogEntry
     log_entry n m = record { number = n; message = m }
 
-pub rising_at : (history : List SharedCommit) (k : ℕ) (commit : SharedCommit) → AllByRecursion (λ (c : Commit). IsRising c.tree) (map commit_of history) → k < length history → commit ≡ get_or history k commit → IsRising (map file_of commit.files.items)
+pub rising_at : (history : List SharedCommit) (k : ℕ) (commit : SharedCommit) → AllByRecursion (λ (c : Commit). IsRising c.tree) (map commit_of history) → k < length history
+    → commit ≡ get_or history k commit → IsRising (map file_of commit.files.items)
 rising_at [] k commit all within is = absurd (omega arith)
 rising_at (first ∷ history) zero commit all within is = subst (λ (c : SharedCommit). IsRising (map file_of c.files.items)) (sym is) all.0
 rising_at (first ∷ history) (suc k) commit all within is = rising_at history k commit all.1 (omega arith) is
 
-pub last_at : (history : List SharedCommit) (k : ℕ) (commit : SharedCommit) → k + 1 ≡ length history → commit ≡ get_or history k commit → last_tree (map commit_of history) ≡ map file_of commit.files.items
+pub last_at : (history : List SharedCommit) (k : ℕ) (commit : SharedCommit) → k + 1 ≡ length history → commit ≡ get_or history k commit
+    → last_tree (map commit_of history) ≡ map file_of commit.files.items
 last_at [] k commit count is = absurd (omega arith)
 last_at (first ∷ []) zero commit count is = ap (λ (c : SharedCommit). map file_of c.files.items) (sym is)
 last_at (first ∷ []) (suc k) commit count is = absurd (omega arith)
@@ -92,7 +98,8 @@ got xs k (Some x) it = sym (slice_get-get_or xs k x.now it.3.0 ∙ ap Some (sym 
 pub commit_read : (history : List SharedCommit) (n : ℕ) → (n ≡ 0 → ⊥) → option_map commit_of (slice_get history (n - 1)) ≡ commit_at n (map commit_of history)
 commit_read history n some = sym (read_at n (map commit_of history) some ∙ slice_get-map commit_of history (n - 1))
 
-pub commit_rises : (history : List SharedCommit) (k : ℕ) (r : Option (Bor SharedCommit)) → AllByRecursion (λ (c : Commit). IsRising c.tree) (map commit_of history) → IsItemAt history k r → IfSome r (λ commit. IsRising (map file_of commit.now.files.items))
+pub commit_rises : (history : List SharedCommit) (k : ℕ) (r : Option (Bor SharedCommit)) → AllByRecursion (λ (c : Commit). IsRising c.tree) (map commit_of history) → IsItemAt history k r
+    → IfSome r (λ commit. IsRising (map file_of commit.now.files.items))
 commit_rises history k None all it = tt
 commit_rises history k (Some commit) all it = rising_at history k commit.now all it.3.0 it.1
 
@@ -111,5 +118,6 @@ commit_tree_rises : (n : ℕ) (history : List Commit) → AllByRecursion (λ (c 
 commit_tree_rises zero history all = tt
 commit_tree_rises (suc n) history all = rises_at history n (slice_get history n) all refl
 
-pub found_tree_rises : (n : ℕ) (history : List Commit) (tree : Option (List File)) → AllByRecursion (λ (c : Commit). IsRising c.tree) history → tree ≡ option_map (λ (c : Commit). c.tree) (commit_at n history) → IfSome tree IsRising
+pub found_tree_rises : (n : ℕ) (history : List Commit) (tree : Option (List File)) → AllByRecursion (λ (c : Commit). IsRising c.tree) history
+    → tree ≡ option_map (λ (c : Commit). c.tree) (commit_at n history) → IfSome tree IsRising
 found_tree_rises n history tree all is = subst (λ (o : Option (List File)). IfSome o IsRising) (sym is) (commit_tree_rises n history all)

@@ -5,7 +5,7 @@ use Rattle.std.specs.Str.{bytes_eq}
 use Rattle.std.proofs.lemmas.List.{length-map, length-reverse, map-append, reverse-append, reverse-reverse, take-append-le, take_all}
 use Rattle.std.proofs.lemmas.List.Elements.{All-from_recursion, recursion_from_All}
 use Rattle.std.proofs.lemmas.List.Sorted.{All-permutation, IsPermutation-refl, IsPermutation-cons, IsPermutation-reverse}
-use Rattle.sqlite_keyed.proofs.ListLemmas.{IsPermutation-filter, filter_all}
+use Rattle.repo_store.proofs.Kit.{IsPermutation-filter, filter_all}
 use Rattle.store_tables.specs.declared.rows.UseRow.{UseRow}
 use Rattle.store_tables.specs.Uses.{with_use, without_use}
 use Rattle.repo_store.specs.AnswerLemmas.{is_for_itself, one_key, other_key_back, own_key}
@@ -35,7 +35,8 @@ module _ (stays : KeptAnswer → Bool) where
   as_many_left (answer ∷ answers) [] same = absurd (omega arith)
   as_many_left (answer ∷ answers) (tick ∷ ticks) same =
       let rest = as_many_left answers ticks (omega arith) in
-      elim (stays answer) as (λ b. length (if b then tick ∷ left answers ticks else left answers ticks) ≡ length (if b then answer ∷ filter stays answers else filter stays answers)) [ true ↦ ap suc rest | false ↦ rest ]
+      elim (stays answer) as (λ b. length (if b then tick ∷ left answers ticks else left answers ticks) ≡ length (if b then answer ∷ filter stays answers else filter stays answers))
+      [ true ↦ ap suc rest | false ↦ rest ]
 
   left_fall : (high : ℕ) (answers : List KeptAnswer) (ticks : List ℕ) → FallBelow high ticks → FallBelow high (left answers ticks)
   left_fall high [] ticks fall = tt
@@ -60,7 +61,8 @@ module _ (stays : KeptAnswer → Bool) where
       let rows = use_rows answers ticks in
       let rest = rows_left keeps answers ticks told.1 in
       ap (λ b. if b then row ∷ filter keeps rows else filter keeps rows) (told.0 tick)
-      ∙ elim (stays answer) as (λ b. (if b then row ∷ filter keeps rows else filter keeps rows) ≡ use_rows (if b then answer ∷ filter stays answers else filter stays answers) (if b then tick ∷ left answers ticks else left answers ticks)) [
+      ∙ elim (stays answer) as (λ b. (if b then row ∷ filter keeps rows else filter keeps rows)
+      ≡ use_rows (if b then answer ∷ filter stays answers else filter stays answers) (if b then tick ∷ left answers ticks else left answers ticks)) [
         | true ↦ ap (λ (l : List UseRow). row ∷ l) rest
         | false ↦ rest
       ]
@@ -77,12 +79,15 @@ uses_without answer next rows answers tells it =
       ticks = left stays answers it.ticks;
       as_many = as_many_left stays answers it.ticks it.as_many;
       fall = left_fall stays next answers it.ticks it.fall;
-      rows_are = subst (IsPermutation (filter keeps rows)) (rows_left stays keeps answers it.ticks (all_weaker (TellsKey answer) (λ other. (tick : ℕ) → keeps (use_row other tick) ≡ stays other) answers (λ other told tick. row_told answer other told) tells))
+      rows_are =
+          subst (IsPermutation (filter keeps rows)) (rows_left stays keeps answers it.ticks
+          (all_weaker (TellsKey answer) (λ other. (tick : ℕ) → keeps (use_row other tick) ≡ stays other) answers (λ other told tick. row_told answer other told) tells))
           (IsPermutation-filter keeps rows (use_rows answers it.ticks) it.rows_are);
     }
 
 -- a use is noted, with the next tick
-pub uses_in_front : (answer : KeptAnswer) (next : ℕ) (rows : List UseRow) (answers : List KeptAnswer) → 1 ≤ next → AreUsesOf next rows answers → AreUsesOf (next + 1) (with_use (use_row answer next) rows) (answer ∷ answers)
+pub uses_in_front : (answer : KeptAnswer) (next : ℕ) (rows : List UseRow) (answers : List KeptAnswer) → 1 ≤ next → AreUsesOf next rows answers
+    → AreUsesOf (next + 1) (with_use (use_row answer next) rows) (answer ∷ answers)
 uses_in_front answer next rows answers first it =
     let count = it.as_many in
     record {
@@ -136,7 +141,8 @@ turned xs = ap reverse (mapped xs) ∙ reverse-reverse (map key_of xs)
     mapped : (xs : List KeptAnswer) → map key_of (reverse xs) ≡ reverse (map key_of xs)
     mapped [] = refl
     mapped (x ∷ xs) =
-        ap (map key_of) (reverse-append (x ∷ []) xs) ∙ map-append key_of (reverse xs) (x ∷ []) ∙ ap (λ (keys : List Key). keys ++ key_of x ∷ []) (mapped xs) ∙ sym (reverse-append (key_of x ∷ []) (map key_of xs))
+        ap (map key_of) (reverse-append (x ∷ []) xs) ∙ map-append key_of (reverse xs) (x ∷ []) ∙ ap (λ (keys : List Key). keys ++ key_of x ∷ []) (mapped xs)
+        ∙ sym (reverse-append (key_of x ∷ []) (map key_of xs))
 
 rows_numbered : (answers : List KeptAnswer) → key_rows (map key_of answers) ≡ use_rows answers (ticks_from (length answers))
 rows_numbered [] = refl
@@ -145,7 +151,8 @@ rows_numbered (answer ∷ answers) = ap₂ (λ (count : ℕ) (rows : List UseRow
 pub uses_numbered : (answers : List KeptAnswer) (keys : List Key) → keys ≡ map key_of (reverse answers) → AreUsesOf (length answers + 1) (key_rows (reverse keys)) answers
 uses_numbered answers keys are =
     let next : suc (length answers) ≡ length answers + 1 = omega arith in
-    subst₂ (λ (n : ℕ) (rows : List UseRow). AreUsesOf n rows answers) next (sym (ap (λ (l : List Key). key_rows (reverse l)) are ∙ ap key_rows (turned answers) ∙ rows_numbered answers)) (uses_renumbered answers)
+    subst₂ (λ (n : ℕ) (rows : List UseRow). AreUsesOf n rows answers) next (sym (ap (λ (l : List Key). key_rows (reverse l)) are ∙ ap key_rows (turned answers) ∙ rows_numbered answers))
+    (uses_renumbered answers)
 
 -- ---- all forgotten
 
@@ -162,26 +169,31 @@ own_front : (xs ys : List KeptAnswer) → HaveOwnKeys (xs ++ ys) → HaveOwnKeys
 own_front [] ys own = tt
 own_front (x ∷ xs) ys own = (all_front (λ other. have_one_key x other ≡ false) xs ys own.0, own_front xs ys own.1)
 
-dropped : (front rest : List KeptAnswer) (next : ℕ) (rows : List UseRow) → HaveOwnKeys (front ++ reverse rest) → TellTheirKeys (front ++ reverse rest) rest → AreUsesOf next rows (front ++ reverse rest)
+dropped : (front rest : List KeptAnswer) (next : ℕ) (rows : List UseRow) → HaveOwnKeys (front ++ reverse rest) → TellTheirKeys (front ++ reverse rest) rest
+    → AreUsesOf next rows (front ++ reverse rest)
     → AreUsesOf next (without_uses_of (map key_of rest) rows) front
 dropped front [] next rows own tells it = subst (AreUsesOf next rows) (append-nil front) it
 dropped front (last ∷ rest) next rows own tells it =
     let others = front ++ reverse rest in
-    let parted : front ++ reverse (last ∷ rest) ≡ others ++ last ∷ [] = ap (λ (l : List KeptAnswer). front ++ l) (reverse-append (last ∷ []) rest) ∙ sym (append_assoc front (reverse rest) (last ∷ [])) in
+    let parted : front ++ reverse (last ∷ rest) ≡ others ++ last ∷ [] =
+    ap (λ (l : List KeptAnswer). front ++ l) (reverse-append (last ∷ []) rest) ∙ sym (append_assoc front (reverse rest) (last ∷ [])) in
     let apart = subst HaveOwnKeys parted own in
     let told = subst (λ (l : List KeptAnswer). TellTheirKeys l (last ∷ rest)) parted tells in
     let gone = uses_without last next rows (others ++ last ∷ []) told.0 (subst (AreUsesOf next rows) parted it) in
     let left = without_use (key_of last).0 (key_of last).1 rows in
     dropped front rest next left (own_front others (last ∷ []) apart)
-    (all_weaker (λ (x : KeptAnswer). AllByRecursion (TellsKey x) (others ++ last ∷ [])) (λ (x : KeptAnswer). AllByRecursion (TellsKey x) others) rest (λ x all. all_front (TellsKey x) others (last ∷ []) all) told.1)
+    (all_weaker (λ (x : KeptAnswer). AllByRecursion (TellsKey x) (others ++ last ∷ [])) (λ (x : KeptAnswer). AllByRecursion (TellsKey x) others) rest
+    (λ x all. all_front (TellsKey x) others (last ∷ []) all) told.1)
     (subst (AreUsesOf next left) (without_last others last apart) gone)
 
-pub uses_dropped : (front back : List KeptAnswer) (keys : List Key) (next : ℕ) (rows : List UseRow) → keys ≡ map key_of (reverse back) → HaveOwnKeys (front ++ back) → TellTheirKeys (front ++ back) back → AreUsesOf next rows (front ++ back)
+pub uses_dropped : (front back : List KeptAnswer) (keys : List Key) (next : ℕ) (rows : List UseRow) → keys ≡ map key_of (reverse back) → HaveOwnKeys (front ++ back)
+    → TellTheirKeys (front ++ back) back → AreUsesOf next rows (front ++ back)
     → AreUsesOf next (without_uses_of keys rows) front
 uses_dropped front back keys next rows are own tells it =
     let whole : front ++ back ≡ front ++ reverse (reverse back) = ap (λ (l : List KeptAnswer). front ++ l) (sym (reverse-reverse back)) in
     let P = λ (answer : KeptAnswer). AllByRecursion (TellsKey answer) (front ++ back) in
-    let told : TellTheirKeys (front ++ back) (reverse back) = recursion_from_All P (reverse back) (All-permutation P back (reverse back) (IsPermutation-reverse back) (All-from_recursion P back tells)) in
+    let told : TellTheirKeys (front ++ back) (reverse back) =
+    recursion_from_All P (reverse back) (All-permutation P back (reverse back) (IsPermutation-reverse back) (All-from_recursion P back tells)) in
     subst (λ (l : List Key). AreUsesOf next (without_uses_of l rows) front) (sym are)
     (dropped front (reverse back) next rows (subst HaveOwnKeys whole own) (subst (λ (l : List KeptAnswer). TellTheirKeys l (reverse back)) whole told) (subst (AreUsesOf next rows) whole it))
 
@@ -207,7 +219,9 @@ uses_in_place answer last front next rows first place it =
     filter_all (λ (other : KeptAnswer). not (have_one_key other answer)) all
     (all_weaker (λ (other : KeptAnswer). have_one_key other answer ≡ false) (λ (other : KeptAnswer). not (have_one_key other answer) ≡ true) all (λ other no. ap not no) place.absent) in
     let brought = subst (λ (l : List KeptAnswer). AreUsesOf (next + 1) put (answer ∷ l)) stay (uses_brought answer next rows all first place.tells it) in
-    let apart : HaveOwnKeys (answer ∷ all) =
-    (all_weaker (λ (other : KeptAnswer). have_one_key other answer ≡ false) (λ (other : KeptAnswer). have_one_key answer other ≡ false) all (λ other no. other_key_back other answer no) place.absent, place.own) in
+    let apart : HaveOwnKeys (answer ∷ all) = (
+      all_weaker (λ (other : KeptAnswer). have_one_key other answer ≡ false) (λ (other : KeptAnswer). have_one_key answer other ≡ false) all (λ other no. other_key_back other answer no) place.absent,
+      place.own,
+    ) in
     let gone = uses_without last (next + 1) put (answer ∷ all) (tells_back answer last (last_of (TellsKey answer) front last place.tells), place.last_tells) brought in
     subst (AreUsesOf (next + 1) (without_use (key_of last).0 (key_of last).1 put)) (without_last (answer ∷ front) last apart) gone

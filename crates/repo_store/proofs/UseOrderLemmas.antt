@@ -19,7 +19,8 @@ is_later row other = is_lt (int_cmp other.tick row.tick)
 rows_below : (high : ℕ) (answers : List KeptAnswer) (ticks : List ℕ) → FallBelow high ticks → AllByRecursion (λ (row : UseRow). is_lt (int_cmp row.tick (pos high)) ≡ true) (use_rows answers ticks)
 rows_below high [] ticks fall = tt
 rows_below high (answer ∷ answers) [] fall = tt
-rows_below high (answer ∷ answers) (tick ∷ ticks) fall = let below = fall.1.0 in (ap is_lt (pos_less tick high below), rows_below high answers ticks (fall_higher tick high ticks (omega arith) fall.1.1))
+rows_below high (answer ∷ answers) (tick ∷ ticks) fall = let below =
+    fall.1.0 in (ap is_lt (pos_less tick high below), rows_below high answers ticks (fall_higher tick high ticks (omega arith) fall.1.1))
 
 rows_fall : (high : ℕ) (answers : List KeptAnswer) (ticks : List ℕ) → FallBelow high ticks → IsAscending (λ row other. is_later row other ≡ true) (use_rows answers ticks)
 rows_fall high [] ticks fall = tt
@@ -35,5 +36,7 @@ keys_shown (answer ∷ answers) (tick ∷ ticks) same = ap (λ (keys : List Key)
 pub one_list : (next other : ℕ) (rows : List UseRow) (xs ys : List KeptAnswer) → AreUsesOf next rows xs → AreUsesOf other rows ys → map key_of xs ≡ map key_of ys
 one_list next other rows xs ys one two =
     let same = IsPermutation-trans (use_rows xs one.ticks) rows (use_rows ys two.ticks) (IsPermutation-sym rows (use_rows xs one.ticks) one.rows_are) two.rows_are in
-    let order = one_order is_later (λ row later. numbers_apart later.tick row.tick) (use_rows xs one.ticks) (use_rows ys two.ticks) (rows_fall next xs one.ticks one.fall) (rows_fall other ys two.ticks two.fall) same in
+    let order =
+    one_order is_later (λ row later. numbers_apart later.tick row.tick) (use_rows xs one.ticks) (use_rows ys two.ticks) (rows_fall next xs one.ticks one.fall)
+    (rows_fall other ys two.ticks two.fall) same in
     sym (keys_shown xs one.ticks one.as_many) ∙ ap (map (λ (row : UseRow). (row.words, row.seen))) order ∙ keys_shown ys two.ticks two.as_many

@@ -40,7 +40,8 @@ last_numbered keys i key tick within is tick_is =
 
 pub numbers_more : {S : Type 0} (g : Ghosts S) (old mid new : Held S) (keys : List Key) (i : ℕ) (key : Key) (tick : ℕ) → i < length keys → key ≡ get_or keys i key → tick ≡ i + 1
     → Numbers g old mid (take i keys)
-    → ((t : Tables) (rows : List UseRow) → IsMade {A = Unit {0}} g mid new (Ok tt) (λ db. HoldsRows db t rows) (λ db. HoldsRows db t (with_use (record { words = key.0; seen = key.1; tick = pos tick }) rows)))
+    → ((t : Tables) (rows : List UseRow) → IsMade {A = Unit {0}} g mid new (Ok tt) (λ db. HoldsRows db t rows)
+    (λ db. HoldsRows db t (with_use (record { words = key.0; seen = key.1; tick = pos tick }) rows)))
     → Numbers g old new (take (i + 1) keys)
 numbers_more g old mid new keys i key tick within is tick_is one two t =
     let before = key_rows (reverse (take i keys)) in
@@ -73,7 +74,8 @@ drops_more g old mid new keys i key within is one two t rows =
     let more = one_more keys i key within is in
     subst₂ (λ (v : Tables) (l : List UseRow). IsMade {A = Unit {0}} g old new (Ok tt) (λ db. HoldsRows db t rows) (λ db. HoldsRows db v l))
     (last_out front key t ∙ ap (λ (l : List Key). without_all l t) (sym more)) (last_use_out front key rows ∙ ap (λ (l : List Key). without_uses_of l rows) (sym more))
-    (made_then g old mid new (Ok tt) (λ db. HoldsRows db t rows) (λ db. HoldsRows db u left) (λ db. HoldsRows db (without_answer key.0 key.1 u) (without_use key.0 key.1 left)) (one t rows) (two u left))
+    (made_then g old mid new (Ok tt) (λ db. HoldsRows db t rows) (λ db. HoldsRows db u left) (λ db. HoldsRows db (without_answer key.0 key.1 u) (without_use key.0 key.1 left)) (one t rows)
+    (two u left))
 
 pub drops_all : {S : Type 0} (g : Ghosts S) (old new : Held S) (keys : List Key) (i : ℕ) → length keys ≤ i → Drops g old new (take i keys) → Drops g old new keys
 drops_all g old new keys i over = subst (Drops g old new) (take_all i keys over)

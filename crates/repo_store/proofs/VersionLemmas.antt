@@ -16,7 +16,7 @@ use Rattle.repo_store.specs.Answers.{HaveOwnKeys, KeptAnswer}
 use Rattle.repo_store.specs.Bounded.{AreBoundedRows, AreVersionRows, key_cmp, key_of_answer, key_of_use}
 use Rattle.repo_store.specs.Complete.{HasRecords, IsComplete}
 use Rattle.store_faults.specs.Faults.{IsDamage}
-use Rattle.repo_store.specs.FromRows.{AreRefused, AreRowsWithin, AreUsesFor, IsKeyBelow, IsSame, rows_in, tables_with}
+use Rattle.repo_store.specs.FromRows.{AreRowsRefused, AreRowsWithin, AreUsesFor, IsKeyBelow, IsSame, tables_of_rows, tables_with}
 use Rattle.repo_store.specs.Index.{Key, key_of}
 use Rattle.repo_store.specs.Kept.{Kept, Mirror, limiting}
 use Rattle.store_faults.specs.Limits.{IsLimit}
@@ -44,7 +44,8 @@ module _ (rows : List AnswerRow) (answers : List KeptAnswer) (order : map answer
   keys_as_rows : IsPermutation (map key_of_answer rows) (map key_of answers)
   keys_as_rows = subst (IsPermutation (map key_of_answer rows)) (keys_mapped answers) (IsPermutation-map key_of_answer rows (map answer_row answers) same_rows)
 
-pub uses_for : (limit : ℕ) (rows : StoreRows) (uses : List UseRow) (answers : List KeptAnswer) → map answer_row answers ≡ reverse rows.answers.items → AreRowsWithin limit rows uses → AreUsesFor uses answers
+pub uses_for : (limit : ℕ) (rows : StoreRows) (uses : List UseRow) (answers : List KeptAnswer) → map answer_row answers ≡ reverse rows.answers.items → AreRowsWithin limit rows uses
+    → AreUsesFor uses answers
 uses_for limit rows uses answers order it = record {
   keys = IsPermutation-trans (map key_of_use uses) (map key_of_answer rows.answers.items) (map key_of answers) it.keys (keys_as_rows rows.answers.items answers order);
   ticks = it.ticks;
@@ -62,7 +63,9 @@ same_moved t meta old answers new is same moved =
       fixes = same.fixes;
       commits = same.commits;
       entries = same.entries;
-      answers = IsPermutation-trans t.answers (map answer_row old.answers) (map answer_row answers) same.answers (IsPermutation-map answer_row old.answers answers (IsPermutation-sym answers old.answers moved));
+      answers =
+          IsPermutation-trans t.answers (map answer_row old.answers) (map answer_row answers) same.answers
+          (IsPermutation-map answer_row old.answers answers (IsPermutation-sym answers old.answers moved));
     })
 
 pub complete_moved : (old : Kept) (limit : ℕ) (answers : List KeptAnswer) (new : Kept) → new ≡ record old { answers = answers } → old.limit ≡ limit → length old.answers ≤ limit
@@ -88,18 +91,21 @@ complete_moved old limit answers new is limit_is few it moved keys =
 
 -- ---- version 2
 
-same_meta_as : (rows : StoreRows) (meta other : List MetaRow) (kept : Kept) → IsPermutation meta other → IsSame (rows_in meta rows) (tables_with meta kept) → IsSame (rows_in meta rows) (tables_with other kept)
+same_meta_as : (rows : StoreRows) (meta other : List MetaRow) (kept : Kept) → IsPermutation meta other → IsSame (tables_of_rows meta rows) (tables_with meta kept)
+    → IsSame (tables_of_rows meta rows) (tables_with other kept)
 same_meta_as rows meta other kept moved same =
     record { meta = moved; blobs = same.blobs; staged = same.staged; fixes = same.fixes; commits = same.commits; entries = same.entries; answers = same.answers }
 
 module _ (rows : StoreRows) (meta : List MetaRow) (limit : ℕ) (limited : IsPermutation meta (version_row ∷ limit_row (pos limit) ∷ [])) where
-  pub second_same : (r : Result Mirror StoreFault) → IfOk r (λ lists. (meta : List MetaRow) → IsSame (rows_in meta rows) (tables_with meta lists.kept)) → IfOk r (λ lists. lists.kept.limit ≡ limit)
-      → IfOk r (λ lists. IsSame (rows_in meta rows) (tables_of lists.kept))
+  pub second_same : (r : Result Mirror StoreFault) → IfOk r (λ lists. (meta : List MetaRow) → IsSame (tables_of_rows meta rows) (tables_with meta lists.kept))
+      → IfOk r (λ lists. lists.kept.limit ≡ limit)
+      → IfOk r (λ lists. IsSame (tables_of_rows meta rows) (tables_of lists.kept))
   second_same (Ok lists) same is =
-      same_meta_as rows meta (version_row ∷ limit_row (pos lists.kept.limit) ∷ []) lists.kept (subst (λ (n : ℕ). IsPermutation meta (version_row ∷ limit_row (pos n) ∷ [])) (sym is) limited) (same meta)
+      same_meta_as rows meta (version_row ∷ limit_row (pos lists.kept.limit) ∷ []) lists.kept (subst (λ (n : ℕ). IsPermutation meta (version_row ∷ limit_row (pos n) ∷ [])) (sym is) limited)
+      (same meta)
   second_same (Err fault) same is = same
 
-  rows_within : (uses : List UseRow) → AreBoundedRows (rows_in meta rows) uses → AreRowsWithin limit rows uses
+  rows_within : (uses : List UseRow) → AreBoundedRows (tables_of_rows meta rows) uses → AreRowsWithin limit rows uses
   rows_within uses it = record {
     store = bare_rules it.store;
     few = subst (λ (n : ℕ). length rows.answers.items ≤ n) (one_limit meta it.limit limit it.limited limited) it.few;
@@ -107,15 +113,15 @@ module _ (rows : StoreRows) (meta : List MetaRow) (limit : ℕ) (limited : IsPer
     ticks = it.ticks;
   }
     where
-      bare_rules : AreStoreRows (rows_in meta rows) → AreStoreRows (rows_in [] rows)
+      bare_rules : AreStoreRows (tables_of_rows meta rows) → AreStoreRows (tables_of_rows [] rows)
       bare_rules h = record { blobs = h.blobs; staged = h.staged; fixes = h.fixes; commits = h.commits; entries = h.entries; answers = h.answers }
 
   pub second_refused : (uses : List UseRow) (r : Result Mirror StoreFault) → AreVersionRows meta → IfErr r (IsDamage (¬ AreRowsWithin limit rows uses))
-      → IfErr r (AreRefused (AreVersionRows meta) (AreBoundedRows (rows_in meta rows) uses))
+      → IfErr r (AreRowsRefused (AreVersionRows meta) (AreBoundedRows (tables_of_rows meta rows) uses))
   second_refused uses (Ok lists) versioned broken = broken
   second_refused uses (Err fault) versioned broken = go fault broken
     where
-      go : (fault : StoreFault) → IsDamage (¬ AreRowsWithin limit rows uses) fault → AreRefused (AreVersionRows meta) (AreBoundedRows (rows_in meta rows) uses) fault
+      go : (fault : StoreFault) → IsDamage (¬ AreRowsWithin limit rows uses) fault → AreRowsRefused (AreVersionRows meta) (AreBoundedRows (tables_of_rows meta rows) uses) fault
       go NotAStore h = absurd h
       go Damaged h = (versioned, λ it. h (rows_within uses it))
       go (Sql error) h = tt
@@ -124,23 +130,26 @@ module _ (rows : StoreRows) (meta : List MetaRow) (limit : ℕ) (limited : IsPer
       go TooLarge h = h
       go TooMany h = h
 
-pub rules_at : (rows : StoreRows) (meta : List MetaRow) (r : Result Mirror StoreFault) → OnOk r ((meta : List MetaRow) → AreStoreRows (rows_in meta rows)) → OnOk r (AreStoreRows (rows_in meta rows))
+pub rules_at : (rows : StoreRows) (meta : List MetaRow) (r : Result Mirror StoreFault) → OnOk r ((meta : List MetaRow) → AreStoreRows (tables_of_rows meta rows))
+    → OnOk r (AreStoreRows (tables_of_rows meta rows))
 rules_at rows meta (Ok lists) obeys = obeys meta
 rules_at rows meta (Err fault) obeys = obeys
 
 -- ---- version 1
 
 module _ (rows : StoreRows) (meta : List MetaRow) (versioned : AreFirstVersionRows meta) where
-  pub first_same : (r : Result Mirror StoreFault) → IfOk r (λ lists. (meta : List MetaRow) → IsSame (rows_in meta rows) (tables_with meta lists.kept))
-      → IfOk r (λ lists. IsSame (rows_in meta rows) (first_tables_of lists.kept))
+  pub first_same : (r : Result Mirror StoreFault) → IfOk r (λ lists. (meta : List MetaRow) → IsSame (tables_of_rows meta rows) (tables_with meta lists.kept))
+      → IfOk r (λ lists. IsSame (tables_of_rows meta rows) (first_tables_of lists.kept))
   first_same (Ok lists) same = same_meta_as rows meta (first_version_row ∷ []) lists.kept versioned (same meta)
   first_same (Err fault) same = same
 
-  pub first_refused : (r : Result Mirror StoreFault) → IfErr r (IsDamage ((meta : List MetaRow) → ¬ AreStoreRows (rows_in meta rows))) → IfErr r (AreRefused (AreFirstVersionRows meta) (AreStoreRows (rows_in meta rows)))
+  pub first_refused : (r : Result Mirror StoreFault) → IfErr r (IsDamage ((meta : List MetaRow) → ¬ AreStoreRows (tables_of_rows meta rows)))
+      → IfErr r (AreRowsRefused (AreFirstVersionRows meta) (AreStoreRows (tables_of_rows meta rows)))
   first_refused (Ok lists) broken = broken
   first_refused (Err fault) broken = go fault broken
     where
-      go : (fault : StoreFault) → IsDamage ((meta : List MetaRow) → ¬ AreStoreRows (rows_in meta rows)) fault → AreRefused (AreFirstVersionRows meta) (AreStoreRows (rows_in meta rows)) fault
+      go : (fault : StoreFault) → IsDamage ((meta : List MetaRow) → ¬ AreStoreRows (tables_of_rows meta rows)) fault
+          → AreRowsRefused (AreFirstVersionRows meta) (AreStoreRows (tables_of_rows meta rows)) fault
       go NotAStore h = absurd h
       go Damaged h = (versioned, h meta)
       go (Sql error) h = tt

@@ -45,7 +45,8 @@ files_with_fix (fix ∷ fixes) files = file_at fix.path (entry_of fix.path files
 -- both have the same entry at the path of each fix
 abbrev pub HaveSameFixed : List Change → List File → List File → Type 0
 HaveSameFixed [] files others = Unit {0}
-HaveSameFixed (fix ∷ fixes) files others = (entry_of fix.path files ≡ entry_of fix.path others) × HaveSameFixed fixes files others
+HaveSameFixed (fix ∷ fixes) files others =
+    (entry_of fix.path files ≡ entry_of fix.path others) × HaveSameFixed fixes files others
 
 -- ---- what is made before the tables change
 
@@ -55,6 +56,6 @@ accepted_files (All files) = files.items
 
 -- at the paths of the fixes these are the staged files with the fixes applied; for `All` they are so
 -- everywhere
-abbrev pub IsAccepted : List Change → List File → Accepted → Type 0
-IsAccepted fixes staged (Few files) = HaveSameFixed fixes (map file_of files.items) (apply_changes fixes staged)
-IsAccepted fixes staged (All files) = map file_of files.items ≡ apply_changes fixes staged
+abbrev pub HasAcceptedFiles : List Change → List File → Accepted → Type 0
+HasAcceptedFiles fixes staged (Few files) = HaveSameFixed fixes (map file_of files.items) (apply_changes fixes staged)
+HasAcceptedFiles fixes staged (All files) = map file_of files.items ≡ apply_changes fixes staged

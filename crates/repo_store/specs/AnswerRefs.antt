@@ -7,7 +7,15 @@ use Rattle.repo_store.specs.Answers.{KeptAnswer}
 
 -- the answer with these words and these seen files
 abbrev pub copied_answer : List (List ℕ) → List File → AnswerRef → KeptAnswer
-copied_answer words seen answer = record { words = words; seen = seen; output = answer.output.now; changes = answer.changes.now; status = answer.status }
+copied_answer words seen answer =
+    record {
+      words = words;
+      seen = seen;
+      output = answer.output.now;
+      changes = answer.changes.now;
+      status =
+          answer.status;
+    }
 
 -- what is returned of an answer: all but its key
 abbrev pub stored_answer : KeptAnswer → StoredAnswer

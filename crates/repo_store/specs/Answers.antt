@@ -36,11 +36,17 @@ HaveOwnKeys = IsAscending (λ a b. have_one_key a b ≡ false)
 -- the answer that is cached for the words and the seen files
 abbrev pub answer_for : List (List ℕ) → List File → List KeptAnswer → Option KeptAnswer
 answer_for words seen [] = None
-answer_for words seen (answer ∷ answers) = if is_for words seen answer then Some answer else answer_for words seen answers
+answer_for words seen (answer ∷ answers) =
+    if is_for words seen answer then Some answer else answer_for words seen answers
 
 -- ---- its code, made of those of its parts
 
 abbrev pub answer_code : Coded KeptAnswer
 answer_code =
-    code_by (List (List ℕ) × (List File × (List ℕ × (List Change × ℕ)))) (coded× (coded_list (coded_list coded_ℕ)) (coded× (coded_list file.the_row.coded) (coded× (coded_list coded_ℕ) (coded× (coded_list change.the_row.coded) coded_ℕ))))
-    (λ a. (a.words, (a.seen, (a.output, (a.changes, a.status))))) (λ p. record { words = p.0; seen = p.1.0; output = p.1.1.0; changes = p.1.1.1.0; status = p.1.1.1.1 }) (λ _. refl)
+    code_by (List (List ℕ) × (List File × (List ℕ × (List Change × ℕ))))
+    (coded× (coded_list (coded_list coded_ℕ))
+    (coded× (coded_list file.the_row.coded)
+    (coded× (coded_list coded_ℕ) (coded× (coded_list change.the_row.coded) coded_ℕ))))
+    (λ a. (a.words, (a.seen, (a.output, (a.changes, a.status)))))
+    (λ p. record { words = p.0; seen = p.1.0; output = p.1.1.0; changes = p.1.1.1.0; status = p.1.1.1.1 })
+    (λ _. refl)

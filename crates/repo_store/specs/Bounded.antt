@@ -11,7 +11,7 @@ use Rattle.hook_base.specs.Rising.{path_cmp}
 use Rattle.store_tables.specs.declared.rows.AnswerRow.{AnswerRow}
 use Rattle.store_tables.specs.declared.rows.MetaRow.{MetaRow}
 use Rattle.store_tables.specs.declared.rows.UseRow.{UseRow}
-use Rattle.store_tables.specs.Tables.{Tables, Holds}
+use Rattle.store_tables.specs.Tables.{Tables, HoldsTables}
 use Rattle.store_tables.specs.Uses.{HoldsRows}
 use Rattle.repo_store.specs.Answers.{KeptAnswer}
 use Rattle.repo_store.specs.Index.{Key, key_of}
@@ -45,7 +45,8 @@ pub record HoldsStore (db : Database) (kept : Kept) : Type 0 where
 -- The rows of `meta`, in any order, say that the store is of version 2, and nothing else except perhaps its
 -- limit.
 abbrev pub AreVersionRows : List MetaRow → Type 0
-AreVersionRows rows = IsPermutation rows (version_row ∷ []) ⊎ ((limit : ℤ) × IsPermutation rows (version_row ∷ limit_row limit ∷ []))
+AreVersionRows rows =
+    IsPermutation rows (version_row ∷ []) ⊎ ((limit : ℤ) × IsPermutation rows (version_row ∷ limit_row limit ∷ []))
 
 pub record IsTick (number : ℤ) : Type 0 where
   pub tick : ℕ
@@ -88,7 +89,7 @@ pub record IsMigrated (answers migrated : List KeptAnswer) : Type 0 where
 -- The database is a store of version 1, and migrating it makes one that keeps this.
 pub record IsTakenOver (db : Database) (kept : Kept) : Type 0 where
   pub first : Kept
-  pub holds : Holds db (first_tables_of first)
+  pub holds : HoldsTables db (first_tables_of first)
   pub obeys : AreStoreRows (first_tables_of first)
   pub repo : kept.repo ≡ first.repo
   pub contents : kept.contents ≡ first.contents

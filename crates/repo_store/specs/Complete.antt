@@ -22,7 +22,8 @@ HaveContents contents files = AllByRecursion (λ (file : File). IsAmong contents
 
 -- the new bytes of each change are among the contents
 abbrev pub HaveNewContents : List (List ℕ) → List Change → Type 0
-HaveNewContents contents changes = AllByRecursion (λ (change : Change). MatchOption change.now (Unit {0}) (IsAmong contents)) changes
+HaveNewContents contents changes =
+    AllByRecursion (λ (change : Change). MatchOption change.now (Unit {0}) (IsAmong contents)) changes
 
 -- the records of an answer, its output, and the bytes of each file that its child saw or changed are among
 -- the contents
@@ -39,7 +40,9 @@ HaveRecords contents answers = AllByRecursion (HasRecords contents) answers
 
 -- no two of the contents have the same digest
 abbrev pub HaveDistinctDigests : List (List ℕ) → Type 0
-HaveDistinctDigests contents = (i j : ℕ) → i < length contents → j < length contents → sha256 (slice_index_or contents i []) ≡ sha256 (slice_index_or contents j []) → i ≡ j
+HaveDistinctDigests contents =
+    (i j : ℕ) → i < length contents → j < length contents
+    → sha256 (slice_index_or contents i []) ≡ sha256 (slice_index_or contents j []) → i ≡ j
 
 -- The repository and each answer are sound. The contents of each file, of each fix and of each answer are
 -- kept, under digests of which no two are equal. No two answers have the same key, and there are no more of

@@ -23,9 +23,9 @@ use Rattle.store_faults.specs.Limits.{Fits, IsSmall}
 use Rattle.repo_store.specs.RowRules.{IsPathText}
 
 -- the fault for a fault of a path: lack of memory is the store's
-abbrev pub of_path : PathFault → StagingFault
-of_path path.OutOfMemory = Store OutOfMemory
-of_path fault = BadPath fault
+abbrev pub staging_fault_of_path : PathFault → StagingFault
+staging_fault_of_path path.OutOfMemory = Store OutOfMemory
+staging_fault_of_path fault = BadPath fault
 
 -- the requested mode, otherwise that of the staged file at the path, otherwise plain
 abbrev pub mode_to_stage : Option Mode → Option FileEntry → Mode
@@ -83,11 +83,14 @@ abbrev pub IsAddFault : List ℕ → List ℕ → Option Mode → Kept → Stagi
 IsAddFault path bytes asked kept (BadPath fault) = path_fault path ≡ Some fault
 IsAddFault path bytes asked kept NotStaged = ⊥
 IsAddFault path bytes asked kept Clash = (path_fault path ≡ None) × IsSmall bytes × Clashes path kept.repo.staged
-IsAddFault path bytes asked kept (Store (Sql error)) = (path_fault path ≡ None) × IsSmall bytes × (¬ Clashes path kept.repo.staged)
+IsAddFault path bytes asked kept (Store (Sql error)) =
+    (path_fault path ≡ None) × IsSmall bytes × (¬ Clashes path kept.repo.staged)
 IsAddFault path bytes asked kept (Store fault) =
     (path_fault path ≡ None)
-    × IsRefusal (¬ IsSmall bytes) (IsSmall bytes × (¬ Clashes path kept.repo.staged) × (¬ Fits (tree_to_stage path bytes asked kept.repo.staged)))
-    (IsSmall bytes × (¬ Clashes path kept.repo.staged) × Fits (tree_to_stage path bytes asked kept.repo.staged) × Collides bytes kept.contents) fault
+    × IsRefusal (¬ IsSmall bytes) (IsSmall bytes × (¬ Clashes path kept.repo.staged)
+    × (¬ Fits (tree_to_stage path bytes asked kept.repo.staged)))
+    (IsSmall bytes × (¬ Clashes path kept.repo.staged) × Fits (tree_to_stage path bytes asked kept.repo.staged)
+    × Collides bytes kept.contents) fault
 
 -- why a path isn't removed, in this order: it is no valid path, it isn't staged
 abbrev pub IsRemoveFault : List ℕ → Kept → StagingFault → Type 0

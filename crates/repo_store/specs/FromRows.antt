@@ -26,8 +26,8 @@ use Rattle.store_faults.specs.Limits.{IsLimit}
 use Rattle.repo_store.specs.RowRules.{AreStoreRows}
 
 -- the tables of a store with these rows and these of `meta`
-abbrev pub rows_in : List MetaRow → StoreRows → Tables
-rows_in meta rows = record {
+abbrev pub tables_of_rows : List MetaRow → StoreRows → Tables
+tables_of_rows meta rows = record {
   meta = meta;
   blobs = rows.blobs.items;
   staged = rows.staged.items;
@@ -130,18 +130,18 @@ FollowsKey (Some last) row = IsKeyBelow last row
 
 -- The rows, except those of `meta`, are those of a store with this limit.
 pub record AreRowsWithin (limit : ℕ) (rows : StoreRows) (uses : List UseRow) : Type 0 where
-  pub store : AreStoreRows (rows_in [] rows)
+  pub store : AreStoreRows (tables_of_rows [] rows)
   pub few : length rows.answers.items ≤ limit
   pub keys : IsPermutation (map key_of_use uses) (map key_of_answer rows.answers.items)
   pub ticks : AllByRecursion (λ (row : UseRow). IsTick row.tick) uses
 
 -- A refusal of rows. It is `NotAStore` only if they aren't of the version, and `Damaged` only if they are and
 -- break a rule. Nothing is said about when memory or the database refuses.
-abbrev pub AreRefused : Type 0 → Type 0 → StoreFault → Type 0
-AreRefused versioned obeys NotAStore = ¬ versioned
-AreRefused versioned obeys Damaged = versioned × (¬ obeys)
-AreRefused versioned obeys (Sql error) = Unit {0}
-AreRefused versioned obeys OutOfMemory = Unit {0}
-AreRefused versioned obeys Collision = ⊥
-AreRefused versioned obeys TooLarge = ⊥
-AreRefused versioned obeys TooMany = ⊥
+abbrev pub AreRowsRefused : Type 0 → Type 0 → StoreFault → Type 0
+AreRowsRefused versioned obeys NotAStore = ¬ versioned
+AreRowsRefused versioned obeys Damaged = versioned × (¬ obeys)
+AreRowsRefused versioned obeys (Sql error) = Unit {0}
+AreRowsRefused versioned obeys OutOfMemory = Unit {0}
+AreRowsRefused versioned obeys Collision = ⊥
+AreRowsRefused versioned obeys TooLarge = ⊥
+AreRowsRefused versioned obeys TooMany = ⊥

@@ -8,7 +8,8 @@ use Rattle.repo_store.specs.Answers.{KeptAnswer}
 use Rattle.repo_store.specs.WrittenAnswers.{written_seen, written_words}
 
 -- The map gives the index of each by its key, and no other index.
-pub record IsIndexedBy {X K S : Type 0} (same : K → K → Bool) (key : X → K) (blank : X) (places : HashMap K ℕ S) (xs : List X) : Type 0 where
+pub record IsIndexedBy {X K S : Type 0} (same : K → K → Bool) (key : X → K) (blank : X) (places : HashMap K ℕ S)
+    (xs : List X) : Type 0 where
   pub listed : (k : ℕ) → k < length xs → get same places (key (slice_index_or xs k blank)) ≡ Some k
   pub found : (q : K) (k : ℕ) → get same places q ≡ Some k → (k < length xs) × (key (slice_index_or xs k blank) ≡ q)
 

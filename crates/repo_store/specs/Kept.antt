@@ -11,7 +11,7 @@ use Rattle.repo_store.specs.Answers.{KeptAnswer, answer_code}
 use Rattle.repo_store.specs.Contents.{with_content, with_changes, Collides}
 use Rattle.store_faults.specs.Limits.{IsSmall, first_limit}
 use Rattle.repo_store.specs.UsedAnswers.{used, within_limit}
-use Rattle.repo_store.specs.Repository.{Commit, Repository, empty, with_staged, without_staged, with_new_commit, accepted, with_fixes, staged_changes}
+use Rattle.repo_store.specs.Repository.{Commit, Repository, empty, with_staged_file, without_staged_file, with_new_commit, accepted, with_fixes, staged_changes}
 
 pub record Kept : Type 0 where
   pub repo : Repository
@@ -30,11 +30,12 @@ nothing_kept = record { repo = empty; contents = []; answers = []; limit = first
 
 -- a file is staged
 abbrev pub staging : List ℕ → FileEntry → Kept → Kept
-staging path entry kept = record kept { repo = with_staged path entry kept.repo; contents = with_content entry.bytes kept.contents }
+staging path entry kept =
+    record kept { repo = with_staged_file path entry kept.repo; contents = with_content entry.bytes kept.contents }
 
 -- a path is removed from the staged files
 abbrev pub unstaging : List ℕ → Kept → Kept
-unstaging path kept = record kept { repo = without_staged path kept.repo }
+unstaging path kept = record kept { repo = without_staged_file path kept.repo }
 
 -- contents are kept
 abbrev pub keeping : List ℕ → Kept → Kept
@@ -46,7 +47,12 @@ committing message kept = record kept { repo = with_new_commit message kept.repo
 
 -- the fixes are set, and their contents are kept
 abbrev pub setting : List Change → Kept → Kept
-setting changes kept = record kept { repo = with_fixes changes kept.repo; contents = with_changes (staged_changes changes kept.repo.staged) kept.contents }
+setting changes kept =
+    record kept {
+      repo = with_fixes changes kept.repo;
+      contents = with_changes (staged_changes changes kept.repo.staged)
+          kept.contents;
+    }
 
 -- the fixes are accepted
 abbrev pub accepting : Kept → Kept
@@ -79,16 +85,21 @@ pub record FixCollides (fixes : List Change) (contents : List (List ℕ)) : Type
 -- ---- their codes, made of those of their parts
 
 abbrev pub commit_code : Coded Commit
-commit_code = code_by (List ℕ × List File) (coded× (coded_list coded_ℕ) (coded_list file.the_row.coded)) (λ c. (c.message, c.tree)) (λ p. record { message = p.0; tree = p.1 }) (λ _. refl)
+commit_code =
+    code_by (List ℕ × List File) (coded× (coded_list coded_ℕ) (coded_list file.the_row.coded))
+    (λ c. (c.message, c.tree)) (λ p. record { message = p.0; tree = p.1 }) (λ _. refl)
 
 abbrev pub repository_code : Coded Repository
 repository_code =
-    code_by (List Commit × (List File × List Change)) (coded× (coded_list commit_code) (coded× (coded_list file.the_row.coded) (coded_list change.the_row.coded)))
+    code_by (List Commit × (List File × List Change))
+    (coded× (coded_list commit_code) (coded× (coded_list file.the_row.coded) (coded_list change.the_row.coded)))
     (λ r. (r.history, (r.staged, r.fixes))) (λ p. record { history = p.0; staged = p.1.0; fixes = p.1.1 }) (λ _. refl)
 
 abbrev pub kept_code : Coded Kept
 kept_code =
-    code_by (Repository × (List (List ℕ) × (List KeptAnswer × ℕ))) (coded× repository_code (coded× (coded_list (coded_list coded_ℕ)) (coded× (coded_list answer_code) coded_ℕ))) (λ k. (k.repo, (k.contents, (k.answers, k.limit))))
+    code_by (Repository × (List (List ℕ) × (List KeptAnswer × ℕ)))
+    (coded× repository_code (coded× (coded_list (coded_list coded_ℕ)) (coded× (coded_list answer_code) coded_ℕ)))
+    (λ k. (k.repo, (k.contents, (k.answers, k.limit))))
     (λ p. record { repo = p.0; contents = p.1.0; answers = p.1.1.0; limit = p.1.1.1 }) (λ _. refl)
 
 -- What is kept, and whether the lists in memory have room for one more staged file and one more commit.
@@ -99,4 +110,6 @@ pub record Mirror : Type 0 where
   pub next : ℕ
 
 abbrev pub mirror_code : Coded Mirror
-mirror_code = code_by (Kept × (Bool × ℕ)) (coded× kept_code (coded× coded_bool coded_ℕ)) (λ m. (m.kept, (m.has_room, m.next))) (λ p. record { kept = p.0; has_room = p.1.0; next = p.1.1 }) (λ _. refl)
+mirror_code =
+    code_by (Kept × (Bool × ℕ)) (coded× kept_code (coded× coded_bool coded_ℕ)) (λ m. (m.kept, (m.has_room, m.next)))
+    (λ p. record { kept = p.0; has_room = p.1.0; next = p.1.1 }) (λ _. refl)

@@ -17,7 +17,9 @@ pub record ListedAnswers : Type 0 where
   pub next : ℕ
 
 abbrev pub listed_answers_code : Coded ListedAnswers
-listed_answers_code = code_by (List KeptAnswer × (ℕ × ℕ)) (coded× (coded_list answer_code) (coded× coded_ℕ coded_ℕ)) (λ l. (l.answers, (l.limit, l.next))) (λ p. record { answers = p.0; limit = p.1.0; next = p.1.1 }) (λ _. refl)
+listed_answers_code =
+    code_by (List KeptAnswer × (ℕ × ℕ)) (coded× (coded_list answer_code) (coded× coded_ℕ coded_ℕ))
+    (λ l. (l.answers, (l.limit, l.next))) (λ p. record { answers = p.0; limit = p.1.0; next = p.1.1 }) (λ _. refl)
 
 -- a use can get this tick, or no tick is left
 pub record IsNextTick (next : ℕ) : Type 0 where
@@ -39,8 +41,8 @@ abbrev pub of_other_keys : Key → List KeptAnswer → List KeptAnswer
 of_other_keys key answers = filter (λ answer. not (has_key key answer)) answers
 
 -- the answer of the key in front of the others, or all unchanged if there is none
-abbrev pub brought : Key → List KeptAnswer → List KeptAnswer
-brought key answers = option_map_or (λ answer. answer ∷ of_other_keys key answers) (of_key key answers) answers
+abbrev pub brought_answers : Key → List KeptAnswer → List KeptAnswer
+brought_answers key answers = option_map_or (λ answer. answer ∷ of_other_keys key answers) (of_key key answers) answers
 
 abbrev pub first_key : List KeptAnswer → Option Key
 first_key answers = option_map key_of (slice_get answers 0)
@@ -50,16 +52,17 @@ last_key answers = option_map key_of (slice_get answers (length answers - 1))
 
 -- there is an answer with the words and the seen files, and this is its key
 abbrev pub HaveAnswer : List (List ℕ) → List File → List KeptAnswer → Key → Type 0
-HaveAnswer words seen answers key = (answer : KeptAnswer) × ((answer_for words seen answers ≡ Some answer) × (key_of answer ≡ key))
+HaveAnswer words seen answers key =
+    (answer : KeptAnswer) × ((answer_for words seen answers ≡ Some answer) × (key_of answer ≡ key))
 
 -- ---- in memory
 
-abbrev pub entry_of : KeptAnswer → Key × KeptAnswer
-entry_of answer = (key_of answer, answer)
+abbrev pub keyed_answer : KeptAnswer → Key × KeptAnswer
+keyed_answer answer = (key_of answer, answer)
 
 -- the answers, each with its key
 abbrev pub keyed : List KeptAnswer → List (Key × KeptAnswer)
-keyed answers = map entry_of answers
+keyed answers = map keyed_answer answers
 
 -- Each entry has the key of its answer, and the map that holds them has no bound of its own.
 pub record IsListed (entries : List (Key × KeptAnswer)) (cap limit next : ℕ) : Type 0 where

@@ -24,9 +24,11 @@ abbrev pub commit_of : SharedCommit → Commit
 commit_of shared = record { message = shared.message; tree = map file_of shared.files.items }
 
 abbrev pub repository_of : List SharedCommit → List FileParts → List SharedFix → Repository
-repository_of history staged fixes = record { history = map commit_of history; staged = map file_of staged; fixes = map fix_of fixes }
+repository_of history staged fixes =
+    record { history = map commit_of history; staged = map file_of staged; fixes = map fix_of fixes }
 
 -- the lists are those of a sound repository, and the paths of the staged files have this many bytes together
-pub record AreKept (history : List SharedCommit) (staged : List FileParts) (fixes : List SharedFix) (staged_bytes : ℕ) : Type 0 where
+pub record AreKept (history : List SharedCommit) (staged : List FileParts) (fixes : List SharedFix)
+    (staged_bytes : ℕ) : Type 0 where
   pub sound : IsSound (repository_of history staged fixes)
   pub counted : staged_bytes ≡ path_bytes (map file_of staged)

@@ -22,7 +22,12 @@ with_contents (bytes ∷ more) contents = with_contents more (with_content bytes
 -- An answer is cached in front of the others, and its contents are kept. The last answer is removed if there
 -- are more than the limit.
 abbrev pub remembering : KeptAnswer → Kept → Kept
-remembering answer kept = record kept { contents = with_contents (contents_for answer) kept.contents; answers = with_answer_within kept.limit answer kept.answers }
+remembering answer kept =
+    record kept {
+      contents = with_contents (contents_for answer) kept.contents;
+      answers = with_answer_within kept.limit
+          answer kept.answers;
+    }
 
 -- each of these can be contents
 abbrev pub AreSmall : List (List ℕ) → Type 0

@@ -21,12 +21,12 @@ abbrev pub empty : Repository
 empty = record { history = []; staged = []; fixes = [] }
 
 -- a file is staged, and the fixes are forgotten
-abbrev pub with_staged : List ℕ → FileEntry → Repository → Repository
-with_staged path entry repo = record repo { staged = put_file path entry repo.staged; fixes = [] }
+abbrev pub with_staged_file : List ℕ → FileEntry → Repository → Repository
+with_staged_file path entry repo = record repo { staged = put_file path entry repo.staged; fixes = [] }
 
 -- a path is removed from the staged files, and the fixes are forgotten
-abbrev pub without_staged : List ℕ → Repository → Repository
-without_staged path repo = record repo { staged = remove_file path repo.staged; fixes = [] }
+abbrev pub without_staged_file : List ℕ → Repository → Repository
+without_staged_file path repo = record repo { staged = remove_file path repo.staged; fixes = [] }
 
 -- those of the changes that are of staged files
 abbrev pub staged_changes : List Change → List File → List Change
@@ -42,7 +42,8 @@ accepted repo = record repo { staged = apply_changes repo.fixes repo.staged; fix
 
 -- one more commit, of the staged files, and the fixes are forgotten
 abbrev pub with_new_commit : List ℕ → Repository → Repository
-with_new_commit message repo = record repo { history = repo.history ++ record { message = message; tree = repo.staged } ∷ []; fixes = [] }
+with_new_commit message repo =
+    record repo { history = repo.history ++ record { message = message; tree = repo.staged } ∷ []; fixes = [] }
 
 -- the files of the last commit, or no files if there is no commit
 abbrev pub last_tree : List Commit → List File

@@ -98,15 +98,16 @@ HaveKeptContents blobs seen = AllByRecursion (λ (file : SeenFile). is_kept blob
 
 -- the new contents of each file that a child changed and didn't delete are kept
 abbrev pub HaveKeptNewContents : List BlobRow → List ChangedFile → Type 0
-HaveKeptNewContents blobs changed = AllByRecursion (λ (file : ChangedFile). IfSome file.digest (λ digest. is_kept blobs digest ≡ true)) changed
+HaveKeptNewContents blobs changed =
+    AllByRecursion (λ (file : ChangedFile). IfSome file.digest (λ digest. is_kept blobs digest ≡ true)) changed
 
 -- one of the files has the path
-abbrev pub is_seen : List SeenFile → List ℕ → Bool
-is_seen seen path = list_any (λ (file : SeenFile). bytes_eq path file.path) seen
+abbrev pub is_of_seen_file : List SeenFile → List ℕ → Bool
+is_of_seen_file seen path = list_any (λ (file : SeenFile). bytes_eq path file.path) seen
 
 -- each file that a child changed is one that it saw
 abbrev pub AreSeen : List ChangedFile → List SeenFile → Type 0
-AreSeen changed seen = AllByRecursion (λ (file : ChangedFile). is_seen seen file.path ≡ true) changed
+AreSeen changed seen = AllByRecursion (λ (file : ChangedFile). is_of_seen_file seen file.path ≡ true) changed
 
 -- a cached answer
 pub record IsAnswerRow (blobs : List BlobRow) (row : AnswerRow) : Type 0 where
@@ -134,8 +135,8 @@ abbrev pub numbers_from : ℕ → List CommitRow → List ℤ
 numbers_from n [] = []
 numbers_from n (row ∷ rows) = pos n ∷ numbers_from (n + 1) rows
 
-abbrev pub number_in : CommitRow → ℤ
-number_in row = row.n
+abbrev pub commit_number_in : CommitRow → ℤ
+commit_number_in row = row.n
 
 -- the bytes of all paths together
 abbrev pub staged_path_bytes : List StagedRow → ℕ
@@ -150,7 +151,7 @@ pub record AreStagedRows (blobs : List BlobRow) (rows : List StagedRow) : Type 0
 
 pub record AreCommitRows (rows : List CommitRow) : Type 0 where
   -- they are numbered from 1 on
-  pub numbered : IsPermutation (map number_in rows) (numbers_from 1 rows)
+  pub numbered : IsPermutation (map commit_number_in rows) (numbers_from 1 rows)
   pub few : length rows ≤ most_commits
   -- the message of each is within its limit
   pub messages_small : AllByRecursion (λ (row : CommitRow). IsSmall row.message) rows

@@ -37,7 +37,8 @@ abbrev pub blob_row : List ℕ → BlobRow
 blob_row bytes = record { digest = sha256 bytes; bytes = bytes }
 
 abbrev pub staged_row : File → StagedRow
-staged_row file = record { path = file.path; mode = pos (mode_number file.entry.mode); digest = sha256 file.entry.bytes }
+staged_row file =
+    record { path = file.path; mode = pos (mode_number file.entry.mode); digest = sha256 file.entry.bytes }
 
 abbrev pub fix_at : List ℕ → Option (List ℕ) → FixRow
 fix_at path None = record { path = path; gone = pos 1; digest = None }
@@ -50,7 +51,8 @@ abbrev pub commit_row : ℕ → Commit → CommitRow
 commit_row n commit = record { n = pos n; message = commit.message }
 
 abbrev pub entry_row : ℕ → File → EntryRow
-entry_row n file = record { n = pos n; path = file.path; mode = pos (mode_number file.entry.mode); digest = sha256 file.entry.bytes }
+entry_row n file =
+    record { n = pos n; path = file.path; mode = pos (mode_number file.entry.mode); digest = sha256 file.entry.bytes }
 
 -- the rows of commits that are numbered from n on
 abbrev pub commit_rows : ℕ → List Commit → List CommitRow

@@ -10,10 +10,11 @@ pub record FileParts : Type 0 where
   pub mode : Mode
   pub content : List ℕ
 
-abbrev pub parts_of : File → FileParts
-parts_of file = record { path = file.path; mode = file.entry.mode; content = file.entry.bytes }
+abbrev pub parts_of_file : File → FileParts
+parts_of_file file = record { path = file.path; mode = file.entry.mode; content = file.entry.bytes }
 
 abbrev pub parts_code : Coded FileParts
 parts_code =
-    code_by (List ℕ × (Mode × List ℕ)) (coded× (coded_list coded_ℕ) (coded× mode.the_row.coded (coded_list coded_ℕ))) (λ f. (f.path, (f.mode, f.content))) (λ p. record { path = p.0; mode = p.1.0; content = p.1.1 })
+    code_by (List ℕ × (Mode × List ℕ)) (coded× (coded_list coded_ℕ) (coded× mode.the_row.coded (coded_list coded_ℕ)))
+    (λ f. (f.path, (f.mode, f.content))) (λ p. record { path = p.0; mode = p.1.0; content = p.1.1 })
     (λ _. refl)

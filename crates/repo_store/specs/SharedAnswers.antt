@@ -10,12 +10,14 @@ use Rattle.repo_store.specs.WrittenAnswers.{written_changes, written_seen, writt
 
 -- the answer of these parts
 abbrev pub answer_of : List (List ℕ) → List FileParts → List ℕ → List SharedFix → ℕ → KeptAnswer
-answer_of words seen output changes status = record { words = words; seen = map file_of seen; output = output; changes = map fix_of changes; status = status }
+answer_of words seen output changes status =
+    record { words = words; seen = map file_of seen; output = output; changes = map fix_of changes; status = status }
 
 -- the records and the output of an answer of these parts, in the order in which they are kept
 abbrev pub records_of_parts : List (List ℕ) → List FileParts → List ℕ → List SharedFix → List (List ℕ)
 records_of_parts words seen output changes =
-    words_record words ∷ seen_record (seen_of_files (map file_of seen)) ∷ output ∷ changes_record (changed_of_changes (map fix_of changes)) ∷ []
+    words_record words ∷ seen_record (seen_of_files (map file_of seen)) ∷ output ∷ changes_record
+    (changed_of_changes (map fix_of changes)) ∷ []
 
 -- these are the answer's records
 pub record IsWritten (answer : KeptAnswer) (words seen changes : List ℕ) : Type 0 where

@@ -24,7 +24,8 @@ edit_of shared = record { path = shared.path; entry = option_map entry_in shared
 
 -- what a requested edit gives to its path
 abbrev pub made_edit : StagingEdit → Kept → PathEdit
-made_edit (Add path bytes asked) kept = record { path = path; entry = Some (entry_to_stage path bytes asked kept.repo.staged) }
+made_edit (Add path bytes asked) kept =
+    record { path = path; entry = Some (entry_to_stage path bytes asked kept.repo.staged) }
 made_edit (Remove path) kept = record { path = path; entry = None }
 
 -- each after those before it

@@ -21,7 +21,9 @@ pub record Shown (S : Type 0) : Type 0 where
   pub next : ℕ
 
 abbrev pub shown_code : {S : Type 0} → Coded S → Coded (Shown S)
-shown_code {S} store = code_by (Held S × (Kept × ℕ)) (coded× (held_code store) (coded× kept_code coded_ℕ)) (λ s. (s.conn, (s.kept, s.next))) (λ p. record { conn = p.0; kept = p.1.0; next = p.1.1 }) (λ _. refl)
+shown_code {S} store =
+    code_by (Held S × (Kept × ℕ)) (coded× (held_code store) (coded× kept_code coded_ℕ))
+    (λ s. (s.conn, (s.kept, s.next))) (λ p. record { conn = p.0; kept = p.1.0; next = p.1.1 }) (λ _. refl)
 
 -- What is kept is one complete repository, and its rows obey the rules by which a store is opened. While the
 -- connection is open, its database holds this and has it committed.
@@ -41,13 +43,15 @@ pub record Leaves (kept : Kept) (trees : Trees) : Type 0 where
 
 -- on a clean disk, a crash can leave nothing but this
 abbrev pub LeavesOnly : {S : Type 0} (g : Ghosts S) (conn : Held S) (kept : Kept) → Type 0
-LeavesOnly g conn kept = HasCleanDisk (state g conn) → (trees : Trees) → (state g conn).may_leave trees → Leaves kept trees
+LeavesOnly g conn kept =
+    HasCleanDisk (state g conn) → (trees : Trees) → (state g conn).may_leave trees → Leaves kept trees
 
 -- A call that makes `after` of what a store keeps is one transaction: what the store then shows, also after a
 -- refusal, is what its tables hold. A crash leaves what it could leave before, or all of the change; once the
 -- call has returned `Ok`, all of it. If the connection was shut, a crash leaves only what it could leave
 -- before. On a clean disk it is open once the call has returned `Ok`.
-pub record IsOneTransaction {S A E : Type 0} (g : Ghosts S) (old new : Shown S) (result : Result A E) (after : Kept) : Type 0 where
+pub record IsOneTransaction {S A E : Type 0} (g : Ghosts S) (old new : Shown S) (result : Result A E)
+    (after : Kept) : Type 0 where
   pub stands : Stands g new.conn new.kept
   pub crash : Survives (state g old.conn) (state g new.conn) (Leaves after)
   pub durable : OnOk result (LeavesOnly g new.conn after)
@@ -64,7 +68,8 @@ pub record IsNumberedAnew {S : Type 0} (g : Ghosts S) (old new : Shown S) : Type
 
 -- A call that uses an answer, or puts one, makes `after` of what the store keeps in one transaction. The uses
 -- may be renumbered before it.
-pub record IsOneUse {S A E : Type 0} (g : Ghosts S) (old new : Shown S) (result : Result A E) (after : Kept) : Type 0 where
+pub record IsOneUse {S A E : Type 0} (g : Ghosts S) (old new : Shown S) (result : Result A E)
+    (after : Kept) : Type 0 where
   pub between : Shown S
   pub numbered : (between ≡ old) ⊎ IsNumberedAnew g old between
   pub transaction : IsOneTransaction g between new result after

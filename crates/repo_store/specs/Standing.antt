@@ -10,7 +10,7 @@ use Rattle.repo_store.specs.Bounded.{HoldsNext}
 use Rattle.repo_store.specs.Complete.{IsComplete}
 use Rattle.repo_store.specs.Index.{Key}
 use Rattle.repo_store.specs.Kept.{Kept}
-use Rattle.repo_store.specs.ListedAnswers.{brought, last_key}
+use Rattle.repo_store.specs.ListedAnswers.{brought_answers, last_key}
 use Rattle.repo_store.specs.Remembered.{TellsKey}
 use Rattle.repo_store.specs.Remembering.{with_answer_row}
 use Rattle.repo_store.specs.Rows.{answer_row, tables_of, with_blobs}
@@ -18,7 +18,7 @@ use Rattle.repo_store.specs.UsedAnswers.{in_front}
 use Rattle.repo_store.specs.RowRules.{AreStoreRows}
 use Rattle.repo_store.specs.UsesOf.{greatest_tick}
 
-pub record StandsAt {S : Type 0} (g : Ghosts S) (conn : Held S) (kept : Kept) (next : ℕ) : Type 0 where
+pub record StandsAtTick {S : Type 0} (g : Ghosts S) (conn : Held S) (kept : Kept) (next : ℕ) : Type 0 where
   pub outside : conn.in_transaction ≡ false
   pub complete : IsComplete kept
   pub obeys : AreStoreRows (tables_of kept)
@@ -33,9 +33,9 @@ pub record StandsAt {S : Type 0} (g : Ghosts S) (conn : Held S) (kept : Kept) (n
 abbrev pub TellKeys : List KeptAnswer → Type 0
 TellKeys answers = AllByRecursion (λ answer. AllByRecursion (TellsKey answer) answers) answers
 
--- the answer of the key is brought to the front
+-- the answer of the key is brought_answers to the front
 abbrev pub bringing : Key → Kept → Kept
-bringing key kept = record kept { answers = brought key kept.answers }
+bringing key kept = record kept { answers = brought_answers key kept.answers }
 
 -- the key of the last answer, if there is one too many
 abbrev pub surplus_of : ℕ → List KeptAnswer → Option Key
@@ -48,4 +48,6 @@ without_key_row (Some key) t = without_answer key.0 key.1 t
 -- an answer's row is put in place of the one of its key, and the last answer is removed if there is one too
 -- many
 abbrev pub put_tables : ℕ → List KeptAnswer → KeptAnswer → List (List ℕ) → Tables → Tables
-put_tables limit answers answer news t = without_key_row (surplus_of limit (in_front answer answers)) (with_answer_row (answer_row answer) (with_blobs news t))
+put_tables limit answers answer news t =
+    without_key_row (surplus_of limit (in_front answer answers))
+    (with_answer_row (answer_row answer) (with_blobs news t))

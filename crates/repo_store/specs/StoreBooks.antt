@@ -73,7 +73,8 @@ pub record IsAtRest {S : Type 0} (g : Ghosts S) (before after : Shown S) : Type 
   pub contents : (bytes : List ℕ) → IsAmong before.kept.contents bytes → IsAmong after.kept.contents bytes
   pub stands : Stands g before.conn before.kept → Stands g after.conn after.kept
   pub survives : Survives (state g before.conn) (state g after.conn) (LeavesRepository before.kept.repo)
-  pub left : HasCleanDisk (state g after.conn) → Stands g before.conn before.kept → (repo : Repository) → MayLeave g after repo → MayLeave g before repo
+  pub left : HasCleanDisk (state g after.conn) → Stands g before.conn before.kept → (repo : Repository)
+      → MayLeave g after repo → MayLeave g before repo
 
 -- ---- the refusals
 

@@ -17,8 +17,11 @@ pub record Commits (s : State) (P : Database → Type 0) : Type 0 where
 -- A whole call outside a transaction, on a database with Before. At `Ok` one with After is committed;
 -- otherwise the last commit is what the database holds. A crash leaves what it could leave before, or the
 -- trees of a database with After.
-pub record IsCall {S A E : Type 0} (g : Ghosts S) (old new : Held S) (result : Result A E) (Before After : Database → Type 0) : Type 0 where
+pub record IsCall {S A E : Type 0} (g : Ghosts S) (old new : Held S) (result : Result A E)
+    (Before After : Database → Type 0) : Type 0 where
   pub outside : new.in_transaction ≡ false
-  pub done : HasCleanDisk (state g new) → (IsTrue (state g old).is_open → Before (state g old).now) → OnOk result (Commits (state g new) After)
+  pub done : HasCleanDisk (state g new) → (IsTrue (state g old).is_open → Before (state g old).now)
+      → OnOk result (Commits (state g new) After)
   pub kept : OnErr result (Rests (state g old) (state g new))
-  pub survives : (IsTrue (state g old).is_open → Before (state g old).now) → Survives (state g old) (state g new) (λ trees. After (as_store trees))
+  pub survives : (IsTrue (state g old).is_open → Before (state g old).now)
+      → Survives (state g old) (state g new) (λ trees. After (as_store trees))

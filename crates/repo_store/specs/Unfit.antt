@@ -6,7 +6,7 @@ use Rattle.sqlite_schema.specs.declared.schema.Schema.{Schema}
 use Rattle.store_tables.specs.declared.rows.MetaRow.{MetaRow}
 use Rattle.store_tables.specs.declared.rows.UseRow.{UseRow}
 use Rattle.store_tables.specs.Schema.{schema_with_uses, store_schema}
-use Rattle.store_tables.specs.Tables.{Tables, Holds, Stored, meta_cells}
+use Rattle.store_tables.specs.Tables.{Tables, HoldsTables, Stored, meta_cells}
 use Rattle.store_tables.specs.Uses.{HoldsWithUses}
 use Rattle.store_faults.specs.declared.fault.StoreFault.{StoreFault}
 use Rattle.store_faults.specs.declared.fault.StoreFault.TheVariants.{NotAStore, Damaged, Sql, OutOfMemory, Collision, TooLarge, TooMany}
@@ -23,7 +23,7 @@ pub record IsOfNoVersion (listed : Schema) (AreOfVersion : List MetaRow → Type
 -- The database holds the tables of a store of version 1, and their rows break a rule.
 pub record IsFirstDamaged (db : Database) : Type 0 where
   pub tables : Tables
-  pub holds : Holds db tables
+  pub holds : HoldsTables db tables
   pub versioned : AreFirstVersionRows tables.meta
   pub broken : ¬ AreStoreRows tables
 
@@ -39,7 +39,9 @@ pub record IsDamaged (db : Database) : Type 0 where
 -- or 2, or if `meta` doesn't say that they are of that version. It is `Damaged` only if the database holds a
 -- store whose rows break a rule. Nothing is said about when memory or the database refuses.
 abbrev pub IsUnfit : Database → StoreFault → Type 0
-IsUnfit db NotAStore = ((db.schema ≢ store_schema) × (db.schema ≢ schema_with_uses)) ⊎ (IsOfNoVersion store_schema AreFirstVersionRows db ⊎ IsOfNoVersion schema_with_uses AreVersionRows db)
+IsUnfit db NotAStore =
+    ((db.schema ≢ store_schema) × (db.schema ≢ schema_with_uses))
+    ⊎ (IsOfNoVersion store_schema AreFirstVersionRows db ⊎ IsOfNoVersion schema_with_uses AreVersionRows db)
 IsUnfit db Damaged = IsFirstDamaged db ⊎ IsDamaged db
 IsUnfit db (Sql error) = Unit {0}
 IsUnfit db OutOfMemory = Unit {0}

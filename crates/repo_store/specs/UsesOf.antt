@@ -16,7 +16,8 @@ abbrev pub greatest_tick : ℕ
 greatest_tick = 2 ^ 62
 
 abbrev pub use_row : KeptAnswer → ℕ → UseRow
-use_row answer tick = record { words = sha256 (written_words answer); seen = sha256 (written_seen answer); tick = pos tick }
+use_row answer tick =
+    record { words = sha256 (written_words answer); seen = sha256 (written_seen answer); tick = pos tick }
 
 -- the rows of the answers, each with the tick at its index
 abbrev pub use_rows : List KeptAnswer → List ℕ → List UseRow

@@ -26,7 +26,8 @@ fn rewrite<S: Alter>(
 ) -> Result<(), Error>
     requires { IsRising (map file_of files.now) }
     ensures same_reference { tx.new.conn.ghost_name ≡ tx.old.conn.ghost_name }
-    ensures step { IsStep S.Store tx.old.conn.now tx.new.conn.now result (λ t. with_staged_rows (rewritten (map file_of files.now) path.now t.staged) t) }
+    ensures step { IsStep S.Store tx.old.conn.now tx.new.conn.now result
+        (λ t. with_staged_rows (rewritten (map file_of files.now) path.now t.staged) t) }
 {
     take_staged(tx, path.as_str())?;
     match file_at(files, path) {
@@ -47,7 +48,9 @@ fn accept_in<S: Alter>(
 ) -> Result<(), Error>
     requires { IsRising (map file_of files.now) }
     ensures same_reference { tx.new.conn.ghost_name ≡ tx.old.conn.ghost_name }
-    ensures step { IsStep S.Store tx.old.conn.now tx.new.conn.now result (λ t. with_staged_rows (all_rewritten (map file_of files.now) (map fix_of fixes.now) t.staged) (without_fixes t)) }
+    ensures step { IsStep S.Store tx.old.conn.now tx.new.conn.now result
+        (λ t. with_staged_rows (all_rewritten (map file_of files.now) (map fix_of fixes.now) t.staged)
+        (without_fixes t)) }
 {
     clear_fixes(tx)?;
     'fixes: for fix in fixes {
@@ -65,7 +68,10 @@ pub(crate) fn accept_rows<S: Alter>(
 ) -> Result<(), Error>
     requires outside { conn.old.in_transaction ≡ false }
     requires rising { IsRising (map file_of files.now) }
-    ensures { (t : Tables) (next : ℕ) (answers : List KeptAnswer) → IsCall S.Store conn.old conn.new result (λ db. HoldsListed next answers db t) (λ db. HoldsListed next answers db (with_staged_rows (all_rewritten (map file_of files.now) (map fix_of fixes.now) t.staged) (without_fixes t))) }
+    ensures { (t : Tables) (next : ℕ) (answers : List KeptAnswer)
+        → IsCall S.Store conn.old conn.new result (λ db. HoldsListed next answers db t)
+        (λ db. HoldsListed next answers db (with_staged_rows
+        (all_rewritten (map file_of files.now) (map fix_of fixes.now) t.staged) (without_fixes t))) }
 {
     let mut tx = conn.transaction();
     accept_in(&mut tx, fixes, files)?;

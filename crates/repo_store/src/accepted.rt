@@ -3,7 +3,7 @@
 
 ghost use Rattle.std.specs.Prelude.{◌≡◌, map, IfOk};
 ghost use Rattle.hook_base.specs.Trees.{IsRising, IsRisingChanges, apply_changes};
-ghost use Rattle.repo_store.specs.Accepted.{IsAccepted, accepted_files};
+ghost use Rattle.repo_store.specs.Accepted.{HasAcceptedFiles, accepted_files};
 ghost use Rattle.store_faults.specs.Limits.{Fits, path_bytes as path_bytes_of};
 ghost use Rattle.repo_store.specs.Lists.{file_of, fix_of};
 
@@ -49,7 +49,7 @@ impl Accepted {
     ) -> Result<Accepted, OutOfMemory>
         requires files { IsRising (map file_of files.now) }
         requires fixes { IsRisingChanges (map fix_of fixes.now) }
-        ensures accepted { IfOk result (IsAccepted (map fix_of fixes.now) (map file_of files.now)) }
+        ensures accepted { IfOk result (HasAcceptedFiles (map fix_of fixes.now) (map file_of files.now)) }
         ensures rising { IfOk result (λ accepted. IsRising (map file_of (accepted_files accepted))) }
     {
         if are_few(files, fixes) {
@@ -77,13 +77,14 @@ impl Accepted {
         path_bytes: usize,
         fixes: &[SharedFix],
     ) -> usize
-        requires accepted { IsAccepted (map fix_of fixes.now) (map file_of files.old.items) self }
+        requires accepted { HasAcceptedFiles (map fix_of fixes.now) (map file_of files.old.items) self }
         requires accepted_rise { IsRising (map file_of (accepted_files self)) }
         requires files_rise { IsRising (map file_of files.old.items) }
         requires fixes_rise { IsRisingChanges (map fix_of fixes.now) }
         requires fits { Fits (map file_of files.old.items) }
         requires counted { path_bytes ≡ path_bytes_of (map file_of files.old.items) }
-        ensures files { map file_of files.new.items ≡ apply_changes (map fix_of fixes.now) (map file_of files.old.items) }
+        ensures files { map file_of files.new.items
+            ≡ apply_changes (map fix_of fixes.now) (map file_of files.old.items) }
         ensures counted { result ≡ path_bytes_of (map file_of files.new.items) }
     {
         match self {

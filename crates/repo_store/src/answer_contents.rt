@@ -131,8 +131,10 @@ fn keep_seen(
 ) -> Result<Content, StoreFault>
     requires { IsRising (map file_of files.now) }
     ensures record { IfOk result (IsSeenRecord (seen_of_files (map file_of files.now))) }
-    ensures kept { OnOk result (AreAllKept (seen_record (seen_of_files (map file_of files.now)) ∷ []) contents.old contents.new) }
-    ensures stopped { IfErr result (IsStopped (seen_record (seen_of_files (map file_of files.now)) ∷ []) contents.old contents.new) }
+    ensures kept { OnOk result (AreAllKept (seen_record (seen_of_files (map file_of files.now)) ∷ []) contents.old
+        contents.new) }
+    ensures stopped { IfErr result (IsStopped (seen_record (seen_of_files (map file_of files.now)) ∷ []) contents.old
+        contents.new) }
 {
     let named = named_files(alloc, files)?;
     let record = seen_record(alloc, named.as_slice())?;
@@ -171,8 +173,10 @@ fn keep_changed(
 ) -> Result<Content, StoreFault>
     requires { IsRisingChanges (map fix_of changes.now) }
     ensures record { IfOk result (IsChangesRecord (changed_of_changes (map fix_of changes.now))) }
-    ensures kept { OnOk result (AreAllKept (changes_record (changed_of_changes (map fix_of changes.now)) ∷ []) contents.old contents.new) }
-    ensures stopped { IfErr result (IsStopped (changes_record (changed_of_changes (map fix_of changes.now)) ∷ []) contents.old contents.new) }
+    ensures kept { OnOk result (AreAllKept (changes_record (changed_of_changes (map fix_of changes.now)) ∷ [])
+        contents.old contents.new) }
+    ensures stopped { IfErr result (IsStopped (changes_record (changed_of_changes (map fix_of changes.now)) ∷ [])
+        contents.old contents.new) }
 {
     let named = named_changes(alloc, changes)?;
     let record = changes_record(alloc, named.as_slice())?;
@@ -193,9 +197,12 @@ fn keep_written(
     ensures words { IfOk result (λ written. IsWordsRecord words.now written.records.words) }
     ensures seen { IfOk result (λ written. IsSeenRecord (seen_of_files (map file_of files.now)) written.records.seen) }
     ensures output { IfOk result (λ written. written.output ≡ output.now) }
-    ensures changes { IfOk result (λ written. IsChangesRecord (changed_of_changes (map fix_of changes.now)) written.records.changes) }
-    ensures kept { OnOk result (AreAllKept (records_of_parts words.now files.now output.now changes.now) contents.old contents.new) }
-    ensures stopped { IfErr result (IsStopped (records_of_parts words.now files.now output.now changes.now) contents.old contents.new) }
+    ensures changes { IfOk result (λ written. IsChangesRecord (changed_of_changes (map fix_of changes.now))
+        written.records.changes) }
+    ensures kept { OnOk result (AreAllKept (records_of_parts words.now files.now output.now changes.now) contents.old
+        contents.new) }
+    ensures stopped { IfErr result (IsStopped (records_of_parts words.now files.now output.now changes.now) contents.old
+        contents.new) }
 {
     let words = keep_words(alloc, contents, words)?;
     let seen = keep_seen(alloc, contents, files)?;
@@ -220,8 +227,10 @@ fn keep_parts(
     requires { KeepToSeen answer.changes.now seen.now }
     ensures answer { IfOk result (λ made. made ≡ copied_answer words.now seen.now answer.entry) }
     ensures sound { OnOk result (IsSoundAnswer (copied_answer words.now seen.now answer.entry)) }
-    ensures kept { OnOk result (AreAllKept (contents_for (copied_answer words.now seen.now answer.entry)) contents.old contents.new) }
-    ensures stopped { IfErr result (IsStopped (contents_for (copied_answer words.now seen.now answer.entry)) contents.old contents.new) }
+    ensures kept { OnOk result (AreAllKept (contents_for (copied_answer words.now seen.now answer.entry)) contents.old
+        contents.new) }
+    ensures stopped { IfErr result (IsStopped (contents_for (copied_answer words.now seen.now answer.entry))
+        contents.old contents.new) }
 {
     let copy = copy_texts(alloc, words)?;
     let files = keep_files(alloc, contents, seen)?;
@@ -255,9 +264,11 @@ pub(crate) fn keep_answer(
     requires { KeepToSeen answer.changes.now seen.now }
     ensures answer { IfOk result (λ made. made ≡ copied_answer words.now seen.now answer.entry) }
     ensures sound { OnOk result (IsSoundAnswer (copied_answer words.now seen.now answer.entry)) }
-    ensures kept { OnOk result (AreAllKept (contents_for (copied_answer words.now seen.now answer.entry)) contents.old contents.new) }
+    ensures kept { OnOk result (AreAllKept (contents_for (copied_answer words.now seen.now answer.entry)) contents.old
+        contents.new) }
     ensures same { OnErr result (contents.new ≡ contents.old) }
-    ensures why { IfErr result (IsRefusal (¬ AreSmall (contents_for (copied_answer words.now seen.now answer.entry))) ⊥ (SomeCollides (contents_for (copied_answer words.now seen.now answer.entry)) contents.old)) }
+    ensures why { IfErr result (IsRefusal (¬ AreSmall (contents_for (copied_answer words.now seen.now answer.entry))) ⊥
+        (SomeCollides (contents_for (copied_answer words.now seen.now answer.entry)) contents.old)) }
 {
     let before = contents.len();
     match keep_parts(alloc, contents, words, seen, answer) {

@@ -7,7 +7,7 @@ ghost use Rattle.store_faults.specs.Faults.{IsDamage};
 ghost use Rattle.repo_store.specs.Index as spec;
 ghost use Rattle.store_faults.specs.Limits.{IsLimit};
 ghost use Rattle.repo_store.specs.ListedAnswers as listed;
-ghost use Rattle.repo_store.specs.ListedAnswers.{IsNextTick, ListedAnswers, brought};
+ghost use Rattle.repo_store.specs.ListedAnswers.{IsNextTick, ListedAnswers, brought_answers};
 ghost use Rattle.repo_store.specs.Remembered.{TellsKey};
 ghost use Rattle.repo_store.specs.UsedAnswers.{in_front};
 ghost use Rattle.repo_store.specs.UsesOf.{greatest_tick};
@@ -86,7 +86,8 @@ impl AnswerList {
     pub(crate) fn find(&self, words: [u8; 32], seen: [u8; 32]) -> Option<&SharedAnswer>
         ensures found { IfSome result (λ answer. Contains self.now.answers answer.now) }
         ensures key { IfSome result (λ answer. spec.key_of answer.now ≡ (words, seen)) }
-        ensures absent { IfNone result (AllByRecursion (λ (answer : KeptAnswer). ¬ (spec.key_of answer ≡ (words, seen))) self.now.answers) }
+        ensures absent { IfNone result (AllByRecursion (λ (answer : KeptAnswer). ¬ (spec.key_of answer ≡ (words, seen)))
+            self.now.answers) }
     {
         self.cache.peek(&(words, seen))
     }
@@ -121,7 +122,8 @@ impl AnswerList {
 
     /// Puts an answer, whose key no other has, in front of the others.
     pub(crate) fn add(&mut self, answer: SharedAnswer) -> Result<(), OutOfMemory>
-        requires { AllByRecursion (λ (other : KeptAnswer). ¬ (spec.key_of other ≡ spec.key_of answer)) self.old.answers }
+        requires { AllByRecursion (λ (other : KeptAnswer). ¬ (spec.key_of other ≡ spec.key_of answer))
+            self.old.answers }
         ensures added { OnOk result (self.new ≡ record self.old { answers = answer ∷ self.old.answers }) }
         ensures same { OnErr result (self.new ≡ self.old) }
     {
@@ -151,7 +153,7 @@ impl AnswerList {
 
     /// Brings the answer whose key has these digests to the front. If there is none, nothing changes.
     pub(crate) fn bring(&mut self, words: [u8; 32], seen: [u8; 32])
-        ensures { self.new ≡ record self.old { answers = brought (words, seen) self.old.answers } }
+        ensures { self.new ≡ record self.old { answers = brought_answers (words, seen) self.old.answers } }
     {
         // The contract of `len` says that each key is in the cache once.
         let _length = self.cache.len();

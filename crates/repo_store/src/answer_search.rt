@@ -110,10 +110,12 @@ pub(crate) fn known_seen(
     contents: &Contents,
     seen: &Tree,
 ) -> Result<Option<[u8; 32]>, StoreFault>
-    ensures digest { IfOk result (λ found. IfSome found (λ digest. digest ≡ sha256 (seen_record (seen_of_files seen.now)))) }
+    ensures digest { IfOk result (λ found. IfSome found
+        (λ digest. digest ≡ sha256 (seen_record (seen_of_files seen.now)))) }
     ensures known { IfOk result (λ found. IfSome found (λ _. AreKnownFiles contents.now seen.now)) }
     ensures absent { IfOk result (λ found. IfNone found (¬ ArePlacedFiles contents.now seen.now)) }
-    ensures why { IfErr result (IsRefusal ⊥ ⊥ (AnyCollides (seen_record (seen_of_files seen.now) ∷ contents_in_files seen.now) contents.now)) }
+    ensures why { IfErr result (IsRefusal ⊥ ⊥
+        (AnyCollides (seen_record (seen_of_files seen.now) ∷ contents_in_files seen.now) contents.now)) }
 {
     let Some(named) = known_files(alloc, contents, seen)? else {
         return Ok(None);

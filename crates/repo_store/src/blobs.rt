@@ -27,7 +27,9 @@ pub(crate) fn keep_in<S: Alter>(tx: &mut Transaction<'_, S>, news: &[Content]) -
 /// Keeps blobs that the table lacks, in one transaction.
 pub(crate) fn keep_rows<S: Alter>(conn: &mut Connection<S>, news: &[Content]) -> Result<(), Error>
     requires { conn.old.in_transaction ≡ false }
-    ensures { (t : Tables) (next : ℕ) (answers : List KeptAnswer) → IsCall S.Store conn.old conn.new result (λ db. HoldsListed next answers db t) (λ db. HoldsListed next answers db (with_blobs news.now t)) }
+    ensures { (t : Tables) (next : ℕ) (answers : List KeptAnswer)
+        → IsCall S.Store conn.old conn.new result (λ db. HoldsListed next answers db t)
+        (λ db. HoldsListed next answers db (with_blobs news.now t)) }
 {
     let mut tx = conn.transaction();
     keep_in(&mut tx, news)?;

@@ -20,7 +20,8 @@ fn put_files<S: Alter>(
     files: &[ListedFile],
 ) -> Result<(), Error>
     ensures same_reference { tx.new.conn.ghost_name ≡ tx.old.conn.ghost_name }
-    ensures step { IsStep S.Store tx.old.conn.now tx.new.conn.now result (λ t. with_entries (map (entry_row n) (map file_of files.now)) t) }
+    ensures step { IsStep S.Store tx.old.conn.now tx.new.conn.now result
+        (λ t. with_entries (map (entry_row n) (map file_of files.now)) t) }
 {
     change_nothing(tx)?;
     for file in files {
@@ -41,7 +42,9 @@ fn commit_in<S: Alter>(
     commit: &SharedCommit,
 ) -> Result<(), Error>
     ensures same_reference { tx.new.conn.ghost_name ≡ tx.old.conn.ghost_name }
-    ensures step { IsStep S.Store tx.old.conn.now tx.new.conn.now result (λ t. without_fixes (with_entries (map (entry_row n) (map file_of commit.now.files.items)) (with_commit (record { n = pos n; message = commit.now.message }) t))) }
+    ensures step { IsStep S.Store tx.old.conn.now tx.new.conn.now result
+        (λ t. without_fixes (with_entries (map (entry_row n) (map file_of commit.now.files.items))
+        (with_commit (record { n = pos n; message = commit.now.message }) t))) }
 {
     put_commit(tx, n, commit.message.as_slice())?;
     put_files(tx, n, commit.files.as_slice())?;
@@ -55,7 +58,11 @@ pub(crate) fn commit_rows<S: Alter>(
     commit: &SharedCommit,
 ) -> Result<(), Error>
     requires { conn.old.in_transaction ≡ false }
-    ensures { (t : Tables) (next : ℕ) (answers : List KeptAnswer) → IsCall S.Store conn.old conn.new result (λ db. HoldsListed next answers db t) (λ db. HoldsListed next answers db (without_fixes (with_entries (map (entry_row n) (map file_of commit.now.files.items)) (with_commit (record { n = pos n; message = commit.now.message }) t)))) }
+    ensures { (t : Tables) (next : ℕ) (answers : List KeptAnswer)
+        → IsCall S.Store conn.old conn.new result (λ db. HoldsListed next answers db t)
+        (λ db. HoldsListed next answers db (without_fixes
+        (with_entries (map (entry_row n) (map file_of commit.now.files.items))
+        (with_commit (record { n = pos n; message = commit.now.message }) t)))) }
 {
     let mut tx = conn.transaction();
     commit_in(&mut tx, n, commit)?;

@@ -183,7 +183,8 @@ impl Contents {
         ensures content { IfOk result (λ kept. kept ≡ content.now) }
         ensures kept { OnOk result (self.new ≡ with_content content.now self.old) }
         ensures same { OnErr result (self.new ≡ self.old) }
-        ensures why { IfErr result (IsRefusal (¬ IsSmall content.now) ⊥ (IsSmall content.now × Collides content.now self.old)) }
+        ensures why { IfErr result (IsRefusal (¬ IsSmall content.now) ⊥
+            (IsSmall content.now × Collides content.now self.old)) }
         ensures small { OnOk result (IsSmall content.now) }
         ensures apart { OnOk result (¬ Collides content.now self.old) }
     {

@@ -15,7 +15,8 @@ use store_tables::{make_tables, make_uses, put_meta};
 
 fn make_in<S: Alter>(tx: &mut Transaction<'_, S>) -> Result<(), Error>
     ensures same_reference { tx.new.conn.ghost_name ≡ tx.old.conn.ghost_name }
-    ensures made { IsMade S.Store tx.old.conn.now tx.new.conn.now result (IsBare no_schema) (λ db. HoldsNext 1 db nothing_kept) }
+    ensures made { IsMade S.Store tx.old.conn.now tx.new.conn.now result (IsBare no_schema)
+        (λ db. HoldsNext 1 db nothing_kept) }
 {
     make_tables(tx)?;
     make_uses(tx)?;
@@ -35,8 +36,10 @@ pub(crate) fn make<S: Alter>(conn: &mut Connection<S>) -> Result<(), Error>
 /// Whether the database, outside a transaction, has no tables, indexes or views.
 pub(crate) fn has_no_tables<S: Alter>(conn: &Connection<S>) -> bool
     requires { conn.now.in_transaction ≡ false }
-    ensures bare { IsTrue result → IsTrue (state S.Store conn.now).is_open → IsBare no_schema (state S.Store conn.now).now }
-    ensures settled { IsTrue (state S.Store conn.now).is_open → (state S.Store conn.now).now ≡ (state S.Store conn.now).committed }
+    ensures bare { IsTrue result → IsTrue (state S.Store conn.now).is_open
+        → IsBare no_schema (state S.Store conn.now).now }
+    ensures settled { IsTrue (state S.Store conn.now).is_open
+        → (state S.Store conn.now).now ≡ (state S.Store conn.now).committed }
 {
     let _settled = conn.is_autocommit();
     let schema = conn.schema();

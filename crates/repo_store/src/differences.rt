@@ -14,7 +14,8 @@ use hook_base::RepoPath;
 
 // Whether two files have the same mode and the same digest.
 fn is_same_entry(file: &ListedFile, other: &ListedFile) -> bool
-    ensures { IsTrue result ↔ ((file.now.mode ≡ other.now.mode) × (sha256 file.now.content ≡ sha256 other.now.content)) }
+    ensures { IsTrue result ↔ ((file.now.mode ≡ other.now.mode)
+        × (sha256 file.now.content ≡ sha256 other.now.content)) }
 {
     file.mode() == other.mode() && file.content().digest() == other.content().digest()
 }
@@ -46,7 +47,9 @@ pub(crate) fn are_same_rows(files: &[ListedFile], others: &[ListedFile]) -> bool
 pub(crate) fn differ_at(files: &[ListedFile], others: &[ListedFile], path: &RepoPath) -> bool
     requires rising { IsRising (map file_of files.now) }
     requires others { IsRising (map file_of others.now) }
-    ensures { (contents : List (List ℕ)) → HaveDistinctDigests contents → HaveContents contents (map file_of files.now) → HaveContents contents (map file_of others.now) → IsTrue result ↔ (entry_of path.now (map file_of files.now) ≢ entry_of path.now (map file_of others.now)) }
+    ensures { (contents : List (List ℕ)) → HaveDistinctDigests contents → HaveContents contents (map file_of files.now)
+        → HaveContents contents (map file_of others.now)
+        → IsTrue result ↔ (entry_of path.now (map file_of files.now) ≢ entry_of path.now (map file_of others.now)) }
 {
     match (file_at(files, path), file_at(others, path)) {
         (Some(file), Some(other)) => !is_same_entry(file, other),

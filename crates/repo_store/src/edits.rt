@@ -19,7 +19,8 @@ use store_tables::{clear_fixes, put_staged, take_staged};
 // Removes the row at the path of an edit, and adds the edit's file, if any.
 fn edit_row<S: Alter>(tx: &mut Transaction<'_, S>, edit: &SharedEdit) -> Result<(), Error>
     ensures same_reference { tx.new.conn.ghost_name ≡ tx.old.conn.ghost_name }
-    ensures step { IsStep S.Store tx.old.conn.now tx.new.conn.now result (λ t. with_staged_rows (edited_rows (edit_of edit.now) t.staged) t) }
+    ensures step { IsStep S.Store tx.old.conn.now tx.new.conn.now result
+        (λ t. with_staged_rows (edited_rows (edit_of edit.now) t.staged) t) }
 {
     take_staged(tx, edit.path.as_str())?;
     match &edit.file {
@@ -39,7 +40,8 @@ fn edit_in<S: Alter>(
     edits: &[SharedEdit],
 ) -> Result<(), Error>
     ensures same_reference { tx.new.conn.ghost_name ≡ tx.old.conn.ghost_name }
-    ensures step { IsStep S.Store tx.old.conn.now tx.new.conn.now result (λ t. with_staged_rows (all_rows (map edit_of edits.now) t.staged) (without_fixes (with_blobs news.now t))) }
+    ensures step { IsStep S.Store tx.old.conn.now tx.new.conn.now result
+        (λ t. with_staged_rows (all_rows (map edit_of edits.now) t.staged) (without_fixes (with_blobs news.now t))) }
 {
     keep_in(tx, news)?;
     clear_fixes(tx)?;
@@ -57,7 +59,10 @@ pub(crate) fn edit_rows<S: Alter>(
     edits: &[SharedEdit],
 ) -> Result<(), Error>
     requires { conn.old.in_transaction ≡ false }
-    ensures { (t : Tables) (next : ℕ) (answers : List KeptAnswer) → IsCall S.Store conn.old conn.new result (λ db. HoldsListed next answers db t) (λ db. HoldsListed next answers db (with_staged_rows (all_rows (map edit_of edits.now) t.staged) (without_fixes (with_blobs news.now t)))) }
+    ensures { (t : Tables) (next : ℕ) (answers : List KeptAnswer)
+        → IsCall S.Store conn.old conn.new result (λ db. HoldsListed next answers db t)
+        (λ db. HoldsListed next answers db (with_staged_rows (all_rows (map edit_of edits.now) t.staged)
+        (without_fixes (with_blobs news.now t)))) }
 {
     let mut tx = conn.transaction();
     edit_in(&mut tx, news, edits)?;

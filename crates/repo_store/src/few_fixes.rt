@@ -18,7 +18,8 @@ fn push_at(
     path: &RepoPath,
 ) -> Result<(), OutOfMemory>
     requires { IsRising (map file_of files.now) }
-    ensures { OnOk result (map file_of found.new.items ≡ map file_of found.old.items ++ file_at path.now (entry_of path.now (map file_of files.now))) }
+    ensures { OnOk result (map file_of found.new.items
+        ≡ map file_of found.old.items ++ file_at path.now (entry_of path.now (map file_of files.now))) }
 {
     if let Ok(index) = place_of(files, path) {
         found.push(files[index].clone()?)?;
@@ -33,7 +34,8 @@ pub(crate) fn files_with_fix(
     fixes: &[SharedFix],
 ) -> Result<Vec<ListedFile>, OutOfMemory>
     requires { IsRising (map file_of files.now) }
-    ensures { IfOk result (λ found. map file_of found.items ≡ files_with_fix (map fix_of fixes.now) (map file_of files.now)) }
+    ensures { IfOk result (λ found. map file_of found.items
+        ≡ files_with_fix (map fix_of fixes.now) (map file_of files.now)) }
 {
     let mut found = Vec::with_capacity(alloc, fixes.len())?;
     'fixes: for fix in fixes {
@@ -59,7 +61,8 @@ fn replace(files: &mut Vec<ListedFile>, file: ListedFile)
 fn settle(files: &mut Vec<ListedFile>, fixed: &mut Vec<ListedFile>, fix: &SharedFix) -> usize
     requires files_rise { IsRising (map file_of files.old.items) }
     requires fixed_rise { IsRising (map file_of fixed.old.items) }
-    requires same { entry_of fix.now.path (map file_of fixed.old.items) ≡ entry_of fix.now.path (apply_change (fix_of fix.now) (map file_of files.old.items)) }
+    requires same { entry_of fix.now.path (map file_of fixed.old.items)
+        ≡ entry_of fix.now.path (apply_change (fix_of fix.now) (map file_of files.old.items)) }
     ensures files { map file_of files.new.items ≡ apply_change (fix_of fix.entry.now) (map file_of files.old.items) }
     ensures fixed { map file_of fixed.new.items ≡ remove_file fix.entry.now.path (map file_of fixed.old.items) }
     ensures bytes { path_bytes_of (map file_of files.old.items) ≡ path_bytes_of (map file_of files.new.items) + result }
@@ -83,7 +86,8 @@ pub(crate) fn settle_all(
     requires files_rise { IsRising (map file_of files.old.items) }
     requires fixed_rise { IsRising (map file_of fixed.items) }
     requires fixes_rise { IsRisingChanges (map fix_of fixes.now) }
-    requires same { HaveSameFixed (map fix_of fixes.now) (map file_of fixed.items) (apply_changes (map fix_of fixes.now) (map file_of files.old.items)) }
+    requires same { HaveSameFixed (map fix_of fixes.now) (map file_of fixed.items)
+        (apply_changes (map fix_of fixes.now) (map file_of files.old.items)) }
     requires counted { path_bytes_of (map file_of files.old.items) < 2 ^ 64 }
     ensures files { map file_of files.new.items ≡ apply_changes (map fix_of fixes.now) (map file_of files.old.items) }
     ensures bytes { path_bytes_of (map file_of files.old.items) ≡ path_bytes_of (map file_of files.new.items) + result }

@@ -115,7 +115,8 @@ pub(crate) fn commit_with(
     message: &[u8],
     files: &Vec<ListedFile>,
 ) -> Result<SharedCommit, OutOfMemory>
-    ensures { IfOk result (λ commit. (commit.message ≡ message.now) × (map file_of commit.files.items ≡ map file_of files.now.items)) }
+    ensures { IfOk result (λ commit. (commit.message ≡ message.now)
+        × (map file_of commit.files.items ≡ map file_of files.now.items)) }
 {
     let message = Bytes::copy_of(*files.allocator(), message)?;
     let files = files.clone()?;

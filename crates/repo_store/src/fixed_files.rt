@@ -17,7 +17,9 @@ fn from_path<'a>(fixes: &'a [SharedFix], path: &RepoPath) -> &'a [SharedFix]
     requires { IsRisingChanges (map fix_of fixes.now) }
     ensures rising { IsRisingChanges (map fix_of result.now) }
     ensures reached { HasReached path.now (map fix_of result.now) }
-    ensures same { (files : List File) → ((earlier : List ℕ) → IsBelow earlier path.now → IsBelowAll path_of earlier files) → apply_changes (map fix_of fixes.now) files ≡ apply_changes (map fix_of result.now) files }
+    ensures same { (files : List File) → ((earlier : List ℕ) → IsBelow earlier path.now
+        → IsBelowAll path_of earlier files)
+        → apply_changes (map fix_of fixes.now) files ≡ apply_changes (map fix_of result.now) files }
 {
     let mut left = fixes;
     'earlier: while let [fix, later @ ..] = left {
@@ -33,8 +35,10 @@ fn from_path<'a>(fixes: &'a [SharedFix], path: &RepoPath) -> &'a [SharedFix]
 fn first_at<'a>(fixes: &'a [SharedFix], path: &RepoPath) -> Option<&'a SharedFix>
     requires rising { IsRisingChanges (map fix_of fixes.now) }
     requires reached { HasReached path.now (map fix_of fixes.now) }
-    ensures absent { IfNone result ((file : File) → file.path ≡ path.now → apply_changes (map fix_of fixes.now) (file ∷ []) ≡ file ∷ []) }
-    ensures found { IfSome result (λ fix. (file : File) → file.path ≡ path.now → apply_changes (map fix_of fixes.now) (file ∷ []) ≡ apply_change (fix_of fix.now) (file ∷ [])) }
+    ensures absent { IfNone result ((file : File) → file.path ≡ path.now
+        → apply_changes (map fix_of fixes.now) (file ∷ []) ≡ file ∷ []) }
+    ensures found { IfSome result (λ fix. (file : File) → file.path ≡ path.now
+        → apply_changes (map fix_of fixes.now) (file ∷ []) ≡ apply_change (fix_of fix.now) (file ∷ [])) }
     ensures same { IfSome result (λ fix. fix.now.path ≡ path.now) }
 {
     match fixes {
@@ -70,7 +74,8 @@ fn push_fixed(
 ) -> Result<(), OutOfMemory>
     requires rising { IsRisingChanges (map fix_of fixes.now) }
     requires reached { HasReached file.now.path (map fix_of fixes.now) }
-    ensures { OnOk result (map file_of made.new.items ≡ map file_of made.old.items ++ apply_changes (map fix_of fixes.now) (file_of file.now ∷ [])) }
+    ensures { OnOk result (map file_of made.new.items
+        ≡ map file_of made.old.items ++ apply_changes (map fix_of fixes.now) (file_of file.now ∷ [])) }
 {
     match first_at(fixes, file.path()) {
         Some(fix) => {
@@ -91,7 +96,8 @@ pub(crate) fn with_fixes(
 ) -> Result<Vec<ListedFile>, OutOfMemory>
     requires files { IsRising (map file_of files.now) }
     requires fixes { IsRisingChanges (map fix_of fixes.now) }
-    ensures { IfOk result (λ made. map file_of made.items ≡ apply_changes (map fix_of fixes.now) (map file_of files.now)) }
+    ensures { IfOk result (λ made. map file_of made.items
+        ≡ apply_changes (map fix_of fixes.now) (map file_of files.now)) }
 {
     let mut made = Vec::with_capacity(alloc, files.len())?;
     let mut left = fixes;

@@ -30,7 +30,8 @@ fn put_shared<S: Alter>(tx: &mut Transaction<'_, S>, fix: &SharedFix) -> Result<
 
 fn put_fixes<S: Alter>(tx: &mut Transaction<'_, S>, fixes: &[SharedFix]) -> Result<(), Error>
     ensures same_reference { tx.new.conn.ghost_name ≡ tx.old.conn.ghost_name }
-    ensures step { IsStep S.Store tx.old.conn.now tx.new.conn.now result (λ t. with_fix_rows (map fix_row (map fix_of fixes.now)) t) }
+    ensures step { IsStep S.Store tx.old.conn.now tx.new.conn.now result
+        (λ t. with_fix_rows (map fix_row (map fix_of fixes.now)) t) }
 {
     clear_fixes(tx)?;
     for fix in fixes {
@@ -45,7 +46,8 @@ fn set_in<S: Alter>(
     fixes: &[SharedFix],
 ) -> Result<(), Error>
     ensures same_reference { tx.new.conn.ghost_name ≡ tx.old.conn.ghost_name }
-    ensures step { IsStep S.Store tx.old.conn.now tx.new.conn.now result (λ t. with_fix_rows (map fix_row (map fix_of fixes.now)) (with_blobs news.now t)) }
+    ensures step { IsStep S.Store tx.old.conn.now tx.new.conn.now result
+        (λ t. with_fix_rows (map fix_row (map fix_of fixes.now)) (with_blobs news.now t)) }
 {
     keep_in(tx, news)?;
     put_fixes(tx, fixes)
@@ -60,7 +62,9 @@ pub(crate) fn set_rows<S: Alter>(
     were_none: bool,
 ) -> Result<(), Error>
     requires { conn.old.in_transaction ≡ false }
-    ensures { (t : Tables) (next : ℕ) (answers : List KeptAnswer) → (IsTrue were_none → t.fixes ≡ []) → IsCall S.Store conn.old conn.new result (λ db. HoldsListed next answers db t) (λ db. HoldsListed next answers db (with_fix_rows (map fix_row (map fix_of fixes.now)) (with_blobs news.now t))) }
+    ensures { (t : Tables) (next : ℕ) (answers : List KeptAnswer) → (IsTrue were_none → t.fixes ≡ [])
+        → IsCall S.Store conn.old conn.new result (λ db. HoldsListed next answers db t)
+        (λ db. HoldsListed next answers db (with_fix_rows (map fix_row (map fix_of fixes.now)) (with_blobs news.now t))) }
 {
     if were_none && fixes.is_empty() {
         return keep_rows(conn, news);
@@ -75,7 +79,9 @@ fn replace_rows<S: Alter>(
     fixes: &[SharedFix],
 ) -> Result<(), Error>
     requires { conn.old.in_transaction ≡ false }
-    ensures { (t : Tables) (next : ℕ) (answers : List KeptAnswer) → IsCall S.Store conn.old conn.new result (λ db. HoldsListed next answers db t) (λ db. HoldsListed next answers db (with_fix_rows (map fix_row (map fix_of fixes.now)) (with_blobs news.now t))) }
+    ensures { (t : Tables) (next : ℕ) (answers : List KeptAnswer)
+        → IsCall S.Store conn.old conn.new result (λ db. HoldsListed next answers db t)
+        (λ db. HoldsListed next answers db (with_fix_rows (map fix_row (map fix_of fixes.now)) (with_blobs news.now t))) }
 {
     let mut tx = conn.transaction();
     set_in(&mut tx, news, fixes)?;

@@ -23,7 +23,7 @@ ghost use Rattle.repo_store.specs.Answers.{HaveOwnKeys};
 ghost use Rattle.repo_store.specs.Bounded.{AreBoundedRows, AreVersionRows, key_cmp};
 ghost use Rattle.repo_store.specs.Complete.{IsComplete};
 ghost use Rattle.store_faults.specs.Faults.{IsDamage};
-ghost use Rattle.repo_store.specs.FromRows.{AreRefused, AreRowsWithin, IsSame, rows_in, tables_with};
+ghost use Rattle.repo_store.specs.FromRows.{AreRowsRefused, AreRowsWithin, IsSame, tables_of_rows, tables_with};
 ghost use Rattle.repo_store.specs.Index.{key_of};
 ghost use Rattle.repo_store.specs.Kept.{limiting};
 ghost use Rattle.store_faults.specs.Limits.{IsLimit, first_limit};
@@ -51,14 +51,15 @@ pub(crate) use uses::follow_uses;
 /// The lists that these rows hold, except for the order of the answers: that of the last row comes first.
 fn lists_of(alloc: Global, limit: u32, rows: StoreRows) -> Result<Lists, StoreFault>
     requires { IsLimit limit }
-    ensures same { IfOk result (λ lists. (meta : List MetaRow) → IsSame (rows_in meta rows) (tables_with meta lists.kept)) }
+    ensures same { IfOk result (λ lists. (meta : List MetaRow)
+        → IsSame (tables_of_rows meta rows) (tables_with meta lists.kept)) }
     ensures order { IfOk result (λ lists. map answer_row lists.kept.answers ≡ reverse rows.answers.items) }
     ensures limit { IfOk result (λ lists. lists.kept.limit ≡ limit) }
     ensures next { IfOk result (λ lists. lists.next ≡ 1) }
     ensures complete { IfOk result (λ lists. (limit : ℕ) → IsLimit limit → IsComplete (limiting limit lists.kept)) }
     ensures answers { IfOk result (λ lists. HaveOwnKeys lists.kept.answers × TellKeys lists.kept.answers) }
-    ensures obeys { OnOk result ((meta : List MetaRow) → AreStoreRows (rows_in meta rows)) }
-    ensures broken { IfErr result (IsDamage ((meta : List MetaRow) → ¬ AreStoreRows (rows_in meta rows))) }
+    ensures obeys { OnOk result ((meta : List MetaRow) → AreStoreRows (tables_of_rows meta rows)) }
+    ensures broken { IfErr result (IsDamage ((meta : List MetaRow) → ¬ AreStoreRows (tables_of_rows meta rows))) }
 {
     let StoreRows {
         blobs,
@@ -85,12 +86,13 @@ fn lists_within(
     uses: &[UseRow],
 ) -> Result<Lists, StoreFault>
     requires { IsLimit limit }
-    ensures same { IfOk result (λ lists. (meta : List MetaRow) → IsSame (rows_in meta rows) (tables_with meta lists.kept)) }
+    ensures same { IfOk result (λ lists. (meta : List MetaRow)
+        → IsSame (tables_of_rows meta rows) (tables_with meta lists.kept)) }
     ensures limit { IfOk result (λ lists. lists.kept.limit ≡ limit) }
     ensures uses { IfOk result (λ lists. AreUsesOf lists.next uses.now lists.kept.answers) }
     ensures next { IfOk result (λ lists. IsNextTick lists.next) }
     ensures complete { IfOk result (λ lists. IsComplete lists.kept) }
-    ensures obeys { OnOk result ((meta : List MetaRow) → AreStoreRows (rows_in meta rows)) }
+    ensures obeys { OnOk result ((meta : List MetaRow) → AreStoreRows (tables_of_rows meta rows)) }
     ensures broken { IfErr result (IsDamage (¬ AreRowsWithin limit rows uses.now)) }
 {
     let mut lists = lists_of(alloc, limit, rows)?;
@@ -108,12 +110,13 @@ pub(crate) fn second_lists_of(
     tables: TableRows,
     uses: Vec<UseRow>,
 ) -> Result<Lists, StoreFault>
-    ensures same { IfOk result (λ lists. IsSame (rows_in tables.meta.items tables.store) (tables_of lists.kept)) }
+    ensures same { IfOk result (λ lists. IsSame (tables_of_rows tables.meta.items tables.store) (tables_of lists.kept)) }
     ensures uses { IfOk result (λ lists. AreUsesOf lists.next uses.items lists.kept.answers) }
     ensures next { IfOk result (λ lists. IsNextTick lists.next) }
     ensures complete { IfOk result (λ lists. IsComplete lists.kept) }
-    ensures obeys { OnOk result (AreStoreRows (rows_in tables.meta.items tables.store)) }
-    ensures refused { IfErr result (AreRefused (AreVersionRows tables.meta.items) (AreBoundedRows (rows_in tables.meta.items tables.store) uses.items)) }
+    ensures obeys { OnOk result (AreStoreRows (tables_of_rows tables.meta.items tables.store)) }
+    ensures refused { IfErr result (AreRowsRefused (AreVersionRows tables.meta.items)
+        (AreBoundedRows (tables_of_rows tables.meta.items tables.store) uses.items)) }
 {
     let TableRows { meta, store } = tables;
     if !is_second_version(meta.as_slice()) {
@@ -128,14 +131,16 @@ pub(crate) fn second_lists_of(
 /// The lists of a store of version 1, with the answers in the order that a migration gives them. The answers
 /// must come in the order of their keys: any other order is `Sql`.
 pub(crate) fn first_lists_of(alloc: Global, tables: TableRows) -> Result<Lists, StoreFault>
-    ensures same { IfOk result (λ lists. IsSame (rows_in tables.meta.items tables.store) (first_tables_of lists.kept)) }
+    ensures same { IfOk result (λ lists. IsSame (tables_of_rows tables.meta.items tables.store)
+        (first_tables_of lists.kept)) }
     ensures fall { IfOk result (λ lists. IsAscending (λ a b. key_cmp (key_of b) (key_of a) ≡ Less) lists.kept.answers) }
     ensures limit { IfOk result (λ lists. lists.kept.limit ≡ first_limit) }
     ensures next { IfOk result (λ lists. lists.next ≡ 1) }
     ensures complete { IfOk result (λ lists. (limit : ℕ) → IsLimit limit → IsComplete (limiting limit lists.kept)) }
     ensures answers { IfOk result (λ lists. HaveOwnKeys lists.kept.answers × TellKeys lists.kept.answers) }
-    ensures obeys { OnOk result (AreStoreRows (rows_in tables.meta.items tables.store)) }
-    ensures refused { IfErr result (AreRefused (AreFirstVersionRows tables.meta.items) (AreStoreRows (rows_in tables.meta.items tables.store))) }
+    ensures obeys { OnOk result (AreStoreRows (tables_of_rows tables.meta.items tables.store)) }
+    ensures refused { IfErr result (AreRowsRefused (AreFirstVersionRows tables.meta.items)
+        (AreStoreRows (tables_of_rows tables.meta.items tables.store))) }
 {
     let TableRows { meta, store } = tables;
     if !is_first_version(meta.as_slice()) {

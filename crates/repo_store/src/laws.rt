@@ -24,7 +24,8 @@ use crate::limits::GREATEST_TICK;
 /// contents in some order. So trees that a crash leaves as a store with one of them (`trees`) are no store
 /// with another.
 pub fn a_database_holds_one_repository()
-    ensures tables { (db : Database) (a b : Kept) → IsComplete a → IsComplete b → HoldsStore db a → HoldsStore db b → AreAlike a b }
+    ensures tables { (db : Database) (a b : Kept) → IsComplete a → IsComplete b → HoldsStore db a → HoldsStore db b
+        → AreAlike a b }
     ensures trees { (trees : Trees) (a b : Kept) → Leaves a trees → Leaves b trees → AreAlike a b }
 {}
 
@@ -32,7 +33,8 @@ pub fn a_database_holds_one_repository()
 /// no store. So `open` refuses a database that holds a complete one (`tables`) only if memory or the database
 /// refuses.
 pub fn what_is_left_is_a_store()
-    ensures tables { (db : Database) (kept : Kept) (fault : StoreFault) → HoldsStore db kept → IsComplete kept → AreStoreRows (tables_of kept) → IsUnfit db fault → IsRefusal ⊥ ⊥ ⊥ fault }
+    ensures tables { (db : Database) (kept : Kept) (fault : StoreFault) → HoldsStore db kept → IsComplete kept
+        → AreStoreRows (tables_of kept) → IsUnfit db fault → IsRefusal ⊥ ⊥ ⊥ fault }
     ensures undamaged { (trees : Trees) (kept : Kept) → Leaves kept trees → ¬ IsUnfit (as_store trees) Damaged }
     ensures versioned { (trees : Trees) (kept : Kept) → Leaves kept trees → ¬ IsUnfit (as_store trees) NotAStore }
 {}

@@ -7,7 +7,7 @@ ghost use Rattle.std.specs.Str.{IsUtf8};
 ghost use Rattle.hook_base.specs.declared.file.FileEntry.{FileEntry};
 ghost use Rattle.hook_base.specs.Paths.{IsRepoPath};
 ghost use Rattle.hook_base.specs.Trees.{IsRising, IsRisingChanges, entry_of, put_file};
-ghost use Rattle.repo_store.specs.Accepted.{IsAccepted, accepted_files};
+ghost use Rattle.repo_store.specs.Accepted.{HasAcceptedFiles, accepted_files};
 ghost use Rattle.repo_store.specs.AnswerRefs.{copied_answer, stored_answer};
 ghost use Rattle.repo_store.specs.Answers.{HaveOwnKeys, KeptAnswer, answer_for};
 ghost use Rattle.repo_store.specs.Clashes.{Clashes};
@@ -15,7 +15,7 @@ ghost use Rattle.repo_store.specs.Complete.{IsComplete};
 ghost use Rattle.repo_store.specs.FileRefs.{copied_file};
 ghost use Rattle.repo_store.specs.Index.{key_of};
 ghost use Rattle.repo_store.specs.Kept.{FixCollides, HasLarge, accepting, committing, forgetting, keeping, limiting, nothing_kept, unstaging};
-ghost use Rattle.repo_store.specs.ListedAnswers.{HaveAnswer, IsNextTick, brought, first_key, last_key};
+ghost use Rattle.repo_store.specs.ListedAnswers.{HaveAnswer, IsNextTick, brought_answers, first_key, last_key};
 ghost use Rattle.repo_store.specs.Lists.{commit_of, file_of, fix_of, repository_of};
 ghost use Rattle.repo_store.specs.Contents.{Collides, with_changes, with_new};
 ghost use Rattle.store_faults.specs.Faults.{IsDamage, IsRefusal};
@@ -28,7 +28,7 @@ ghost use Rattle.repo_store.specs.Log.{log_from};
 ghost use Rattle.repo_store.specs.Remembered.{TellsKey};
 ghost use Rattle.repo_store.specs.Remembering.{AnyCollides, AreSmall, HasPlacedKey, SomeCollides, with_contents};
 ghost use Rattle.repo_store.specs.UsedAnswers.{in_front};
-ghost use Rattle.repo_store.specs.Repository.{Commit, commit_at, fixed_bytes, last_tree, staged_changes, tree_at, with_staged};
+ghost use Rattle.repo_store.specs.Repository.{Commit, commit_at, fixed_bytes, last_tree, staged_changes, tree_at, with_staged_file};
 ghost use Rattle.repo_store.specs.Sound.{IsSound};
 ghost use Rattle.repo_store.specs.SoundAnswers.{IsSoundAnswer, KeepToSeen};
 ghost use Rattle.repo_store.specs.WrittenAnswers.{contents_for, contents_of_key};
@@ -42,7 +42,7 @@ use crate::contents::Contents;
 use crate::differences::{are_same_rows, differ_at};
 use crate::files::{commit_with, count_path_bytes, has_path, may_put, put_file, take_out};
 use crate::from_rows::follow_uses;
-use crate::known::digest_of;
+use crate::known_digests::digest_of;
 use crate::look_ups::{bytes_at, file_at, fixed_at, shown_at};
 use crate::shared::{ListedFile, SharedCommit, SharedFix};
 use crate::shared_answer::SharedAnswer;
@@ -87,7 +87,9 @@ impl Model for Lists {
         answers = lists.answers.answers;
         limit = lists.answers.limit;
       };
-      has_room = nat_lt (vec_len lists.history) (vec_capacity lists.history) && nat_lt (vec_len lists.staged) (vec_capacity lists.staged);
+      has_room =
+          nat_lt (vec_len lists.history) (vec_capacity lists.history) && nat_lt (vec_len lists.staged)
+          (vec_capacity lists.staged);
       next = lists.answers.next;
     } };
 
@@ -119,7 +121,13 @@ impl Lists {
         answers: AnswerList,
     ) -> Lists
         requires { IsSound (repository_of history.items staged.items fixes.items) }
-        ensures kept { result.kept ≡ record { repo = repository_of history.items staged.items fixes.items; contents = contents; answers = answers.answers; limit = answers.limit } }
+        ensures kept { result.kept ≡ record {
+          repo = repository_of history.items staged.items fixes.items;
+          contents =
+              contents;
+          answers = answers.answers;
+          limit = answers.limit;
+        } }
         ensures next { result.next ≡ answers.next }
     {
         let staged_bytes = count_path_bytes(staged.as_slice());
@@ -176,7 +184,8 @@ impl Lists {
         ensures content { IfOk result (λ content. content ≡ bytes.now) }
         ensures kept { OnOk result (self.new ≡ record self.old { kept = keeping bytes.now self.old.kept }) }
         ensures same { OnErr result (self.new ≡ self.old) }
-        ensures why { IfErr result (IsRefusal (¬ IsSmall bytes.now) ⊥ (IsSmall bytes.now × Collides bytes.now self.old.kept.contents)) }
+        ensures why { IfErr result (IsRefusal (¬ IsSmall bytes.now) ⊥
+            (IsSmall bytes.now × Collides bytes.now self.old.kept.contents)) }
         ensures small { OnOk result (IsSmall bytes.now) }
         ensures apart { OnOk result (¬ Collides bytes.now self.old.kept.contents) }
     {
@@ -188,7 +197,8 @@ impl Lists {
         ensures content { IfOk result (λ content. content ≡ bytes.now) }
         ensures kept { OnOk result (self.new ≡ record self.old { kept = keeping bytes.now self.old.kept }) }
         ensures same { OnErr result (self.new ≡ self.old) }
-        ensures why { IfErr result (IsRefusal (¬ IsSmall bytes.now) ⊥ (IsSmall bytes.now × Collides bytes.now self.old.kept.contents)) }
+        ensures why { IfErr result (IsRefusal (¬ IsSmall bytes.now) ⊥
+            (IsSmall bytes.now × Collides bytes.now self.old.kept.contents)) }
         ensures small { OnOk result (IsSmall bytes.now) }
         ensures apart { OnOk result (¬ Collides bytes.now self.old.kept.contents) }
     {
@@ -201,7 +211,10 @@ impl Lists {
 
     /// Forgets the blobs from an index on.
     pub(crate) fn forget_since(&mut self, place: usize)
-        ensures { self.new ≡ record self.old { kept = record self.old.kept { contents = take place self.old.kept.contents } } }
+        ensures { self.new ≡ record self.old {
+          kept = record self.old.kept
+              { contents = take place self.old.kept.contents };
+        } }
     {
         self.contents.truncate(place);
     }
@@ -214,12 +227,18 @@ impl Lists {
         mode: Mode,
         bytes: &[u8],
     ) -> Result<ListedFile, StoreFault>
-        ensures file { IfOk result (λ file. file_of file ≡ record { path = path.now; entry = record { mode = mode; bytes = bytes.now } }) }
+        ensures file { IfOk result (λ file. file_of file
+            ≡ record { path = path.now; entry = record { mode = mode; bytes = bytes.now } }) }
         ensures kept { OnOk result (self.new.kept ≡ keeping bytes.now self.old.kept) }
         ensures room { OnOk result (self.new.has_room ≡ true) }
-        ensures within { OnOk result (IsSmall bytes.now × Fits (put_file path.now (record { mode = mode; bytes = bytes.now }) self.old.kept.repo.staged)) }
+        ensures within { OnOk result (IsSmall bytes.now
+            × Fits (put_file path.now (record { mode = mode; bytes = bytes.now }) self.old.kept.repo.staged)) }
         ensures same { OnErr result (self.new.kept ≡ self.old.kept) }
-        ensures why { IfErr result (IsRefusal (¬ IsSmall bytes.now) (IsSmall bytes.now × (¬ Fits (put_file path.now (record { mode = mode; bytes = bytes.now }) self.old.kept.repo.staged))) (IsSmall bytes.now × Fits (put_file path.now (record { mode = mode; bytes = bytes.now }) self.old.kept.repo.staged) × Collides bytes.now self.old.kept.contents)) }
+        ensures why { IfErr result (IsRefusal (¬ IsSmall bytes.now)
+            (IsSmall bytes.now × (¬ Fits (put_file path.now (record { mode = mode; bytes = bytes.now })
+            self.old.kept.repo.staged)))
+            (IsSmall bytes.now × Fits (put_file path.now (record { mode = mode; bytes = bytes.now })
+            self.old.kept.repo.staged) × Collides bytes.now self.old.kept.contents)) }
         ensures apart { OnOk result (¬ Collides bytes.now self.old.kept.contents) }
         ensures rising { IsRising self.old.kept.repo.staged }
         ensures path { IsRepoPath path.now }
@@ -249,8 +268,10 @@ impl Lists {
     /// Stages a file, for which there is room, and forgets the fixes.
     pub(crate) fn stage(&mut self, file: ListedFile)
         requires room { self.old.has_room ≡ true }
-        requires fits { Fits (put_file file.path (record { mode = file.mode; bytes = file.content }) self.old.kept.repo.staged) }
-        ensures { self.new.kept ≡ record self.old.kept { repo = with_staged file.path (record { mode = file.mode; bytes = file.content }) self.old.kept.repo } }
+        requires fits { Fits (put_file file.path (record { mode = file.mode; bytes = file.content })
+            self.old.kept.repo.staged) }
+        ensures { self.new.kept ≡ record self.old.kept
+            { repo = with_staged_file file.path (record { mode = file.mode; bytes = file.content }) self.old.kept.repo } }
     {
         let added = put_file(&mut self.staged, file);
         self.staged_bytes += added;
@@ -266,11 +287,13 @@ impl Lists {
 
     /// The next commit, of the staged files, with room for it. A refusal leaves everything as it was.
     pub(crate) fn prepare_commit(&mut self, message: &[u8]) -> Result<SharedCommit, StoreFault>
-        ensures commit { IfOk result (λ commit. commit_of commit ≡ record { message = message.now; tree = self.old.kept.repo.staged }) }
+        ensures commit { IfOk result (λ commit. commit_of commit
+            ≡ record { message = message.now; tree = self.old.kept.repo.staged }) }
         ensures room { OnOk result (self.new.has_room ≡ true) }
         ensures within { OnOk result (IsSmall message.now × (length self.old.kept.repo.history < most_commits)) }
         ensures same { self.new.kept ≡ self.old.kept }
-        ensures why { IfErr result (IsRefusal (¬ IsSmall message.now) (IsSmall message.now × (most_commits ≤ length self.old.kept.repo.history)) ⊥) }
+        ensures why { IfErr result (IsRefusal (¬ IsSmall message.now)
+            (IsSmall message.now × (most_commits ≤ length self.old.kept.repo.history)) ⊥) }
     {
         if message.len() > MOST_CONTENT_BYTES {
             return Err(StoreFault::TooLarge);
@@ -297,11 +320,14 @@ impl Lists {
     // A fix, whose contents are kept. A refusal leaves everything as it was.
     fn share_fix(&mut self, change: &Change) -> Result<SharedFix, StoreFault>
         ensures fix { IfOk result (λ fix. fix_of fix ≡ change.entry.now) }
-        ensures kept { OnOk result (self.new.kept ≡ record self.old.kept { contents = with_new change.entry.now.now self.old.kept.contents }) }
+        ensures kept { OnOk result (self.new.kept
+            ≡ record self.old.kept { contents = with_new change.entry.now.now self.old.kept.contents }) }
         ensures same { OnErr result (self.new.kept ≡ self.old.kept) }
         ensures within { OnOk result (¬ MatchOption change.entry.now.now ⊥ (λ bytes. ¬ IsSmall bytes)) }
-        ensures apart { OnOk result (¬ MatchOption change.entry.now.now ⊥ (λ bytes. Collides bytes self.old.kept.contents)) }
-        ensures why { IfErr result (IsRefusal (MatchOption change.entry.now.now ⊥ (λ bytes. ¬ IsSmall bytes)) ⊥ (MatchOption change.entry.now.now ⊥ (λ bytes. Collides bytes self.old.kept.contents))) }
+        ensures apart { OnOk result (¬ MatchOption change.entry.now.now ⊥
+            (λ bytes. Collides bytes self.old.kept.contents)) }
+        ensures why { IfErr result (IsRefusal (MatchOption change.entry.now.now ⊥ (λ bytes. ¬ IsSmall bytes)) ⊥
+            (MatchOption change.entry.now.now ⊥ (λ bytes. Collides bytes self.old.kept.contents))) }
     {
         let path = change.path.clone()?;
         match &change.now {
@@ -325,16 +351,20 @@ impl Lists {
 
     // The changes of staged files, whose contents are kept. After a refusal those of some changes are kept.
     fn share_fixes(&mut self, changes: &[Change]) -> Result<Vec<SharedFix>, StoreFault>
-        ensures fixes { IfOk result (λ fixes. map fix_of fixes.items ≡ staged_changes changes.now self.old.kept.repo.staged) }
-        ensures kept { OnOk result (self.new.kept.contents ≡ with_changes (staged_changes changes.now self.old.kept.repo.staged) self.old.kept.contents) }
+        ensures fixes { IfOk result (λ fixes. map fix_of fixes.items
+            ≡ staged_changes changes.now self.old.kept.repo.staged) }
+        ensures kept { OnOk result (self.new.kept.contents
+            ≡ with_changes (staged_changes changes.now self.old.kept.repo.staged) self.old.kept.contents) }
         ensures sound { IsSound self.old.kept.repo }
         ensures repo { self.new.kept.repo ≡ self.old.kept.repo }
         ensures answers { self.new.kept.answers ≡ self.old.kept.answers }
         ensures limit { self.new.kept.limit ≡ self.old.kept.limit }
         ensures front { take (length self.old.kept.contents) self.new.kept.contents ≡ self.old.kept.contents }
         ensures within { OnOk result (¬ HasLarge (staged_changes changes.now self.old.kept.repo.staged)) }
-        ensures apart { OnOk result (¬ FixCollides (staged_changes changes.now self.old.kept.repo.staged) self.old.kept.contents) }
-        ensures why { IfErr result (IsRefusal (HasLarge (staged_changes changes.now self.old.kept.repo.staged)) ⊥ (FixCollides (staged_changes changes.now self.old.kept.repo.staged) self.old.kept.contents)) }
+        ensures apart { OnOk result (¬ FixCollides (staged_changes changes.now self.old.kept.repo.staged)
+            self.old.kept.contents) }
+        ensures why { IfErr result (IsRefusal (HasLarge (staged_changes changes.now self.old.kept.repo.staged)) ⊥
+            (FixCollides (staged_changes changes.now self.old.kept.repo.staged) self.old.kept.contents)) }
     {
         let mut fixes = Vec::new(*self.staged.allocator());
         'changes: for change in changes {
@@ -355,14 +385,21 @@ impl Lists {
     /// The changes of staged files, whose contents are kept. A refusal leaves everything as it was.
     pub(crate) fn prepare_fixes(&mut self, changes: &[Change]) -> Result<Vec<SharedFix>, StoreFault>
         requires { IsRisingChanges changes.now }
-        ensures fixes { IfOk result (λ fixes. map fix_of fixes.items ≡ staged_changes changes.now self.old.kept.repo.staged) }
+        ensures fixes { IfOk result (λ fixes. map fix_of fixes.items
+            ≡ staged_changes changes.now self.old.kept.repo.staged) }
         ensures rising { IfOk result (λ fixes. IsRisingChanges (map fix_of fixes.items)) }
         ensures few { IfOk result (λ fixes. length (map fix_of fixes.items) ≤ most_files) }
-        ensures kept { OnOk result (self.new.kept ≡ record self.old.kept { contents = with_changes (staged_changes changes.now self.old.kept.repo.staged) self.old.kept.contents }) }
+        ensures kept { OnOk result (self.new.kept
+            ≡ record self.old.kept {
+              contents = with_changes (staged_changes changes.now self.old.kept.repo.staged)
+                  self.old.kept.contents;
+            }) }
         ensures same { OnErr result (self.new.kept ≡ self.old.kept) }
         ensures within { OnOk result (¬ HasLarge (staged_changes changes.now self.old.kept.repo.staged)) }
-        ensures apart { OnOk result (¬ FixCollides (staged_changes changes.now self.old.kept.repo.staged) self.old.kept.contents) }
-        ensures why { IfErr result (IsRefusal (HasLarge (staged_changes changes.now self.old.kept.repo.staged)) ⊥ (FixCollides (staged_changes changes.now self.old.kept.repo.staged) self.old.kept.contents)) }
+        ensures apart { OnOk result (¬ FixCollides (staged_changes changes.now self.old.kept.repo.staged)
+            self.old.kept.contents) }
+        ensures why { IfErr result (IsRefusal (HasLarge (staged_changes changes.now self.old.kept.repo.staged)) ⊥
+            (FixCollides (staged_changes changes.now self.old.kept.repo.staged) self.old.kept.contents)) }
     {
         let before = self.count();
         match self.share_fixes(changes) {
@@ -378,7 +415,8 @@ impl Lists {
     pub(crate) fn set_fixes(&mut self, fixes: Vec<SharedFix>)
         requires rising { IsRisingChanges (map fix_of fixes.items) }
         requires few { length (map fix_of fixes.items) ≤ most_files }
-        ensures { self.new.kept ≡ record self.old.kept { repo = record self.old.kept.repo { fixes = map fix_of fixes.items } } }
+        ensures { self.new.kept ≡ record self.old.kept
+            { repo = record self.old.kept.repo { fixes = map fix_of fixes.items } } }
     {
         self.fixes = fixes;
     }
@@ -445,7 +483,8 @@ impl Lists {
 
     /// The files of a commit, or `None` if no commit has this number.
     pub(crate) fn tree_of(&self, number: u32) -> Result<Option<Tree>, OutOfMemory>
-        ensures { IfOk result (λ tree. tree ≡ option_map (λ (commit : Commit). commit.tree) (commit_at number self.now.kept.repo.history)) }
+        ensures { IfOk result (λ tree. tree ≡ option_map (λ (commit : Commit). commit.tree)
+            (commit_at number self.now.kept.repo.history)) }
     {
         match self.commit_at(number) {
             Some(commit) => {
@@ -458,7 +497,8 @@ impl Lists {
 
     /// The message of a commit, or `None` if no commit has this number.
     pub(crate) fn message_of(&self, number: u32) -> Option<&[u8]>
-        ensures { option_copied result ≡ option_map (λ (commit : Commit). commit.message) (commit_at number self.now.kept.repo.history) }
+        ensures { option_copied result ≡ option_map (λ (commit : Commit). commit.message)
+            (commit_at number self.now.kept.repo.history) }
     {
         match self.commit_at(number) {
             Some(commit) => Some(commit.message.as_slice()),
@@ -468,7 +508,8 @@ impl Lists {
 
     /// The mode of a staged file, or `None` if the path isn't staged.
     pub(crate) fn staged_mode(&self, path: &RepoPath) -> Option<Mode>
-        ensures { result ≡ option_map (λ (entry : FileEntry). entry.mode) (entry_of path.now self.now.kept.repo.staged) }
+        ensures { result ≡ option_map (λ (entry : FileEntry). entry.mode)
+            (entry_of path.now self.now.kept.repo.staged) }
     {
         match file_at(self.staged.as_slice(), path) {
             Some(file) => Some(file.mode()),
@@ -478,7 +519,8 @@ impl Lists {
 
     /// The contents of a staged file, or `None` if the path isn't staged.
     pub(crate) fn staged_bytes(&self, path: &RepoPath) -> Option<&[u8]>
-        ensures { option_copied result ≡ option_map (λ (entry : FileEntry). entry.bytes) (entry_of path.now self.now.kept.repo.staged) }
+        ensures { option_copied result ≡ option_map (λ (entry : FileEntry). entry.bytes)
+            (entry_of path.now self.now.kept.repo.staged) }
     {
         bytes_at(self.staged.as_slice(), path)
     }
@@ -493,7 +535,8 @@ impl Lists {
     /// The contents of a commit's file, or `None` if no commit has the number or the commit has no file at
     /// the path.
     pub(crate) fn committed_bytes(&self, number: u32, path: &RepoPath) -> Option<&[u8]>
-        ensures { option_copied result ≡ option_map (λ (entry : FileEntry). entry.bytes) (entry_of path.now (tree_at number self.now.kept.repo.history)) }
+        ensures { option_copied result ≡ option_map (λ (entry : FileEntry). entry.bytes)
+            (entry_of path.now (tree_at number self.now.kept.repo.history)) }
     {
         match self.commit_at(number) {
             Some(commit) => bytes_at(commit.files.as_slice(), path),
@@ -538,14 +581,16 @@ impl Lists {
 
     /// Whether the staged files differ from those of the last commit.
     pub(crate) fn differs_from_head(&self) -> bool
-        ensures { IsComplete self.now.kept → IsTrue result ↔ (self.now.kept.repo.staged ≢ last_tree self.now.kept.repo.history) }
+        ensures { IsComplete self.now.kept → IsTrue result
+            ↔ (self.now.kept.repo.staged ≢ last_tree self.now.kept.repo.history) }
     {
         !are_same_rows(self.staged.as_slice(), self.head_files())
     }
 
     /// Whether what is staged at a path differs from what the last commit has there.
     pub(crate) fn differs_from_head_at(&self, path: &RepoPath) -> bool
-        ensures { IsComplete self.now.kept → IsTrue result ↔ (entry_of path.now self.now.kept.repo.staged ≢ entry_of path.now (last_tree self.now.kept.repo.history)) }
+        ensures { IsComplete self.now.kept → IsTrue result
+            ↔ (entry_of path.now self.now.kept.repo.staged ≢ entry_of path.now (last_tree self.now.kept.repo.history)) }
     {
         differ_at(self.staged.as_slice(), self.head_files(), path)
     }
@@ -567,10 +612,17 @@ impl Lists {
         requires { KeepToSeen answer.changes.now seen.now }
         ensures answer { IfOk result (λ made. made ≡ copied_answer words.now seen.now answer.entry) }
         ensures sound { OnOk result (IsSoundAnswer (copied_answer words.now seen.now answer.entry)) }
-        ensures kept { OnOk result (self.new.kept ≡ record self.old.kept { contents = with_contents (contents_for (copied_answer words.now seen.now answer.entry)) self.old.kept.contents }) }
+        ensures kept { OnOk result (self.new.kept
+            ≡ record self.old.kept {
+              contents = with_contents
+                  (contents_for (copied_answer words.now seen.now answer.entry)) self.old.kept.contents;
+            }) }
         ensures same { OnErr result (self.new.kept ≡ self.old.kept) }
-        ensures all { OnOk result (AreAllKept (contents_for (copied_answer words.now seen.now answer.entry)) self.old.kept.contents self.new.kept.contents) }
-        ensures why { IfErr result (IsRefusal (¬ AreSmall (contents_for (copied_answer words.now seen.now answer.entry))) ⊥ (SomeCollides (contents_for (copied_answer words.now seen.now answer.entry)) self.old.kept.contents)) }
+        ensures all { OnOk result (AreAllKept (contents_for (copied_answer words.now seen.now answer.entry))
+            self.old.kept.contents self.new.kept.contents) }
+        ensures why { IfErr result (IsRefusal
+            (¬ AreSmall (contents_for (copied_answer words.now seen.now answer.entry))) ⊥
+            (SomeCollides (contents_for (copied_answer words.now seen.now answer.entry)) self.old.kept.contents)) }
     {
         let alloc = *self.staged.allocator();
         keep_answer(alloc, &mut self.contents, words, seen, answer)
@@ -584,10 +636,14 @@ impl Lists {
         seen: &Tree,
     ) -> Result<Option<FoundAnswer>, StoreFault>
         requires { IsComplete self.now.kept }
-        ensures found { IfOk result (λ found. option_map (λ (found : FoundAnswer). found.answer) found ≡ option_map stored_answer (answer_for words.now seen.now self.now.kept.answers)) }
-        ensures key { IfOk result (λ found. IfSome found (λ found. HaveAnswer words.now seen.now self.now.kept.answers (found.words, found.seen))) }
-        ensures apart { OnOk result (HasPlacedKey self.now.kept.contents words.now seen.now → ¬ AnyCollides (contents_of_key words.now seen.now) self.now.kept.contents) }
-        ensures why { IfErr result (IsRefusal ⊥ ⊥ (AnyCollides (contents_of_key words.now seen.now) self.now.kept.contents)) }
+        ensures found { IfOk result (λ found. option_map (λ (found : FoundAnswer). found.answer) found
+            ≡ option_map stored_answer (answer_for words.now seen.now self.now.kept.answers)) }
+        ensures key { IfOk result (λ found. IfSome found
+            (λ found. HaveAnswer words.now seen.now self.now.kept.answers (found.words, found.seen))) }
+        ensures apart { OnOk result (HasPlacedKey self.now.kept.contents words.now seen.now
+            → ¬ AnyCollides (contents_of_key words.now seen.now) self.now.kept.contents) }
+        ensures why { IfErr result (IsRefusal ⊥ ⊥
+            (AnyCollides (contents_of_key words.now seen.now) self.now.kept.contents)) }
     {
         let alloc = *self.staged.allocator();
         let Some(words) = known_words(alloc, &self.contents, words)? else {
@@ -642,8 +698,10 @@ impl Lists {
 
     /// Whether an answer with the key of this one is cached.
     pub(crate) fn has_key_of(&self, answer: &SharedAnswer) -> bool
-        ensures there { IsTrue result → Any (λ (other : KeptAnswer). key_of other ≡ key_of answer.now) self.now.kept.answers }
-        ensures absent { result ≡ false → AllByRecursion (λ (other : KeptAnswer). ¬ (key_of other ≡ key_of answer.now)) self.now.kept.answers }
+        ensures there { IsTrue result → Any (λ (other : KeptAnswer). key_of other ≡ key_of answer.now)
+            self.now.kept.answers }
+        ensures absent { result ≡ false → AllByRecursion (λ (other : KeptAnswer). ¬ (key_of other ≡ key_of answer.now))
+            self.now.kept.answers }
     {
         let words = answer.words_record().digest();
         let seen = answer.seen_record().digest();
@@ -660,7 +718,8 @@ impl Lists {
 
     /// The key of the last answer, if there is one more than there may be.
     pub(crate) fn surplus(&self) -> Option<([u8; 32], [u8; 32])>
-        ensures over { IfSome result (λ key. (self.now.kept.limit < length self.now.kept.answers) × (last_key self.now.kept.answers ≡ Some key)) }
+        ensures over { IfSome result (λ key. (self.now.kept.limit < length self.now.kept.answers)
+            × (last_key self.now.kept.answers ≡ Some key)) }
         ensures within { IfNone result (length self.now.kept.answers ≤ self.now.kept.limit) }
     {
         if self.answers.len() <= self.answers.limit() as usize {
@@ -704,7 +763,8 @@ impl Lists {
 
     /// Brings the answer whose key has these digests to the front.
     pub(crate) fn bring_answer(&mut self, words: [u8; 32], seen: [u8; 32])
-        ensures { self.new.kept ≡ record self.old.kept { answers = brought (words, seen) self.old.kept.answers } }
+        ensures { self.new.kept ≡ record self.old.kept
+            { answers = brought_answers (words, seen) self.old.kept.answers } }
     {
         self.answers.bring(words, seen);
     }
@@ -747,7 +807,7 @@ impl Lists {
 
     /// What the fixes make of the staged files.
     pub(crate) fn prepare_accept(&self) -> Result<Accepted, OutOfMemory>
-        ensures accepted { IfOk result (IsAccepted self.now.kept.repo.fixes self.now.kept.repo.staged) }
+        ensures accepted { IfOk result (HasAcceptedFiles self.now.kept.repo.fixes self.now.kept.repo.staged) }
         ensures rising { IfOk result (λ accepted. IsRising (map file_of (accepted_files accepted))) }
     {
         let alloc = *self.staged.allocator();
@@ -756,7 +816,7 @@ impl Lists {
 
     /// Stages the files with the fixes applied, and forgets the fixes.
     pub(crate) fn accept(&mut self, accepted: Accepted)
-        requires accepted { IsAccepted self.old.kept.repo.fixes self.old.kept.repo.staged accepted }
+        requires accepted { HasAcceptedFiles self.old.kept.repo.fixes self.old.kept.repo.staged accepted }
         requires rising { IsRising (map file_of (accepted_files accepted)) }
         ensures { self.new.kept ≡ accepting self.old.kept }
     {

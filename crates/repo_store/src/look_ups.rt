@@ -27,7 +27,8 @@ pub(crate) fn file_at<'a>(files: &'a [ListedFile], path: &RepoPath) -> Option<&'
 /// The contents of the file of a path, if there is one.
 pub(crate) fn bytes_at<'a>(files: &'a [ListedFile], path: &RepoPath) -> Option<&'a [u8]>
     requires { IsRising (map file_of files.now) }
-    ensures { option_copied result ≡ option_map (λ (entry : FileEntry). entry.bytes) (entry_of path.now (map file_of files.now)) }
+    ensures { option_copied result ≡ option_map (λ (entry : FileEntry). entry.bytes)
+        (entry_of path.now (map file_of files.now)) }
 {
     match file_at(files, path) {
         Some(file) => Some(file.content().as_slice()),

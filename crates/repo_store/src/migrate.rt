@@ -2,7 +2,7 @@
 
 ghost use Rattle.std.specs.Prelude.{◌≡◌, false, ℕ, ◌+◌, ◌≤◌, List, [], ◌++◌, pos, length, map, reverse, take, OnOk};
 ghost use Rattle.store_tables.specs.Steps.{IsMade};
-ghost use Rattle.store_tables.specs.Tables.{AreKeyed, Holds, Tables, with_meta, with_new_meta};
+ghost use Rattle.store_tables.specs.Tables.{AreKeyed, HoldsTables, Tables, with_meta, with_new_meta};
 ghost use Rattle.store_tables.specs.Uses.{HoldsRows};
 ghost use Rattle.repo_store.specs.Answers.{HaveOwnKeys, KeptAnswer};
 ghost use Rattle.repo_store.specs.Bounded.{HoldsListed};
@@ -27,7 +27,10 @@ fn list_in<S: Alter>(
     requires { dropped ≤ length keys.now }
     ensures same_reference { tx.new.conn.ghost_name ≡ tx.old.conn.ghost_name }
     ensures few { OnOk result (length keys.now ≤ greatest_tick) }
-    ensures made { (t : Tables) → IsMade S.Store tx.old.conn.now tx.new.conn.now result (λ db. Holds db t × AreKeyed (db.trees 0)) (λ db. HoldsRows db (without_all (take dropped keys.now) t) (without_uses_of (take dropped keys.now) (key_rows (reverse keys.now)))) }
+    ensures made { (t : Tables) → IsMade S.Store tx.old.conn.now tx.new.conn.now result
+        (λ db. HoldsTables db t × AreKeyed (db.trees 0))
+        (λ db. HoldsRows db (without_all (take dropped keys.now) t)
+        (without_uses_of (take dropped keys.now) (key_rows (reverse keys.now)))) }
 {
     make_uses(tx)?;
     number_in(tx, keys)?;
@@ -43,7 +46,11 @@ fn mark_in<S: Alter>(
     requires { dropped ≤ length keys.now }
     ensures same_reference { tx.new.conn.ghost_name ≡ tx.old.conn.ghost_name }
     ensures few { OnOk result (length keys.now ≤ greatest_tick) }
-    ensures made { (t : Tables) → IsMade S.Store tx.old.conn.now tx.new.conn.now result (λ db. Holds db t × AreKeyed (db.trees 0)) (λ db. HoldsRows db (with_new_meta version_row (with_meta (limit_row (pos first_limit)) (without_all (take dropped keys.now) t))) (without_uses_of (take dropped keys.now) (key_rows (reverse keys.now)))) }
+    ensures made { (t : Tables) → IsMade S.Store tx.old.conn.now tx.new.conn.now result
+        (λ db. HoldsTables db t × AreKeyed (db.trees 0))
+        (λ db. HoldsRows db (with_new_meta version_row
+        (with_meta (limit_row (pos first_limit)) (without_all (take dropped keys.now) t)))
+        (without_uses_of (take dropped keys.now) (key_rows (reverse keys.now)))) }
 {
     list_in(tx, keys, dropped)?;
     put_meta(tx, "limit", FIRST_LIMIT)?;
@@ -60,7 +67,13 @@ fn migrate_in<S: Alter>(
     requires { dropped ≤ length keys.now }
     ensures same_reference { tx.new.conn.ghost_name ≡ tx.old.conn.ghost_name }
     ensures few { OnOk result (length keys.now ≤ greatest_tick) }
-    ensures made { (t : Tables) (front : List KeptAnswer) (back : List KeptAnswer) → keys.now ≡ map key_of (reverse (front ++ back)) → dropped ≡ length back → HaveOwnKeys (front ++ back) → TellTheirKeys (front ++ back) back → IsMade S.Store tx.old.conn.now tx.new.conn.now result (λ db. Holds db t × AreKeyed (db.trees 0)) (λ db. HoldsListed (length (front ++ back) + 1) front db (with_new_meta version_row (with_meta (limit_row (pos first_limit)) (without_all (map key_of (reverse back)) t)))) }
+    ensures made { (t : Tables) (front : List KeptAnswer) (back : List KeptAnswer)
+        → keys.now ≡ map key_of (reverse (front ++ back)) → dropped ≡ length back → HaveOwnKeys (front ++ back)
+        → TellTheirKeys (front ++ back) back → IsMade S.Store tx.old.conn.now tx.new.conn.now result
+        (λ db. HoldsTables db t × AreKeyed (db.trees 0))
+        (λ db. HoldsListed (length (front ++ back) + 1) front db
+        (with_new_meta version_row (with_meta (limit_row (pos first_limit))
+        (without_all (map key_of (reverse back)) t)))) }
 {
     mark_in(tx, keys, dropped)
 }
@@ -76,7 +89,14 @@ pub(crate) fn migrate_rows<S: Alter>(
     requires outside { conn.old.in_transaction ≡ false }
     requires part { dropped ≤ length keys.now }
     ensures few { OnOk result (length keys.now ≤ greatest_tick) }
-    ensures call { (t : Tables) (front : List KeptAnswer) (back : List KeptAnswer) → keys.now ≡ map key_of (reverse (front ++ back)) → dropped ≡ length back → HaveOwnKeys (front ++ back) → TellTheirKeys (front ++ back) back → IsCall S.Store conn.old conn.new result (λ db. Holds db t × AreKeyed (db.trees 0)) (λ db. (length keys.now ≤ greatest_tick) × HoldsListed (length (front ++ back) + 1) front db (with_new_meta version_row (with_meta (limit_row (pos first_limit)) (without_all (map key_of (reverse back)) t)))) }
+    ensures call { (t : Tables) (front : List KeptAnswer) (back : List KeptAnswer)
+        → keys.now ≡ map key_of (reverse (front ++ back)) → dropped ≡ length back → HaveOwnKeys (front ++ back)
+        → TellTheirKeys (front ++ back) back → IsCall S.Store conn.old conn.new result
+        (λ db. HoldsTables db t × AreKeyed (db.trees 0))
+        (λ db. (length keys.now ≤ greatest_tick)
+        × HoldsListed (length (front ++ back) + 1) front db
+        (with_new_meta version_row (with_meta (limit_row (pos first_limit))
+        (without_all (map key_of (reverse back)) t)))) }
 {
     let mut tx = conn.transaction();
     migrate_in(&mut tx, keys, dropped)?;

@@ -69,7 +69,8 @@ pub(crate) fn has_first_tables<S: Alter>(conn: &Connection<S>) -> bool
     requires { conn.now.in_transaction ≡ false }
     ensures ours { IsTrue result ↔ ((state S.Store conn.now).now.schema ≡ store_schema) }
     ensures live { IsTrue (state S.Store conn.now).is_open → IsDatabase (state S.Store conn.now).now }
-    ensures settled { IsTrue (state S.Store conn.now).is_open → (state S.Store conn.now).now ≡ (state S.Store conn.now).committed }
+    ensures settled { IsTrue (state S.Store conn.now).is_open
+        → (state S.Store conn.now).now ≡ (state S.Store conn.now).committed }
 {
     let _settled = conn.is_autocommit();
     has_store_tables(conn)
@@ -80,7 +81,8 @@ pub(crate) fn has_tables<S: Alter>(conn: &Connection<S>) -> bool
     requires { conn.now.in_transaction ≡ false }
     ensures ours { IsTrue result ↔ ((state S.Store conn.now).now.schema ≡ schema_with_uses) }
     ensures live { IsTrue (state S.Store conn.now).is_open → IsDatabase (state S.Store conn.now).now }
-    ensures settled { IsTrue (state S.Store conn.now).is_open → (state S.Store conn.now).now ≡ (state S.Store conn.now).committed }
+    ensures settled { IsTrue (state S.Store conn.now).is_open
+        → (state S.Store conn.now).now ≡ (state S.Store conn.now).committed }
 {
     let _settled = conn.is_autocommit();
     has_uses_tables(conn)

@@ -33,7 +33,8 @@ fn put_in_place<S: Alter>(
 ) -> Result<(), Error>
     requires { key_of answer.now ≡ (words.now, seen.now) }
     ensures same_reference { tx.new.conn.ghost_name ≡ tx.old.conn.ghost_name }
-    ensures step { IsStep S.Store tx.old.conn.now tx.new.conn.now result (λ t. with_answer_row (answer_row answer.now) (with_blobs news.now t)) }
+    ensures step { IsStep S.Store tx.old.conn.now tx.new.conn.now result
+        (λ t. with_answer_row (answer_row answer.now) (with_blobs news.now t)) }
 {
     keep_in(tx, news)?;
     let output = answer.output().digest();
@@ -52,7 +53,10 @@ fn remember_in<S: Alter>(
 ) -> Result<(), Error>
     requires { tick ≤ greatest_tick }
     ensures same_reference { tx.new.conn.ghost_name ≡ tx.old.conn.ghost_name }
-    ensures made { (t : Tables) (rows : List UseRow) → IsMade S.Store tx.old.conn.now tx.new.conn.now result (λ db. HoldsRows db t rows) (λ db. HoldsRows db (with_answer_row (answer_row answer.now) (with_blobs news.now t)) (with_use (use_row answer.now tick) (without_use (key_of answer.now).0 (key_of answer.now).1 rows))) }
+    ensures made { (t : Tables) (rows : List UseRow)
+        → IsMade S.Store tx.old.conn.now tx.new.conn.now result (λ db. HoldsRows db t rows)
+        (λ db. HoldsRows db (with_answer_row (answer_row answer.now) (with_blobs news.now t))
+        (with_use (use_row answer.now tick) (without_use (key_of answer.now).0 (key_of answer.now).1 rows))) }
 {
     let words = answer.words_record().digest();
     let seen = answer.seen_record().digest();
@@ -70,7 +74,10 @@ pub(crate) fn remember_rows<S: Alter>(
 ) -> Result<(), Error>
     requires outside { conn.old.in_transaction ≡ false }
     requires fits { tick ≤ greatest_tick }
-    ensures { (t : Tables) (answers : List KeptAnswer) → AllByRecursion (TellsKey answer.now) answers → 1 ≤ tick → IsCall S.Store conn.old conn.new result (λ db. HoldsListed tick answers db t) (λ db. HoldsListed (tick + 1) (in_front answer.now answers) db (with_answer_row (answer_row answer.now) (with_blobs news.now t))) }
+    ensures { (t : Tables) (answers : List KeptAnswer) → AllByRecursion (TellsKey answer.now) answers → 1 ≤ tick
+        → IsCall S.Store conn.old conn.new result (λ db. HoldsListed tick answers db t)
+        (λ db. HoldsListed (tick + 1) (in_front answer.now answers) db
+        (with_answer_row (answer_row answer.now) (with_blobs news.now t))) }
 {
     let mut tx = conn.transaction();
     remember_in(&mut tx, news, answer, tick)?;
@@ -88,7 +95,12 @@ fn remember_in_place_in<S: Alter>(
 ) -> Result<(), Error>
     requires { tick ≤ greatest_tick }
     ensures same_reference { tx.new.conn.ghost_name ≡ tx.old.conn.ghost_name }
-    ensures made { (t : Tables) (rows : List UseRow) → IsMade S.Store tx.old.conn.now tx.new.conn.now result (λ db. HoldsRows db t rows) (λ db. HoldsRows db (without_answer words.now seen.now (with_answer_row (answer_row answer.now) (with_blobs news.now t))) (without_use words.now seen.now (with_use (use_row answer.now tick) (without_use (key_of answer.now).0 (key_of answer.now).1 rows)))) }
+    ensures made { (t : Tables) (rows : List UseRow)
+        → IsMade S.Store tx.old.conn.now tx.new.conn.now result (λ db. HoldsRows db t rows)
+        (λ db. HoldsRows db (without_answer words.now seen.now
+        (with_answer_row (answer_row answer.now) (with_blobs news.now t)))
+        (without_use words.now seen.now (with_use (use_row answer.now tick)
+        (without_use (key_of answer.now).0 (key_of answer.now).1 rows)))) }
 {
     remember_in(tx, news, answer, tick)?;
     drop_in(tx, words, seen)
@@ -106,7 +118,11 @@ pub(crate) fn remember_in_place_rows<S: Alter>(
 ) -> Result<(), Error>
     requires outside { conn.old.in_transaction ≡ false }
     requires fits { tick ≤ greatest_tick }
-    ensures { (t : Tables) (front : List KeptAnswer) (last : KeptAnswer) → key_of last ≡ (words.now, seen.now) → TakesPlace answer.now last front → 1 ≤ tick → IsCall S.Store conn.old conn.new result (λ db. HoldsListed tick (front ++ last ∷ []) db t) (λ db. HoldsListed (tick + 1) (answer.now ∷ front) db (without_answer words.now seen.now (with_answer_row (answer_row answer.now) (with_blobs news.now t)))) }
+    ensures { (t : Tables) (front : List KeptAnswer) (last : KeptAnswer) → key_of last ≡ (words.now, seen.now)
+        → TakesPlace answer.now last front → 1 ≤ tick
+        → IsCall S.Store conn.old conn.new result (λ db. HoldsListed tick (front ++ last ∷ []) db t)
+        (λ db. HoldsListed (tick + 1) (answer.now ∷ front) db
+        (without_answer words.now seen.now (with_answer_row (answer_row answer.now) (with_blobs news.now t)))) }
 {
     let mut tx = conn.transaction();
     remember_in_place_in(&mut tx, news, answer, tick, words, seen)?;

@@ -14,13 +14,13 @@ pub(crate) struct ListedFile {
 }
 
 impl Model for ListedFile {
-    ghost use Rattle.repo_store.specs.Shared.{FileParts, parts_code, parts_of};
+    ghost use Rattle.repo_store.specs.Shared.{FileParts, parts_code, parts_of_file};
 
     ghost Value = { FileParts };
 
     ghost coded = { parts_code };
 
-    ghost view = { λ listed. parts_of listed.file };
+    ghost view = { λ listed. parts_of_file listed.file };
 }
 
 impl ListedFile {

@@ -42,7 +42,8 @@ impl Model for SharedAnswer {
 
     ghost view = { λ answer. answer_of answer.words answer.seen.items answer.output answer.changes.items answer.status };
 
-    ghost invariant = { λ answer. IsWritten (answer_of answer.words answer.seen.items answer.output answer.changes.items answer.status) answer.records.words answer.records.seen answer.records.changes };
+    ghost invariant = { λ answer. IsWritten (answer_of answer.words answer.seen.items answer.output answer.changes.items
+        answer.status) answer.records.words answer.records.seen answer.records.changes };
 }
 
 impl SharedAnswer {
@@ -55,7 +56,8 @@ impl SharedAnswer {
         status: u8,
         records: AnswerRecords,
     ) -> SharedAnswer
-        requires { IsWritten (answer_of words seen.items output changes.items status) records.words records.seen records.changes }
+        requires { IsWritten (answer_of words seen.items output changes.items status) records.words records.seen
+            records.changes }
         ensures { result ≡ answer_of words seen.items output changes.items status }
     {
         SharedAnswer {

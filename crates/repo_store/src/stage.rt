@@ -22,7 +22,9 @@ fn stage_in<S: Alter>(
     file: &ListedFile,
 ) -> Result<(), Error>
     ensures same_reference { tx.new.conn.ghost_name ≡ tx.old.conn.ghost_name }
-    ensures step { IsStep S.Store tx.old.conn.now tx.new.conn.now result (λ t. with_staged (staged_row (file_of file.now)) (without_staged file.now.path (without_fixes (with_blobs news.now t)))) }
+    ensures step { IsStep S.Store tx.old.conn.now tx.new.conn.now result
+        (λ t. with_staged (staged_row (file_of file.now))
+        (without_staged file.now.path (without_fixes (with_blobs news.now t)))) }
 {
     keep_in(tx, news)?;
     clear_fixes(tx)?;
@@ -42,7 +44,10 @@ pub(crate) fn stage_rows<S: Alter>(
     file: &ListedFile,
 ) -> Result<(), Error>
     requires { conn.old.in_transaction ≡ false }
-    ensures { (t : Tables) (next : ℕ) (answers : List KeptAnswer) → IsCall S.Store conn.old conn.new result (λ db. HoldsListed next answers db t) (λ db. HoldsListed next answers db (with_staged (staged_row (file_of file.now)) (without_staged file.now.path (without_fixes (with_blobs news.now t))))) }
+    ensures { (t : Tables) (next : ℕ) (answers : List KeptAnswer)
+        → IsCall S.Store conn.old conn.new result (λ db. HoldsListed next answers db t)
+        (λ db. HoldsListed next answers db (with_staged (staged_row (file_of file.now))
+        (without_staged file.now.path (without_fixes (with_blobs news.now t))))) }
 {
     let mut tx = conn.transaction();
     stage_in(&mut tx, news, file)?;

@@ -69,9 +69,9 @@ impl<T: Drop> From<AllocFailed<T>> for StagingFault {
 }
 
 impl From<PathFault> for StagingFault {
-    ghost use Rattle.repo_store.specs.Edits.{of_path};
+    ghost use Rattle.repo_store.specs.Edits.{staging_fault_of_path};
 
-    ghost from_gives = { λ fault made. made ≡ of_path fault };
+    ghost from_gives = { λ fault made. made ≡ staging_fault_of_path fault };
 
     /// Lack of memory becomes the store's `OutOfMemory`, and every other fault becomes `BadPath`.
     fn from(fault: PathFault) -> Self {

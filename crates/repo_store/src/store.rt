@@ -36,6 +36,7 @@ ghost use Rattle.repo_store.specs.UsesOf.{greatest_tick};
 ghost use Rattle.repo_store.specs.WrittenAnswers.{contents_for, contents_of_key};
 
 use crate::accept::accept_rows;
+use crate::answer_puts::put_prepared;
 use crate::blobs::keep_rows;
 use crate::commit::commit_rows;
 use crate::create::{has_no_tables, make};
@@ -44,7 +45,6 @@ use crate::fixes::set_rows;
 use crate::forget::forget_rows;
 use crate::limits::GREATEST_TICK;
 use crate::lists::{Edited, Lists};
-use crate::put::put_prepared;
 use crate::stage::stage_rows;
 use crate::take_over::find_store;
 use crate::unstage::unstage_rows;
@@ -85,7 +85,7 @@ impl<S: Alter + Drop> Drop for Store<S> {
 
 impl<S: Alter> Model for Store<S> {
     ghost use Rattle.repo_store.specs.Shown.{Shown, shown_code};
-    ghost use Rattle.repo_store.specs.Standing.{StandsAt};
+    ghost use Rattle.repo_store.specs.Standing.{StandsAtTick};
 
     ghost Value = { Shown S };
 
@@ -93,7 +93,7 @@ impl<S: Alter> Model for Store<S> {
 
     ghost view = { λ store. record { conn = store.conn; kept = store.lists.kept; next = store.next } };
 
-    ghost invariant = { λ store. StandsAt S.Store store.conn store.lists.kept store.next };
+    ghost invariant = { λ store. StandsAtTick S.Store store.conn store.lists.kept store.next };
 }
 
 impl<S: Alter> Store<S> {
@@ -109,13 +109,18 @@ impl<S: Alter> Store<S> {
         requires { conn.in_transaction ≡ false }
         ensures made { IfOk result (λ store. store.kept ≡ nothing_kept) }
         ensures stands { IfOk result (λ store. Stands S.Store store.conn store.kept) }
-        ensures occupied { IsTrue (state S.Store conn).is_open → (state S.Store conn).now.schema ≢ no_schema → MatchResult result (λ _. ⊥) (λ e. (e.0 ≡ StoreFault.Sql (Error.SqliteFailure ErrorCode.NameTaken)) × (e.1 ≡ conn)) }
-        ensures was_bare { IfOk result (λ _. IsTrue (state S.Store conn).is_open → (state S.Store conn).now.schema ≡ no_schema) }
+        ensures occupied { IsTrue (state S.Store conn).is_open → (state S.Store conn).now.schema ≢ no_schema
+            → MatchResult result (λ _. ⊥) (λ e. (e.0 ≡ StoreFault.Sql (Error.SqliteFailure ErrorCode.NameTaken))
+            × (e.1 ≡ conn)) }
+        ensures was_bare { IfOk result (λ _. IsTrue (state S.Store conn).is_open
+            → (state S.Store conn).now.schema ≡ no_schema) }
         ensures why { IfErr result (λ e. IsRefusal ⊥ ⊥ ⊥ e.0) }
         ensures refused { IfErr result (λ e. Rests (state S.Store conn) (state S.Store e.1)) }
         ensures outside { IfErr result (λ e. e.1.in_transaction ≡ false) }
-        ensures crash_made { IfOk result (λ store. Survives (state S.Store conn) (state S.Store store.conn) (Leaves nothing_kept)) }
-        ensures crash_refused { IfErr result (λ e. Survives (state S.Store conn) (state S.Store e.1) (Leaves nothing_kept)) }
+        ensures crash_made { IfOk result (λ store. Survives (state S.Store conn) (state S.Store store.conn)
+            (Leaves nothing_kept)) }
+        ensures crash_refused { IfErr result (λ e. Survives (state S.Store conn) (state S.Store e.1)
+            (Leaves nothing_kept)) }
         ensures durable { IfOk result (λ store. LeavesOnly S.Store store.conn nothing_kept) }
     {
         let mut conn = conn;
@@ -153,15 +158,22 @@ impl<S: Alter> Store<S> {
     pub fn open(alloc: Global, conn: Connection<S>) -> Result<Store<S>, (StoreFault, Connection<S>)>
         requires { conn.in_transaction ≡ false }
         ensures stands { IfOk result (λ store. Stands S.Store store.conn store.kept) }
-        ensures holds { IfOk result (λ store. IsTrue (state S.Store store.conn).is_open → HoldsStore (state S.Store conn).committed store.kept ⊎ IsTakenOver (state S.Store conn).committed store.kept) }
-        ensures again { IfOk result (λ store. IsTrue (state S.Store store.conn).is_open → (kept : Kept) → Leaves kept (state S.Store conn).committed.trees → AreAlike store.kept kept) }
-        ensures same { IfOk result (λ store. (state S.Store conn).now.schema ≡ schema_with_uses → Rests (state S.Store conn) (state S.Store store.conn)) }
+        ensures holds { IfOk result (λ store. IsTrue (state S.Store store.conn).is_open
+            → HoldsStore (state S.Store conn).committed store.kept
+            ⊎ IsTakenOver (state S.Store conn).committed store.kept) }
+        ensures again { IfOk result (λ store. IsTrue (state S.Store store.conn).is_open → (kept : Kept)
+            → Leaves kept (state S.Store conn).committed.trees → AreAlike store.kept kept) }
+        ensures same { IfOk result (λ store. (state S.Store conn).now.schema ≡ schema_with_uses
+            → Rests (state S.Store conn) (state S.Store store.conn)) }
         ensures refused { IfErr result (λ e. Rests (state S.Store conn) (state S.Store e.1)) }
         ensures outside { IfErr result (λ e. e.1.in_transaction ≡ false) }
         ensures why { IfErr result (λ e. HasCleanDisk (state S.Store e.1) → IsUnfit (state S.Store conn).now e.0) }
-        ensures left { IfErr result (λ e. HasCleanDisk (state S.Store e.1) → IsTrue (state S.Store conn).is_open → (kept : Kept) → Leaves kept (state S.Store conn).committed.trees → IsRefusal ⊥ ⊥ ⊥ e.0) }
-        ensures crash_opened { IfOk result (λ store. Survives (state S.Store conn) (state S.Store store.conn) (TakesOver (state S.Store conn).now)) }
-        ensures crash_refused { IfErr result (λ e. Survives (state S.Store conn) (state S.Store e.1) (TakesOver (state S.Store conn).now)) }
+        ensures left { IfErr result (λ e. HasCleanDisk (state S.Store e.1) → IsTrue (state S.Store conn).is_open
+            → (kept : Kept) → Leaves kept (state S.Store conn).committed.trees → IsRefusal ⊥ ⊥ ⊥ e.0) }
+        ensures crash_opened { IfOk result (λ store. Survives (state S.Store conn) (state S.Store store.conn)
+            (TakesOver (state S.Store conn).now)) }
+        ensures crash_refused { IfErr result (λ e. Survives (state S.Store conn) (state S.Store e.1)
+            (TakesOver (state S.Store conn).now)) }
         ensures durable { IfOk result (λ store. LeavesOnly S.Store store.conn store.kept) }
     {
         let mut conn = conn;
@@ -185,11 +197,18 @@ impl<S: Alter> Store<S> {
     /// A refusal leaves what the store shows as it was.
     pub fn stage(&mut self, path: &RepoPath, mode: Mode, bytes: &[u8]) -> Result<(), StoreFault>
         requires { path.now ≢ message_path }
-        ensures change { IsAllOrNothing self.old.kept self.new.kept result (staging path.now (record { mode = mode; bytes = bytes.now }) self.old.kept) }
-        ensures transaction { IsOneTransaction S.Store self.old self.new result (staging path.now (record { mode = mode; bytes = bytes.now }) self.old.kept) }
-        ensures within { OnOk result (IsSmall bytes.now × Fits (put_file path.now (record { mode = mode; bytes = bytes.now }) self.old.kept.repo.staged)) }
+        ensures change { IsAllOrNothing self.old.kept self.new.kept result
+            (staging path.now (record { mode = mode; bytes = bytes.now }) self.old.kept) }
+        ensures transaction { IsOneTransaction S.Store self.old self.new result
+            (staging path.now (record { mode = mode; bytes = bytes.now }) self.old.kept) }
+        ensures within { OnOk result (IsSmall bytes.now
+            × Fits (put_file path.now (record { mode = mode; bytes = bytes.now }) self.old.kept.repo.staged)) }
         ensures apart { OnOk result (¬ Collides bytes.now self.old.kept.contents) }
-        ensures why { IfErr result (IsRefusal (¬ IsSmall bytes.now) (IsSmall bytes.now × (¬ Fits (put_file path.now (record { mode = mode; bytes = bytes.now }) self.old.kept.repo.staged))) (IsSmall bytes.now × Fits (put_file path.now (record { mode = mode; bytes = bytes.now }) self.old.kept.repo.staged) × Collides bytes.now self.old.kept.contents)) }
+        ensures why { IfErr result (IsRefusal (¬ IsSmall bytes.now)
+            (IsSmall bytes.now × (¬ Fits (put_file path.now (record { mode = mode; bytes = bytes.now })
+            self.old.kept.repo.staged)))
+            (IsSmall bytes.now × Fits (put_file path.now (record { mode = mode; bytes = bytes.now })
+            self.old.kept.repo.staged) × Collides bytes.now self.old.kept.contents)) }
     {
         let before = self.lists.count();
         let file = self.lists.prepare(path, mode, bytes)?;
@@ -258,8 +277,10 @@ impl<S: Alter> Store<S> {
         ensures change { IsAllOrNothing self.old.kept self.new.kept result (setting changes.now self.old.kept) }
         ensures transaction { IsOneTransaction S.Store self.old self.new result (setting changes.now self.old.kept) }
         ensures within { OnOk result (¬ HasLarge (staged_changes changes.now self.old.kept.repo.staged)) }
-        ensures apart { OnOk result (¬ FixCollides (staged_changes changes.now self.old.kept.repo.staged) self.old.kept.contents) }
-        ensures why { IfErr result (IsRefusal (HasLarge (staged_changes changes.now self.old.kept.repo.staged)) ⊥ (FixCollides (staged_changes changes.now self.old.kept.repo.staged) self.old.kept.contents)) }
+        ensures apart { OnOk result (¬ FixCollides (staged_changes changes.now self.old.kept.repo.staged)
+            self.old.kept.contents) }
+        ensures why { IfErr result (IsRefusal (HasLarge (staged_changes changes.now self.old.kept.repo.staged)) ⊥
+            (FixCollides (staged_changes changes.now self.old.kept.repo.staged) self.old.kept.contents)) }
     {
         let before = self.lists.count();
         let were_none = self.lists.has_no_fixes();
@@ -299,7 +320,8 @@ impl<S: Alter> Store<S> {
         ensures transaction { IsOneTransaction S.Store self.old self.new result (committing message.now self.old.kept) }
         ensures number { IfOk result (λ n. n ≡ length self.old.kept.repo.history + 1) }
         ensures within { OnOk result (IsSmall message.now × (length self.old.kept.repo.history < most_commits)) }
-        ensures why { IfErr result (IsRefusal (¬ IsSmall message.now) (IsSmall message.now × (most_commits ≤ length self.old.kept.repo.history)) ⊥) }
+        ensures why { IfErr result (IsRefusal (¬ IsSmall message.now)
+            (IsSmall message.now × (most_commits ≤ length self.old.kept.repo.history)) ⊥) }
     {
         let commit = self.lists.prepare_commit(message)?;
         let number = self.lists.count_commits() + 1;
@@ -318,7 +340,8 @@ impl<S: Alter> Store<S> {
         ensures digest { IfOk result (λ digest. digest.bytes ≡ sha256 bytes.now) }
         ensures within { OnOk result (IsSmall bytes.now) }
         ensures apart { OnOk result (¬ Collides bytes.now self.old.kept.contents) }
-        ensures why { IfErr result (IsRefusal (¬ IsSmall bytes.now) ⊥ (IsSmall bytes.now × Collides bytes.now self.old.kept.contents)) }
+        ensures why { IfErr result (IsRefusal (¬ IsSmall bytes.now) ⊥
+            (IsSmall bytes.now × Collides bytes.now self.old.kept.contents)) }
     {
         let before = self.lists.count();
         let content = self.lists.keep(bytes)?;
@@ -346,11 +369,16 @@ impl<S: Alter> Store<S> {
         answer: AnswerRef<'_>,
     ) -> Result<(), StoreFault>
         requires { KeepToSeen answer.changes.now seen.now }
-        ensures change { IsAllOrNothing self.old.kept self.new.kept result (remembering (copied_answer words.now seen.now answer.entry) self.old.kept) }
-        ensures transaction { IsOneUse S.Store self.old self.new result (remembering (copied_answer words.now seen.now answer.entry) self.old.kept) }
+        ensures change { IsAllOrNothing self.old.kept self.new.kept result
+            (remembering (copied_answer words.now seen.now answer.entry) self.old.kept) }
+        ensures transaction { IsOneUse S.Store self.old self.new result
+            (remembering (copied_answer words.now seen.now answer.entry) self.old.kept) }
         ensures within { OnOk result (AreSmall (contents_for (copied_answer words.now seen.now answer.entry))) }
-        ensures apart { OnOk result (¬ SomeCollides (contents_for (copied_answer words.now seen.now answer.entry)) self.old.kept.contents) }
-        ensures why { IfErr result (IsRefusal (¬ AreSmall (contents_for (copied_answer words.now seen.now answer.entry))) ⊥ (SomeCollides (contents_for (copied_answer words.now seen.now answer.entry)) self.old.kept.contents)) }
+        ensures apart { OnOk result (¬ SomeCollides (contents_for (copied_answer words.now seen.now answer.entry))
+            self.old.kept.contents) }
+        ensures why { IfErr result (IsRefusal
+            (¬ AreSmall (contents_for (copied_answer words.now seen.now answer.entry))) ⊥
+            (SomeCollides (contents_for (copied_answer words.now seen.now answer.entry)) self.old.kept.contents)) }
     {
         self.leave_a_tick()?;
         self.put_answer(words, seen, answer)
@@ -365,11 +393,16 @@ impl<S: Alter> Store<S> {
     ) -> Result<(), StoreFault>
         requires keeps_to_seen { KeepToSeen answer.changes.now seen.now }
         requires left { self.old.next ≤ greatest_tick }
-        ensures change { IsAllOrNothing self.old.kept self.new.kept result (remembering (copied_answer words.now seen.now answer.entry) self.old.kept) }
-        ensures transaction { IsOneTransaction S.Store self.old self.new result (remembering (copied_answer words.now seen.now answer.entry) self.old.kept) }
+        ensures change { IsAllOrNothing self.old.kept self.new.kept result
+            (remembering (copied_answer words.now seen.now answer.entry) self.old.kept) }
+        ensures transaction { IsOneTransaction S.Store self.old self.new result
+            (remembering (copied_answer words.now seen.now answer.entry) self.old.kept) }
         ensures within { OnOk result (AreSmall (contents_for (copied_answer words.now seen.now answer.entry))) }
-        ensures apart { OnOk result (¬ SomeCollides (contents_for (copied_answer words.now seen.now answer.entry)) self.old.kept.contents) }
-        ensures why { IfErr result (IsRefusal (¬ AreSmall (contents_for (copied_answer words.now seen.now answer.entry))) ⊥ (SomeCollides (contents_for (copied_answer words.now seen.now answer.entry)) self.old.kept.contents)) }
+        ensures apart { OnOk result (¬ SomeCollides (contents_for (copied_answer words.now seen.now answer.entry))
+            self.old.kept.contents) }
+        ensures why { IfErr result (IsRefusal
+            (¬ AreSmall (contents_for (copied_answer words.now seen.now answer.entry))) ⊥
+            (SomeCollides (contents_for (copied_answer words.now seen.now answer.entry)) self.old.kept.contents)) }
     {
         let before = self.lists.count();
         let answer = self.lists.prepare_answer(words, seen, answer)?;
@@ -422,11 +455,15 @@ impl<S: Alter> Store<S> {
         words: &[Text],
         seen: &Tree,
     ) -> Result<Option<StoredAnswer>, StoreFault>
-        ensures found { IfOk result (λ found. found ≡ option_map stored_answer (answer_for words.now seen.now self.old.kept.answers)) }
+        ensures found { IfOk result (λ found. found
+            ≡ option_map stored_answer (answer_for words.now seen.now self.old.kept.answers)) }
         ensures change { IsAllOrNothing self.old.kept self.new.kept result (using words.now seen.now self.old.kept) }
-        ensures transaction { (self.new ≡ self.old) ⊎ IsOneUse S.Store self.old self.new result (using words.now seen.now self.old.kept) }
-        ensures apart { OnOk result (HasPlacedKey self.old.kept.contents words.now seen.now → ¬ AnyCollides (contents_of_key words.now seen.now) self.old.kept.contents) }
-        ensures why { IfErr result (IsRefusal ⊥ ⊥ (AnyCollides (contents_of_key words.now seen.now) self.old.kept.contents)) }
+        ensures transaction { (self.new ≡ self.old)
+            ⊎ IsOneUse S.Store self.old self.new result (using words.now seen.now self.old.kept) }
+        ensures apart { OnOk result (HasPlacedKey self.old.kept.contents words.now seen.now
+            → ¬ AnyCollides (contents_of_key words.now seen.now) self.old.kept.contents) }
+        ensures why { IfErr result (IsRefusal ⊥ ⊥
+            (AnyCollides (contents_of_key words.now seen.now) self.old.kept.contents)) }
         ensures keys { HaveOwnKeys self.old.kept.answers }
     {
         let Some(found) = self.lists.find_answer(words, seen)? else {
@@ -540,7 +577,8 @@ impl<S: Alter> Store<S> {
 
     /// The files of a commit, or `None` if no commit has the number. It fails only for lack of memory.
     pub fn tree_of(&self, number: u32) -> Result<Option<Tree>, OutOfMemory>
-        ensures tree { IfOk result (λ tree. tree ≡ option_map (λ (commit : Commit). commit.tree) (commit_at number self.now.kept.repo.history)) }
+        ensures tree { IfOk result (λ tree. tree
+            ≡ option_map (λ (commit : Commit). commit.tree) (commit_at number self.now.kept.repo.history)) }
         ensures rising { IfOk result (λ tree. IfSome tree IsRising) }
     {
         self.lists.tree_of(number)
@@ -563,14 +601,16 @@ impl<S: Alter> Store<S> {
 
     /// The mode of the staged file at a path, or `None` if there is none. It takes no memory.
     pub fn staged_mode(&self, path: &RepoPath) -> Option<Mode>
-        ensures { result ≡ option_map (λ (entry : FileEntry). entry.mode) (entry_of path.now self.now.kept.repo.staged) }
+        ensures { result ≡ option_map (λ (entry : FileEntry). entry.mode)
+            (entry_of path.now self.now.kept.repo.staged) }
     {
         self.lists.staged_mode(path)
     }
 
     /// The contents of the staged file at a path, or `None` if there is none. It takes no memory.
     pub fn staged_bytes(&self, path: &RepoPath) -> Option<&[u8]>
-        ensures { option_copied result ≡ option_map (λ (entry : FileEntry). entry.bytes) (entry_of path.now self.now.kept.repo.staged) }
+        ensures { option_copied result ≡ option_map (λ (entry : FileEntry). entry.bytes)
+            (entry_of path.now self.now.kept.repo.staged) }
     {
         self.lists.staged_bytes(path)
     }
@@ -586,7 +626,8 @@ impl<S: Alter> Store<S> {
     /// The contents of a commit's file at a path, or `None` if no commit has the number or the commit has no
     /// file there. It takes no memory.
     pub fn committed_bytes(&self, number: u32, path: &RepoPath) -> Option<&[u8]>
-        ensures { option_copied result ≡ option_map (λ (entry : FileEntry). entry.bytes) (entry_of path.now (tree_at number self.now.kept.repo.history)) }
+        ensures { option_copied result ≡ option_map (λ (entry : FileEntry). entry.bytes)
+            (entry_of path.now (tree_at number self.now.kept.repo.history)) }
     {
         self.lists.committed_bytes(number, path)
     }
@@ -637,7 +678,8 @@ impl<S: Alter> Store<S> {
     /// Whether a path's staged file has another mode or other contents than in the last commit, or only one
     /// of the two has the path. It takes no memory, and reads no contents.
     pub fn differs_from_head_at(&self, path: &RepoPath) -> bool
-        ensures { IsTrue result ↔ (entry_of path.now self.now.kept.repo.staged ≢ entry_of path.now (last_tree self.now.kept.repo.history)) }
+        ensures { IsTrue result ↔ (entry_of path.now self.now.kept.repo.staged ≢ entry_of path.now
+            (last_tree self.now.kept.repo.history)) }
     {
         self.lists.differs_from_head_at(path)
     }
@@ -658,7 +700,8 @@ impl<S: Alter> Store<S> {
 
     /// The message of a commit, or `None` if no commit has the number. It takes no memory.
     pub fn message_of(&self, number: u32) -> Option<&[u8]>
-        ensures { option_copied result ≡ option_map (λ (commit : Commit). commit.message) (commit_at number self.now.kept.repo.history) }
+        ensures { option_copied result ≡ option_map (λ (commit : Commit). commit.message)
+            (commit_at number self.now.kept.repo.history) }
     {
         self.lists.message_of(number)
     }

@@ -23,7 +23,8 @@ fn take_over<S: Alter>(alloc: Global, conn: &mut Connection<S>) -> Result<Lists,
     requires outside { conn.old.in_transaction ≡ false }
     requires ours { (state S.Store conn.old).now.schema ≡ store_schema }
     requires live { IsTrue (state S.Store conn.old).is_open → IsDatabase (state S.Store conn.old).now }
-    requires settled { IsTrue (state S.Store conn.old).is_open → (state S.Store conn.old).now ≡ (state S.Store conn.old).committed }
+    requires settled { IsTrue (state S.Store conn.old).is_open
+        → (state S.Store conn.old).now ≡ (state S.Store conn.old).committed }
     ensures taken { IsTakingOver S.Store conn.old conn.new result }
     ensures next { IfOk result (λ lists. IsNextTick lists.next) }
     ensures complete { IfOk result (λ lists. IsComplete lists.kept) }

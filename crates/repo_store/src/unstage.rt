@@ -13,7 +13,8 @@ use store_tables::{clear_fixes, take_staged};
 
 fn unstage_in<S: Alter>(tx: &mut Transaction<'_, S>, path: &RepoPath) -> Result<(), Error>
     ensures same_reference { tx.new.conn.ghost_name ≡ tx.old.conn.ghost_name }
-    ensures step { IsStep S.Store tx.old.conn.now tx.new.conn.now result (λ t. without_fixes (without_staged path.now t)) }
+    ensures step { IsStep S.Store tx.old.conn.now tx.new.conn.now result
+        (λ t. without_fixes (without_staged path.now t)) }
 {
     take_staged(tx, path.as_str())?;
     clear_fixes(tx)
@@ -22,7 +23,9 @@ fn unstage_in<S: Alter>(tx: &mut Transaction<'_, S>, path: &RepoPath) -> Result<
 /// Removes a path from the staged files, and forgets the fixes, in one transaction.
 pub(crate) fn unstage_rows<S: Alter>(conn: &mut Connection<S>, path: &RepoPath) -> Result<(), Error>
     requires { conn.old.in_transaction ≡ false }
-    ensures { (t : Tables) (next : ℕ) (answers : List KeptAnswer) → IsCall S.Store conn.old conn.new result (λ db. HoldsListed next answers db t) (λ db. HoldsListed next answers db (without_fixes (without_staged path.now t))) }
+    ensures { (t : Tables) (next : ℕ) (answers : List KeptAnswer)
+        → IsCall S.Store conn.old conn.new result (λ db. HoldsListed next answers db t)
+        (λ db. HoldsListed next answers db (without_fixes (without_staged path.now t))) }
 {
     let mut tx = conn.transaction();
     unstage_in(&mut tx, path)?;

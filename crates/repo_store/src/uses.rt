@@ -29,7 +29,9 @@ fn put_in<S: Alter>(
 ) -> Result<(), Error>
     requires { tick ≤ greatest_tick }
     ensures same_reference { tx.new.conn.ghost_name ≡ tx.old.conn.ghost_name }
-    ensures made { (t : Tables) (rows : List UseRow) → IsMade S.Store tx.old.conn.now tx.new.conn.now result (λ db. HoldsRows db t rows) (λ db. HoldsRows db t (with_use (record { words = words.now; seen = seen.now; tick = pos tick }) rows)) }
+    ensures made { (t : Tables) (rows : List UseRow)
+        → IsMade S.Store tx.old.conn.now tx.new.conn.now result (λ db. HoldsRows db t rows)
+        (λ db. HoldsRows db t (with_use (record { words = words.now; seen = seen.now; tick = pos tick }) rows)) }
 {
     put_use(tx, words, seen, tick as i64)
 }
@@ -43,7 +45,10 @@ pub(crate) fn use_in<S: Alter>(
 ) -> Result<(), Error>
     requires { tick ≤ greatest_tick }
     ensures same_reference { tx.new.conn.ghost_name ≡ tx.old.conn.ghost_name }
-    ensures made { (t : Tables) (rows : List UseRow) → IsMade S.Store tx.old.conn.now tx.new.conn.now result (λ db. HoldsRows db t rows) (λ db. HoldsRows db t (with_use (record { words = words.now; seen = seen.now; tick = pos tick }) (without_use words.now seen.now rows))) }
+    ensures made { (t : Tables) (rows : List UseRow)
+        → IsMade S.Store tx.old.conn.now tx.new.conn.now result (λ db. HoldsRows db t rows)
+        (λ db. HoldsRows db t (with_use (record { words = words.now; seen = seen.now; tick = pos tick })
+        (without_use words.now seen.now rows))) }
 {
     take_use(tx, words, seen)?;
     put_in(tx, words, seen, tick)
@@ -58,7 +63,10 @@ pub(crate) fn use_rows<S: Alter>(
 ) -> Result<(), Error>
     requires outside { conn.old.in_transaction ≡ false }
     requires fits { tick ≤ greatest_tick }
-    ensures { (t : Tables) (answers : List KeptAnswer) (answer : KeptAnswer) → key_of answer ≡ (words.now, seen.now) → AllByRecursion (TellsKey answer) answers → 1 ≤ tick → IsCall S.Store conn.old conn.new result (λ db. HoldsListed tick answers db t) (λ db. HoldsListed (tick + 1) (in_front answer answers) db t) }
+    ensures { (t : Tables) (answers : List KeptAnswer) (answer : KeptAnswer) → key_of answer ≡ (words.now, seen.now)
+        → AllByRecursion (TellsKey answer) answers → 1 ≤ tick
+        → IsCall S.Store conn.old conn.new result (λ db. HoldsListed tick answers db t)
+        (λ db. HoldsListed (tick + 1) (in_front answer answers) db t) }
 {
     let mut tx = conn.transaction();
     use_in(&mut tx, words, seen, tick)?;
@@ -72,7 +80,9 @@ pub(crate) fn drop_in<S: Alter>(
     seen: &[u8],
 ) -> Result<(), Error>
     ensures same_reference { tx.new.conn.ghost_name ≡ tx.old.conn.ghost_name }
-    ensures made { (t : Tables) (rows : List UseRow) → IsMade S.Store tx.old.conn.now tx.new.conn.now result (λ db. HoldsRows db t rows) (λ db. HoldsRows db (without_answer words.now seen.now t) (without_use words.now seen.now rows)) }
+    ensures made { (t : Tables) (rows : List UseRow)
+        → IsMade S.Store tx.old.conn.now tx.new.conn.now result (λ db. HoldsRows db t rows)
+        (λ db. HoldsRows db (without_answer words.now seen.now t) (without_use words.now seen.now rows)) }
 {
     take_answer(tx, words, seen)?;
     take_use(tx, words, seen)
@@ -96,7 +106,8 @@ pub(crate) fn number_in<S: Alter>(
 ) -> Result<(), Error>
     ensures same_reference { tx.new.conn.ghost_name ≡ tx.old.conn.ghost_name }
     ensures few { OnOk result (length keys.now ≤ greatest_tick) }
-    ensures made { (t : Tables) → IsMade S.Store tx.old.conn.now tx.new.conn.now result (λ db. HoldsRows db t []) (λ db. HoldsRows db t (key_rows (reverse keys.now))) }
+    ensures made { (t : Tables) → IsMade S.Store tx.old.conn.now tx.new.conn.now result (λ db. HoldsRows db t [])
+        (λ db. HoldsRows db t (key_rows (reverse keys.now))) }
 {
     change_nothing(tx)?;
     check_count(keys)?;
@@ -114,7 +125,9 @@ fn renumber_in<S: Alter>(
     keys: &[([u8; 32], [u8; 32])],
 ) -> Result<(), Error>
     ensures same_reference { tx.new.conn.ghost_name ≡ tx.old.conn.ghost_name }
-    ensures made { (t : Tables) (rows : List UseRow) → IsMade S.Store tx.old.conn.now tx.new.conn.now result (λ db. HoldsRows db t rows) (λ db. HoldsRows db t (key_rows (reverse keys.now))) }
+    ensures made { (t : Tables) (rows : List UseRow)
+        → IsMade S.Store tx.old.conn.now tx.new.conn.now result (λ db. HoldsRows db t rows)
+        (λ db. HoldsRows db t (key_rows (reverse keys.now))) }
 {
     clear_uses(tx)?;
     number_in(tx, keys)
@@ -127,7 +140,9 @@ pub(crate) fn renumber_rows<S: Alter>(
     keys: &[([u8; 32], [u8; 32])],
 ) -> Result<(), Error>
     requires { conn.old.in_transaction ≡ false }
-    ensures { (t : Tables) (next : ℕ) (answers : List KeptAnswer) → keys.now ≡ map key_of (reverse answers) → IsCall S.Store conn.old conn.new result (λ db. HoldsListed next answers db t) (λ db. HoldsListed (length answers + 1) answers db t) }
+    ensures { (t : Tables) (next : ℕ) (answers : List KeptAnswer) → keys.now ≡ map key_of (reverse answers)
+        → IsCall S.Store conn.old conn.new result (λ db. HoldsListed next answers db t)
+        (λ db. HoldsListed (length answers + 1) answers db t) }
 {
     let mut tx = conn.transaction();
     renumber_in(&mut tx, keys)?;
@@ -140,7 +155,9 @@ pub(crate) fn drop_all_in<S: Alter>(
     keys: &[([u8; 32], [u8; 32])],
 ) -> Result<(), Error>
     ensures same_reference { tx.new.conn.ghost_name ≡ tx.old.conn.ghost_name }
-    ensures made { (t : Tables) (rows : List UseRow) → IsMade S.Store tx.old.conn.now tx.new.conn.now result (λ db. HoldsRows db t rows) (λ db. HoldsRows db (without_all keys.now t) (without_uses_of keys.now rows)) }
+    ensures made { (t : Tables) (rows : List UseRow)
+        → IsMade S.Store tx.old.conn.now tx.new.conn.now result (λ db. HoldsRows db t rows)
+        (λ db. HoldsRows db (without_all keys.now t) (without_uses_of keys.now rows)) }
 {
     change_nothing(tx)?;
     'keys: for key in keys {
@@ -156,7 +173,10 @@ fn limit_in<S: Alter>(
     limit: u32,
 ) -> Result<(), Error>
     ensures same_reference { tx.new.conn.ghost_name ≡ tx.old.conn.ghost_name }
-    ensures made { (t : Tables) (rows : List UseRow) → IsMade S.Store tx.old.conn.now tx.new.conn.now result (λ db. HoldsRows db t rows) (λ db. HoldsRows db (with_new_meta (limit_row (pos limit)) (without_all keys.now t)) (without_uses_of keys.now rows)) }
+    ensures made { (t : Tables) (rows : List UseRow)
+        → IsMade S.Store tx.old.conn.now tx.new.conn.now result (λ db. HoldsRows db t rows)
+        (λ db. HoldsRows db (with_new_meta (limit_row (pos limit)) (without_all keys.now t))
+        (without_uses_of keys.now rows)) }
 {
     drop_all_in(tx, keys)?;
     replace_meta(tx, "limit", limit)
@@ -170,7 +190,10 @@ pub(crate) fn limit_rows<S: Alter>(
     limit: u32,
 ) -> Result<(), Error>
     requires { conn.old.in_transaction ≡ false }
-    ensures { (t : Tables) (next : ℕ) (front : List KeptAnswer) (back : List KeptAnswer) → keys.now ≡ map key_of (reverse back) → HaveOwnKeys (front ++ back) → TellTheirKeys (front ++ back) back → IsCall S.Store conn.old conn.new result (λ db. HoldsListed next (front ++ back) db t) (λ db. HoldsListed next front db (with_new_meta (limit_row (pos limit)) (without_all keys.now t))) }
+    ensures { (t : Tables) (next : ℕ) (front : List KeptAnswer) (back : List KeptAnswer)
+        → keys.now ≡ map key_of (reverse back) → HaveOwnKeys (front ++ back) → TellTheirKeys (front ++ back) back
+        → IsCall S.Store conn.old conn.new result (λ db. HoldsListed next (front ++ back) db t)
+        (λ db. HoldsListed next front db (with_new_meta (limit_row (pos limit)) (without_all keys.now t))) }
 {
     let mut tx = conn.transaction();
     limit_in(&mut tx, keys, limit)?;

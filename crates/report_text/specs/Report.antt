@@ -88,16 +88,16 @@ abbrev pub modified_line : Bool → List ℕ
 modified_line modified = if modified then line (codes "- files were modified by this hook") else []
 
 -- tab, line feed, vertical tab, form feed, carriage return and space: what Python's `bytes.strip` removes
-abbrev pub is_blank : ℕ → Bool
-is_blank byte = (nat_le 9 byte && nat_le byte 13) || byte == 32
+abbrev pub is_ascii_white_space : ℕ → Bool
+is_ascii_white_space byte = (nat_le 9 byte && nat_le byte 13) || byte == 32
 
 abbrev pub without_blanks_before : List ℕ → List ℕ
 without_blanks_before [] = []
-without_blanks_before (byte ∷ bytes) = if is_blank byte then without_blanks_before bytes else byte ∷ bytes
+without_blanks_before (byte ∷ bytes) = if is_ascii_white_space byte then without_blanks_before bytes else byte ∷ bytes
 
 -- the byte before the rest, left out if it is a blank and nothing follows
 abbrev pub before_rest : ℕ → List ℕ → List ℕ
-before_rest byte [] = if is_blank byte then [] else byte ∷ []
+before_rest byte [] = if is_ascii_white_space byte then [] else byte ∷ []
 before_rest byte (next ∷ rest) = byte ∷ next ∷ rest
 
 abbrev pub without_blanks_after : List ℕ → List ℕ

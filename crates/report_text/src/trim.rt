@@ -1,7 +1,7 @@
 //! Texts without the blanks at their ends.
 
 ghost use Rattle.std.specs.Prelude.{◌≡◌};
-ghost use Rattle.report_text.specs.Report.{is_blank, trimmed, without_blanks_after, without_blanks_before};
+ghost use Rattle.report_text.specs.Report.{is_ascii_white_space, trimmed, without_blanks_after, without_blanks_before};
 
 /// The bytes without the blanks at both ends, as Python's `bytes.strip` leaves them: tab, line feed, vertical
 /// tab, form feed, carriage return and space.
@@ -39,7 +39,7 @@ fn without_blanks_after(bytes: &[u8]) -> &[u8]
 }
 
 fn is_blank(byte: u8) -> bool
-    ensures { result ≡ is_blank byte }
+    ensures { result ≡ is_ascii_white_space byte }
 {
     matches!(byte, 9..=13 | b' ')
 }

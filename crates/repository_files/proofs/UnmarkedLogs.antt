@@ -2,7 +2,7 @@
 use Rattle.std.proofs.Common.{◌≡◌, ◌≢◌, ℕ, zero, suc, ◌+◌, ◌≤◌, List, [], length, refl, sym, ◌∙◌, ap, inl, inr, arith}
 use Rattle.sqlite_wal.specs.Format.{part}
 use Rattle.sqlite_wal.specs.Recovery.{RecoversAs, Replays, frame, frame_at, header, pages_after}
-use Rattle.sqlite_wal.proofs.PartLemmas.{frames_len-zero, part-part}
+use Rattle.repository_files.proofs.Kit.{frames_len-zero, part-part}
 
 -- the first frame's mark is that of the log
 pub mark_of_first : (size : ℕ) (log : List ℕ) → 32 ≤ length log → frame_at size 0 + (24 + size) ≤ length log

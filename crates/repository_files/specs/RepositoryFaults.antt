@@ -8,8 +8,8 @@ use Rattle.sqlite.specs.declared.error.ErrorCode.TheVariants as code
 use Rattle.store_faults.specs.Faults.{fault_of}
 use Rattle.store_faults.specs.declared.fault.StoreFault.TheVariants.{NotAStore}
 use Rattle.repository_files.specs.declared.database.Before.{Before}
-use Rattle.repository_files.specs.declared.folder.Found.{Found}
-use Rattle.repository_files.specs.declared.folder.Found.TheVariants.{Nothing, Empty, OneByte, Filled, Other}
+use Rattle.repository_files.specs.declared.folder.FileState.{FileState}
+use Rattle.repository_files.specs.declared.folder.FileState.TheVariants.{Nothing, Empty, OneByte, Filled, Other}
 use Rattle.repository_files.specs.declared.repository_fault.RepositoryFault.{RepositoryFault}
 use Rattle.repository_files.specs.declared.repository_fault.RepositoryFault.TheVariants.{CannotUseStore, CannotUseLock, NoStore}
 
@@ -35,14 +35,14 @@ IsFaultOfOpening CannotUseLock = ⊥
 IsFaultOfOpening (NoStore fault) = Unit {0}
 
 -- what a file of this length counts as: the database's library treats one of a single byte as empty
-abbrev pub IsFoundWith : ℕ → Found → Type 0
+abbrev pub IsFoundWith : ℕ → FileState → Type 0
 IsFoundWith bytes Empty = bytes ≡ 0
 IsFoundWith bytes OneByte = bytes ≡ 1
 IsFoundWith bytes Filled = 1 < bytes
 IsFoundWith bytes found = ⊥
 
 -- a file is there, whatever it contains
-abbrev pub IsFile : Found → Type 0
+abbrev pub IsFile : FileState → Type 0
 IsFile Nothing = ⊥
 IsFile Other = ⊥
 IsFile found = Unit {0}
@@ -50,7 +50,7 @@ IsFile found = Unit {0}
 -- What opening the store makes of what is at its name and at its log's. A file without a database is no
 -- store, since to open it would make one of it. If no file is there, or if that can't be said, the store
 -- can't be used.
-abbrev pub before_of : Result Found Error → Result Found Error → Result Before RepositoryFault
+abbrev pub before_of : Result FileState Error → Result FileState Error → Result Before RepositoryFault
 before_of (Ok Filled) (Ok log) = Ok (record { log = log })
 before_of (Ok Empty) (Ok log) = Err (NoStore NotAStore)
 before_of (Ok OneByte) (Ok log) = Err (NoStore NotAStore)

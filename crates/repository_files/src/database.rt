@@ -5,7 +5,7 @@ ghost use Rattle.repository_files.specs.RepositoryFaults.{IsFaultOfDatabase, IsF
 
 use crate::bare_log;
 use crate::connect::{DatabaseFile, connect};
-use crate::folder::{Found, Lock, STORE, bytes_at, found_at};
+use crate::folder::{FileState, Lock, STORE, bytes_at, found_at};
 use crate::repository_fault::RepositoryFault;
 use lazy_disk::LazyDisk;
 use repo_store::{Store, StoreFault};
@@ -26,7 +26,7 @@ pub type Database = Connection<FileStore<DatabaseFile>>;
 /// What was at the name of the log before the database was opened.
 #[derive(Clone, Copy, Debug)]
 pub struct Before {
-    log: Found,
+    log: FileState,
 }
 
 impl Before {
@@ -43,24 +43,27 @@ impl Before {
     // Puts the log back as it was, if no change was written to it. Nobody else may have the database open.
     fn put_back<R: Files>(&self, rt: &R) {
         match self.log {
-            Found::Nothing => {
+            FileState::Nothing => {
                 let _gone = fs::remove_file(rt, LOG);
             }
-            Found::Empty => {
+            FileState::Empty => {
                 let _emptied = fs::create(rt, LOG);
             }
-            Found::OneByte | Found::Filled | Found::Other => {}
+            FileState::OneByte | FileState::Filled | FileState::Other => {}
         }
     }
 }
 
-fn before_of(store: io::Result<Found>, log: io::Result<Found>) -> Result<Before, RepositoryFault>
+fn before_of(
+    store: io::Result<FileState>,
+    log: io::Result<FileState>,
+) -> Result<Before, RepositoryFault>
     ensures before { result ≡ before_of store log }
     ensures refused { IfErr result IsFaultOfOpening }
 {
     match (store, log) {
-        (Ok(Found::Filled), Ok(log)) => Ok(Before { log }),
-        (Ok(Found::Empty | Found::OneByte), Ok(_)) => {
+        (Ok(FileState::Filled), Ok(log)) => Ok(Before { log }),
+        (Ok(FileState::Empty | FileState::OneByte), Ok(_)) => {
             Err(RepositoryFault::NoStore(StoreFault::NotAStore))
         }
         _ => Err(RepositoryFault::CannotUseStore),

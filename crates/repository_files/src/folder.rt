@@ -35,7 +35,7 @@ pub struct Lock {
 
 /// What is at the name of a file. A link isn't followed.
 #[derive(Clone, Copy, Debug, PartialEq, Eq)]
-pub(crate) enum Found {
+pub(crate) enum FileState {
     /// Nothing.
     Nothing,
     /// A file without bytes.
@@ -91,7 +91,7 @@ pub(crate) fn look_for_no_store<R: Files>(rt: &R) -> Result<(), RepositoryFault>
     ensures { IfErr result (λ fault. fault ≡ CannotUseStore) }
 {
     match found_at(rt, STORE) {
-        Ok(Found::Nothing) => Ok(()),
+        Ok(FileState::Nothing) => Ok(()),
         _ => Err(RepositoryFault::CannotUseStore),
     }
 }
@@ -109,7 +109,7 @@ pub fn take_lock(rt: &HostRuntime) -> Result<Lock, RepositoryFault>
 
 fn try_to_lock(rt: &HostRuntime) -> io::Result<Lock> {
     // Opening a fifo would wait for its reader (fifo(7)), and a link may lead out of the folder.
-    if found_at(rt, LOCK)? == Found::Other {
+    if found_at(rt, LOCK)? == FileState::Other {
         return Err(io::ErrorKind::Unsupported.into());
     }
     let mut file = OpenOptions::new().write(true).create(true).open(rt, LOCK)?;
@@ -133,32 +133,32 @@ fn is_at(rt: &HostRuntime, file: &File, name: &str) -> io::Result<bool> {
 }
 
 /// What is at a name.
-pub(crate) fn found_at<R: Files>(rt: &R, name: &str) -> io::Result<Found> {
+pub(crate) fn found_at<R: Files>(rt: &R, name: &str) -> io::Result<FileState> {
     match fs::symlink_metadata(rt, name) {
-        Ok(found) if !found.is_file() => Ok(Found::Other),
+        Ok(found) if !found.is_file() => Ok(FileState::Other),
         Ok(found) => Ok(found_with(found.len())),
-        Err(error) if error.kind() == io::ErrorKind::NotFound => Ok(Found::Nothing),
+        Err(error) if error.kind() == io::ErrorKind::NotFound => Ok(FileState::Nothing),
         Err(error) => Err(error),
     }
 }
 
 // What a file of this length counts as.
-fn found_with(bytes: u64) -> Found
+fn found_with(bytes: u64) -> FileState
     ensures { IsFoundWith bytes result }
 {
     match bytes {
-        0 => Found::Empty,
-        1 => Found::OneByte,
-        _ => Found::Filled,
+        0 => FileState::Empty,
+        1 => FileState::OneByte,
+        _ => FileState::Filled,
     }
 }
 
-fn is_file(found: Found) -> bool
+fn is_file(found: FileState) -> bool
     ensures { IsTrue result ↔ IsFile found }
 {
     match found {
-        Found::Empty | Found::OneByte | Found::Filled => true,
-        Found::Nothing | Found::Other => false,
+        FileState::Empty | FileState::OneByte | FileState::Filled => true,
+        FileState::Nothing | FileState::Other => false,
     }
 }
 

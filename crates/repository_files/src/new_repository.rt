@@ -10,8 +10,8 @@ ghost use Rattle.repository_files.specs.declared.repository_fault.RepositoryFaul
 use crate::connect::connect;
 use crate::database::{DatabaseOver, LOG, close_database};
 use crate::folder::{
-    FOLDER, Folder, Found, LOCK, Lock, STORE, found_at, look_for_no_store, make_folder, take_away,
-    take_lock,
+    FOLDER, FileState, Folder, LOCK, Lock, STORE, found_at, look_for_no_store, make_folder,
+    take_away, take_lock,
 };
 use crate::kept_out::keep_out_of_git;
 use crate::repository_fault::RepositoryFault;
@@ -75,11 +75,11 @@ fn init_under(rt: &HostRuntime, _lock: &Lock) -> Result<(), RepositoryFault>
 
 // What is at the name of the log, which may be left of a store that was removed. If it isn't a file, or if
 // that can't be said, the error is `CannotUseStore`.
-fn log_before<R: Files>(rt: &R) -> Result<Found, RepositoryFault>
+fn log_before<R: Files>(rt: &R) -> Result<FileState, RepositoryFault>
     ensures { IfErr result (λ fault. fault ≡ CannotUseStore) }
 {
     match found_at(rt, LOG) {
-        Ok(Found::Other) | Err(_) => Err(RepositoryFault::CannotUseStore),
+        Ok(FileState::Other) | Err(_) => Err(RepositoryFault::CannotUseStore),
         Ok(found) => Ok(found),
     }
 }
@@ -95,10 +95,10 @@ fn take_new_away<R: Files>(rt: &R) -> Result<(), RepositoryFault>
 }
 
 // Removes what was made. Before, nothing was at the store's name.
-fn undo<R: Files>(rt: &R, log: Found) {
+fn undo<R: Files>(rt: &R, log: FileState) {
     let _gone = take_away(rt, STORE);
     let _gone = take_new_away(rt);
-    if log == Found::Nothing {
+    if log == FileState::Nothing {
         let _gone = take_away(rt, LOG);
     }
 }

@@ -9,7 +9,7 @@ use Rattle.std.proofs.lemmas.Option.{slice_get-get_or}
 use Rattle.memchr.specs.Find.{NoneBefore, Nowhere, Passes, is_byte}
 use Rattle.repo_store.specs.Repository.{Commit, commit_at}
 use Rattle.repository_text.specs.LogText.{first_line_of, log_line, log_text, log_text_from}
-use Rattle.repository_text.specs.ShowText.{ended}
+use Rattle.repository_text.specs.ShowText.{with_line_feed_at_end}
 
 pub false_from_not : (b : Bool) → (b ≡ true → ⊥) → b ≡ false
 false_from_not true differs = absurd (differs refl)
@@ -110,7 +110,7 @@ cons-if true byte xs ys = refl
 cons-if false byte xs ys = refl
 
 ended-by : (message : List ℕ) (byte : ℕ) → slice_get message (length message - 1) ≡ Some byte
-    → ended message ≡ (if byte == 10 then message else message ++ 10 ∷ [])
+    → with_line_feed_at_end message ≡ (if byte == 10 then message else message ++ 10 ∷ [])
 ended-by [] byte found = cc
 ended-by (first ∷ []) byte found =
     let same : first ≡ byte = cc in ap (λ last. if last == 10 then first ∷ [] else first ∷ 10 ∷ []) same
@@ -121,14 +121,14 @@ ended-by (first ∷ next ∷ more) byte found =
     ap (slice_get (next ∷ more)) there ∙ sym (ap (slice_get (first ∷ next ∷ more)) here) ∙ found in
     ap (λ text. first ∷ text) (ended-by (next ∷ more) byte found_later) ∙ cons-if (byte == 10) first (next ∷ more) ((next ∷ more) ++ 10 ∷ [])
 
-pub ended-line : (message : List ℕ) (byte : ℕ) → slice_get message (length message - 1) ≡ Some byte → byte ≡ 10 → ended message ≡ message
+pub ended-line : (message : List ℕ) (byte : ℕ) → slice_get message (length message - 1) ≡ Some byte → byte ≡ 10 → with_line_feed_at_end message ≡ message
 ended-line message byte found is = ended-by message byte found ∙ ap (λ b. if b == 10 then message else message ++ 10 ∷ []) is
 
 pub ended-other : (message : List ℕ) (byte : ℕ) → slice_get message (length message - 1) ≡ Some byte → (byte ≡ 10 → ⊥)
-    → ended message ≡ message ++ 10 ∷ []
+    → with_line_feed_at_end message ≡ message ++ 10 ∷ []
 ended-other message byte found other = ended-by message byte found ∙ ap (λ b. if b then message else message ++ 10 ∷ []) (ne_eqb byte 10 other)
 
-pub ended-empty : (message : List ℕ) → slice_get message (length message - 1) ≡ None → ended message ≡ message
+pub ended-empty : (message : List ℕ) → slice_get message (length message - 1) ≡ None → with_line_feed_at_end message ≡ message
 ended-empty [] none = refl
 ended-empty (first ∷ more) none =
     let there = slice_get-get_or (first ∷ more) (length (first ∷ more) - 1) 0 (omega arith) in cc

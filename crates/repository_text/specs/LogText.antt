@@ -5,12 +5,12 @@ use Rattle.std.specs.Fmt.{decimal}
 use Rattle.report_text.specs.Report.{line}
 use Rattle.repo_store.specs.Repository.{Commit}
 
-abbrev pub is_line_feed : ℕ → Bool
-is_line_feed byte = byte == 10
+abbrev pub is_log_line_feed : ℕ → Bool
+is_log_line_feed byte = byte == 10
 
 -- the bytes before the first line feed, or all if there is none
 abbrev pub first_line_of : List ℕ → List ℕ
-first_line_of message = before_first is_line_feed message
+first_line_of message = before_first is_log_line_feed message
 
 abbrev pub log_line : ℕ → List ℕ → List ℕ
 log_line number message = line (decimal number ++ codes " " ++ first_line_of message)

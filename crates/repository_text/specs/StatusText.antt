@@ -39,7 +39,8 @@ in_order Greater path other after_path after_both after_other = other ∷ after_
 abbrev pub paths_from : List ℕ → (List File → List (List ℕ)) → List File → List (List ℕ)
 paths_from path paths_after [] = path ∷ paths_after []
 paths_from path paths_after (row ∷ rows) =
-    in_order (path_cmp path row.path) path row.path (paths_after (row ∷ rows)) (paths_after rows) (paths_from path paths_after rows)
+    in_order (path_cmp path row.path) path row.path (paths_after (row ∷ rows)) (paths_after rows)
+    (paths_from path paths_after rows)
 
 abbrev pub paths_of_both : List File → List File → List (List ℕ)
 paths_of_both [] others = map path_of others

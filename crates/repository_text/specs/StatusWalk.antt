@@ -8,9 +8,12 @@ use Rattle.repository_text.specs.StatusText.{paths_of_both}
 -- the paths from the next one on, when the first tree is walked up to `staged` and the second up to `last`
 abbrev pub paths_from_next : List File → List File → ℕ → ℕ → Next → List (List ℕ)
 paths_from_next files others staged last Over = []
-paths_from_next files others staged last (Staged path) = path.now ∷ paths_of_both (drop (staged + 1) files) (drop last others)
-paths_from_next files others staged last (Last path) = path.now ∷ paths_of_both (drop staged files) (drop (last + 1) others)
-paths_from_next files others staged last (Both path) = path.now ∷ paths_of_both (drop (staged + 1) files) (drop (last + 1) others)
+paths_from_next files others staged last (Staged path) =
+    path.now ∷ paths_of_both (drop (staged + 1) files) (drop last others)
+paths_from_next files others staged last (Last path) =
+    path.now ∷ paths_of_both (drop staged files) (drop (last + 1) others)
+paths_from_next files others staged last (Both path) =
+    path.now ∷ paths_of_both (drop (staged + 1) files) (drop (last + 1) others)
 
 -- the mark that the line of a path that differs begins with
 abbrev pub mark_of : Bool → Bool → List ℕ

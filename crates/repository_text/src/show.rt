@@ -6,7 +6,7 @@ ghost use Rattle.std.specs.Prelude.{◌≡◌, ◌++◌, [], IfOk, IsSome, OnErr
 ghost use Rattle.std.specs.List.{flat_map};
 ghost use Rattle.report_text.specs.Report.{line};
 ghost use Rattle.repo_store.specs.Repository.{commit_at, tree_at};
-ghost use Rattle.repository_text.specs.ShowText.{ended, path_line, show_text};
+ghost use Rattle.repository_text.specs.ShowText.{with_line_feed_at_end, path_line, show_text};
 
 use hook_base::{Bytes, OutOfMemory};
 use repo_store::Store;
@@ -35,7 +35,7 @@ pub fn show_text<S: Alter>(
 
 // Appends the message, and a line feed unless the message is empty or ends with one.
 fn push_message(text: &mut Vec<u8>, message: &[u8]) -> Result<(), OutOfMemory>
-    ensures { OnOk result (text.new.items ≡ text.old.items ++ ended message.now) }
+    ensures { OnOk result (text.new.items ≡ text.old.items ++ with_line_feed_at_end message.now) }
 {
     let Some(last) = message.last() else {
         return push(text, message);
@@ -51,7 +51,8 @@ fn push_paths<S: Alter>(
     store: &Store<S>,
     number: u32,
 ) -> Result<(), OutOfMemory>
-    ensures { OnOk result (text.new.items ≡ text.old.items ++ flat_map path_line (tree_at number store.now.kept.repo.history)) }
+    ensures { OnOk result (text.new.items ≡ text.old.items ++ flat_map path_line
+        (tree_at number store.now.kept.repo.history)) }
 {
     'files: for index in 0..usize::MAX {
         let Some(file) = store.commit_file(number, index) else {

@@ -24,7 +24,8 @@ enum Next<'a> {
 
 /// How the staged files differ from those of the last commit, a line for each path.
 pub fn status_text<S: Alter>(alloc: Global, store: &Store<S>) -> Result<Vec<u8>, OutOfMemory>
-    ensures { IfOk result (λ text. text.items ≡ status_text store.now.kept.repo.staged (last_tree store.now.kept.repo.history)) }
+    ensures { IfOk result (λ text. text.items
+        ≡ status_text store.now.kept.repo.staged (last_tree store.now.kept.repo.history)) }
 {
     let mut text = Vec::new(alloc);
     push_change_lines(&mut text, store)?;
@@ -32,7 +33,8 @@ pub fn status_text<S: Alter>(alloc: Global, store: &Store<S>) -> Result<Vec<u8>,
 }
 
 fn push_change_lines<S: Alter>(text: &mut Vec<u8>, store: &Store<S>) -> Result<(), OutOfMemory>
-    ensures { OnOk result (text.new.items ≡ text.old.items ++ status_text store.now.kept.repo.staged (last_tree store.now.kept.repo.history)) }
+    ensures { OnOk result (text.new.items ≡ text.old.items ++ status_text store.now.kept.repo.staged
+        (last_tree store.now.kept.repo.history)) }
 {
     let mut staged = 0;
     let mut last = 0;
@@ -61,7 +63,8 @@ fn push_change_lines<S: Alter>(text: &mut Vec<u8>, store: &Store<S>) -> Result<(
 // The next step of the walk over both trees, after `staged` of the staged files and `last` of the last
 // commit's.
 fn next_of<'a, S: Alter>(store: &'a Store<S>, staged: usize, last: usize) -> Next<'a>
-    ensures { paths_of_both (drop staged store.now.kept.repo.staged) (drop last (last_tree store.now.kept.repo.history)) ≡ paths_from_next store.now.kept.repo.staged (last_tree store.now.kept.repo.history) staged last result }
+    ensures { paths_of_both (drop staged store.now.kept.repo.staged) (drop last (last_tree store.now.kept.repo.history))
+        ≡ paths_from_next store.now.kept.repo.staged (last_tree store.now.kept.repo.history) staged last result }
 {
     match (store.staged_file(staged), store.head_file(last)) {
         (None, None) => Next::Over,
@@ -80,7 +83,8 @@ fn push_change_line<S: Alter>(
     store: &Store<S>,
     path: &RepoPath,
 ) -> Result<(), OutOfMemory>
-    ensures { OnOk result (text.new.items ≡ text.old.items ++ change_line_at store.now.kept.repo.staged (last_tree store.now.kept.repo.history) path.now) }
+    ensures { OnOk result (text.new.items ≡ text.old.items ++ change_line_at store.now.kept.repo.staged
+        (last_tree store.now.kept.repo.history) path.now) }
 {
     if !store.differs_from_head_at(path) {
         return Ok(());

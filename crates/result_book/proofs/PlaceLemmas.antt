@@ -13,30 +13,32 @@ use Rattle.result_book.specs.Calls.{AfterPut, brought, new_row, with_row}
 use Rattle.result_book.specs.Contents.{HasKey, HaveRow, LackRow, HaveDistinctKeys, IsBook, is_row_for, other_rows, with_rows}
 use Rattle.result_book.specs.KeyLemmas.{other_row, row_decides, same_lack}
 use Rattle.result_book.specs.OrderLemmas.{after_putting, all_first, all_others, book_put, brings, brings_none, first_apart, one_fewer, row_is}
-use Rattle.result_book.specs.Places.{IsAt, shown_rows}
+use Rattle.result_book.specs.Places.{IsBookRowAt, shown_rows}
 
-pub at_within : (words : List (List ℕ)) (seen : List File) (rows : List BookRow) (index : ℕ) → IsAt words seen rows index → index < length rows
+pub at_within : (words : List (List ℕ)) (seen : List File) (rows : List BookRow) (index : ℕ) → IsBookRowAt words seen rows index → index < length rows
 at_within words seen [] index at = absurd at
 at_within words seen (row ∷ rows) zero at = omega arith
 at_within words seen (row ∷ rows) (suc index) at = let within = at_within words seen rows index at in omega arith
 
-pub at_key : (words : List (List ℕ)) (seen : List File) (rows : List BookRow) (index : ℕ) (d : BookRow) → IsAt words seen rows index → HasKey words seen (get_or rows index d)
+pub at_key : (words : List (List ℕ)) (seen : List File) (rows : List BookRow) (index : ℕ) (d : BookRow) → IsBookRowAt words seen rows index → HasKey words seen (get_or rows index d)
 at_key words seen [] index d at = absurd at
 at_key words seen (row ∷ rows) zero d at = at
 at_key words seen (row ∷ rows) (suc index) d at = at_key words seen rows index d at
 
-pub key_at : (words : List (List ℕ)) (seen : List File) (rows : List BookRow) (index : ℕ) (d : BookRow) → index < length rows → HasKey words seen (get_or rows index d) → IsAt words seen rows index
+pub key_at : (words : List (List ℕ)) (seen : List File) (rows : List BookRow) (index : ℕ) (d : BookRow) → index < length rows → HasKey words seen (get_or rows index d)
+    → IsBookRowAt words seen rows index
 key_at words seen [] index d within key = absurd (omega arith)
 key_at words seen (row ∷ rows) zero d within key = key
 key_at words seen (row ∷ rows) (suc index) d within key = key_at words seen rows index d (omega arith) key
 
-pub at_have : (words : List (List ℕ)) (seen : List File) (rows : List BookRow) (index : ℕ) (d : BookRow) → IsAt words seen rows index → HaveRow words seen (get_or rows index d).answer rows
+pub at_have : (words : List (List ℕ)) (seen : List File) (rows : List BookRow) (index : ℕ) (d : BookRow) → IsBookRowAt words seen rows index → HaveRow words seen (get_or rows index d).answer rows
 at_have words seen [] index d at = absurd at
 at_have words seen (row ∷ rows) zero d at = inl (at, refl)
 at_have words seen (row ∷ rows) (suc index) d at = inr (at_have words seen rows index d at)
 
 -- one row more that is not for the key
-pub lack_more : (words : List (List ℕ)) (seen : List File) (rows : List BookRow) (index : ℕ) (d : BookRow) → index < length rows → LackRow words seen (take index rows) → ¬ HasKey words seen (get_or rows index d) → (answer : Answer) → ¬ HaveRow words seen answer (take (suc index) rows)
+pub lack_more : (words : List (List ℕ)) (seen : List File) (rows : List BookRow) (index : ℕ) (d : BookRow) → index < length rows → LackRow words seen (take index rows)
+    → ¬ HasKey words seen (get_or rows index d) → (answer : Answer) → ¬ HaveRow words seen answer (take (suc index) rows)
 lack_more words seen [] index d within lack other answer have = absurd (omega arith)
 lack_more words seen (row ∷ rows) zero d within lack other answer (inl have) = other have.0
 lack_more words seen (row ∷ rows) zero d within lack other answer (inr have) = have
@@ -52,7 +54,8 @@ reversed row rows = reverse_onto rows row []
 pub last_first : (rows : List BookRow) (row : BookRow) → reverse (rows ++ row ∷ []) ≡ row ∷ reverse rows
 last_first rows row = reverse-append rows (row ∷ [])
 
-have_end : (words : List (List ℕ)) (seen : List File) (answer : Answer) (rows : List BookRow) (row : BookRow) → HaveRow words seen answer (rows ++ row ∷ []) → (HasKey words seen row × (row.answer ≡ answer)) ⊎ HaveRow words seen answer rows
+have_end : (words : List (List ℕ)) (seen : List File) (answer : Answer) (rows : List BookRow) (row : BookRow) → HaveRow words seen answer (rows ++ row ∷ [])
+    → (HasKey words seen row × (row.answer ≡ answer)) ⊎ HaveRow words seen answer rows
 have_end words seen answer [] row (inl here) = inl here
 have_end words seen answer [] row (inr none) = absurd none
 have_end words seen answer (first ∷ rows) row (inl here) = inr (inl here)
@@ -100,13 +103,14 @@ module _ (words : List (List ℕ)) (seen : List File) where
   others_reversed (row ∷ rows) =
       ap (other_rows words seen) (reversed row rows) ∙ filter-append (λ (one : BookRow). not (is_row_for words seen one)) (reverse rows) (row ∷ [])
       ∙ ap (λ (front : List BookRow). front ++ other_rows words seen (row ∷ [])) (others_reversed rows)
-      ∙ elim (is_row_for words seen row) as (λ b. reverse (other_rows words seen rows) ++ cond (not b) (row ∷ []) [] ≡ reverse (cond (not b) (row ∷ other_rows words seen rows) (other_rows words seen rows))) [
+      ∙ elim (is_row_for words seen row) as (λ b. reverse (other_rows words seen rows) ++ cond (not b) (row ∷ []) []
+      ≡ reverse (cond (not b) (row ∷ other_rows words seen rows) (other_rows words seen rows))) [
         | true ↦ no_more (reverse (other_rows words seen rows))
         | false ↦ sym (reversed row (other_rows words seen rows))
       ]
 
   -- without the row of the key, the others are there
-  pub removed : (rows : List BookRow) (index : ℕ) → HaveDistinctKeys rows → IsAt words seen rows index → remove rows index ≡ other_rows words seen rows
+  pub removed : (rows : List BookRow) (index : ℕ) → HaveDistinctKeys rows → IsBookRowAt words seen rows index → remove rows index ≡ other_rows words seen rows
   removed [] index distinct at = absurd at
   removed (row ∷ rows) zero distinct at =
       let is = (row_decides words seen row).1 at in
@@ -116,19 +120,21 @@ module _ (words : List (List ℕ)) (seen : List File) where
       ap (λ (rest : List BookRow). row ∷ rest) (removed rows index distinct.1 at) ∙ sym (ap (λ b. cond (not b) (row ∷ other_rows words seen rows) (other_rows words seen rows)) isnt)
 
   -- a row at the end in place of the row of the key is in front of the others
-  front_of_others : (rows : List BookRow) (index : ℕ) (row : BookRow) → HaveDistinctKeys (reverse rows) → IsAt words seen rows index → reverse (remove rows index ++ row ∷ []) ≡ row ∷ other_rows words seen (reverse rows)
+  front_of_others : (rows : List BookRow) (index : ℕ) (row : BookRow) → HaveDistinctKeys (reverse rows) → IsBookRowAt words seen rows index
+      → reverse (remove rows index ++ row ∷ []) ≡ row ∷ other_rows words seen (reverse rows)
   front_of_others rows index row distinct at =
       last_first (remove rows index) row
       ∙ ap (λ (rest : List BookRow). row ∷ rest) (ap reverse (removed rows index (distinct_back rows distinct) at) ∙ sym (others_reversed rows))
 
   -- ---- a row that is found moves to the end
 
-  pub moved : (limit : ℕ) (rows : List BookRow) (index : ℕ) (row : BookRow) → HaveDistinctKeys (reverse rows) → IsAt words seen rows index → row ≡ get_or rows index row
+  pub moved : (limit : ℕ) (rows : List BookRow) (index : ℕ) (row : BookRow) → HaveDistinctKeys (reverse rows) → IsBookRowAt words seen rows index → row ≡ get_or rows index row
       → shown_rows limit (remove rows index ++ row ∷ []) ≡ brought words seen (shown_rows limit rows)
   moved limit rows index row distinct at is =
       let key = subst (HasKey words seen) (sym is) (at_key words seen rows index row at) in
       let have = have_back words seen row.answer rows (subst (λ (one : BookRow). HaveRow words seen one.answer rows) (sym is) (at_have words seen rows index row at)) in
-      ap (with_rows limit) (front_of_others rows index row distinct at ∙ ap (λ (one : BookRow). one ∷ other_rows words seen (reverse rows)) (row_is words seen row.answer row key refl) ∙ sym (brings words seen row.answer (reverse rows) distinct have))
+      ap (with_rows limit) (front_of_others rows index row distinct at ∙ ap (λ (one : BookRow). one ∷ other_rows words seen (reverse rows)) (row_is words seen row.answer row key refl)
+      ∙ sym (brings words seen row.answer (reverse rows) distinct have))
 
   pub unmoved : (limit : ℕ) (rows : List BookRow) → LackRow words seen rows → shown_rows limit rows ≡ brought words seen (shown_rows limit rows)
   unmoved limit rows lack = ap (with_rows limit) (sym (brings_none words seen (reverse rows) (lack_reversed words seen rows lack)))
@@ -137,12 +143,13 @@ module _ (words : List (List ℕ)) (seen : List File) where
 
   module _ (answer : Answer) (limit : ℕ) (rows : List BookRow) (book : IsBook (shown_rows limit rows)) where
     -- in place of its own
-    pub put_in_place : (index : ℕ) → IsAt words seen rows index → shown_rows limit (remove rows index ++ new_row words seen answer ∷ []) ≡ with_row words seen answer (shown_rows limit rows)
+    pub put_in_place : (index : ℕ) → IsBookRowAt words seen rows index → shown_rows limit (remove rows index ++ new_row words seen answer ∷ []) ≡ with_row words seen answer (shown_rows limit rows)
     put_in_place index at =
         let have = have_back words seen (get_or rows index (new_row words seen answer)).answer rows (at_have words seen rows index (new_row words seen answer) at) in
         let as_many = one_fewer words seen (get_or rows index (new_row words seen answer)).answer (reverse rows) book.distinct have in
         let within = book.within in
-        ap (with_rows limit) (front_of_others rows index (new_row words seen answer) book.distinct at ∙ sym (all_first limit (new_row words seen answer ∷ other_rows words seen (reverse rows)) (omega arith)))
+        ap (with_rows limit) (front_of_others rows index (new_row words seen answer) book.distinct at
+        ∙ sym (all_first limit (new_row words seen answer ∷ other_rows words seen (reverse rows)) (omega arith)))
 
     -- where a row more has room
     pub put_in_room : LackRow words seen rows → length rows < limit → shown_rows limit (rows ++ new_row words seen answer ∷ []) ≡ with_row words seen answer (shown_rows limit rows)
@@ -170,15 +177,18 @@ module _ (words : List (List ℕ)) (seen : List File) where
 
   -- ---- the row that goes
 
-  pub going_within : (limit : ℕ) (rows : List BookRow) (index : ℕ) → IsBook (shown_rows limit rows) → IsAt words seen rows index ⊎ (LackRow words seen rows × ((index ≡ 0) × (limit ≤ length rows))) → index < length rows
+  pub going_within : (limit : ℕ) (rows : List BookRow) (index : ℕ) → IsBook (shown_rows limit rows)
+      → IsBookRowAt words seen rows index ⊎ (LackRow words seen rows × ((index ≡ 0) × (limit ≤ length rows))) → index < length rows
   going_within limit rows index book (inl at) = at_within words seen rows index at
   going_within limit rows index book (inr full) = let first = full.1.0 in let many = full.1.1 in let some = book.limited.at_least in omega arith
 
-  pub going_put : (answer : Answer) (limit : ℕ) (rows : List BookRow) (index : ℕ) → IsBook (shown_rows limit rows) → IsAt words seen rows index ⊎ (LackRow words seen rows × ((index ≡ 0) × (limit ≤ length rows)))
+  pub going_put : (answer : Answer) (limit : ℕ) (rows : List BookRow) (index : ℕ) → IsBook (shown_rows limit rows)
+      → IsBookRowAt words seen rows index ⊎ (LackRow words seen rows × ((index ≡ 0) × (limit ≤ length rows)))
       → shown_rows limit (remove rows index ++ new_row words seen answer ∷ []) ≡ with_row words seen answer (shown_rows limit rows)
   going_put answer limit rows index book (inl at) = put_in_place answer limit rows book index at
   going_put answer limit rows index book (inr full) =
-      subst (λ (n : ℕ). shown_rows limit (remove rows n ++ new_row words seen answer ∷ []) ≡ with_row words seen answer (shown_rows limit rows)) (sym full.1.0) (put_in_first answer limit rows book full.0 full.1.1)
+      subst (λ (n : ℕ). shown_rows limit (remove rows n ++ new_row words seen answer ∷ []) ≡ with_row words seen answer (shown_rows limit rows)) (sym full.1.0)
+      (put_in_first answer limit rows book full.0 full.1.1)
 
 -- what is put so leaves a book
 pub left_by_put : (words : List (List ℕ)) (seen : List File) (answer : Answer) (limit : ℕ) (rows after : List BookRow) → IsBook (shown_rows limit rows)

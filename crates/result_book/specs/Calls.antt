@@ -21,8 +21,10 @@ brought words seen contents = with_rows contents.limit (brought_rows words seen 
 -- After a look-up the row of the words and the seen files is in front. The answers are the same as before.
 pub record AfterFind (words : List (List ℕ)) (seen : List File) (before after : Contents) : Type 0 where
   pub is : after ≡ brought words seen before
-  pub kept : (others : List (List ℕ)) (theirs : List File) (answer : Answer) → Holds others theirs answer before → Holds others theirs answer after
-  pub only : (others : List (List ℕ)) (theirs : List File) (answer : Answer) → Holds others theirs answer after → Holds others theirs answer before
+  pub kept : (others : List (List ℕ)) (theirs : List File) (answer : Answer) → Holds others theirs answer before
+      → Holds others theirs answer after
+  pub only : (others : List (List ℕ)) (theirs : List File) (answer : Answer) → Holds others theirs answer after
+      → Holds others theirs answer before
   pub distinct : HaveDistinctKeys after.rows
 
 -- ---- a put
@@ -37,15 +39,18 @@ new_row words seen answer = record { words = words; seen = seen; answer = answer
 -- the new row in front, then those of other keys in their order, and of all these at most as many as the
 -- limit
 abbrev pub with_row : List (List ℕ) → List File → Answer → Contents → Contents
-with_row words seen answer contents = with_rows contents.limit (take contents.limit (new_row words seen answer ∷ other_rows words seen contents.rows))
+with_row words seen answer contents =
+    with_rows contents.limit (take contents.limit (new_row words seen answer ∷ other_rows words seen contents.rows))
 
 -- After a put the answer is in front, and is the only one for its words and seen files. What other keys have,
 -- they had before; of that, only the last row may be gone.
-pub record AfterPut (words : List (List ℕ)) (seen : List File) (answer : Answer) (before after : Contents) : Type 0 where
+pub record AfterPut (words : List (List ℕ)) (seen : List File) (answer : Answer)
+    (before after : Contents) : Type 0 where
   pub is : after ≡ with_row words seen answer before
   pub put : Holds words seen answer after
   pub replaced : (other : Answer) → Holds words seen other after → other ≡ answer
-  pub only : (others : List (List ℕ)) (theirs : List File) (other : Answer) → Holds others theirs other after → (IsSameKey others theirs words seen × (other ≡ answer)) ⊎ Holds others theirs other before
+  pub only : (others : List (List ℕ)) (theirs : List File) (other : Answer) → Holds others theirs other after
+      → (IsSameKey others theirs words seen × (other ≡ answer)) ⊎ Holds others theirs other before
   pub distinct : HaveDistinctKeys after.rows
 
 -- ---- removing all answers

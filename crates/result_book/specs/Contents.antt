@@ -31,7 +31,8 @@ HasKey words seen row = (row.words ≡ words) × (row.seen ≡ seen)
 -- one of the rows has this answer for the words and the seen files
 abbrev pub HaveRow : List (List ℕ) → List File → Answer → List BookRow → Type 0
 HaveRow words seen answer [] = ⊥
-HaveRow words seen answer (row ∷ rows) = (HasKey words seen row × (row.answer ≡ answer)) ⊎ HaveRow words seen answer rows
+HaveRow words seen answer (row ∷ rows) =
+    (HasKey words seen row × (row.answer ≡ answer)) ⊎ HaveRow words seen answer rows
 
 -- no row is for the words and the seen files
 abbrev pub LackRow : List (List ℕ) → List File → List BookRow → Type 0

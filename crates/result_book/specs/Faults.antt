@@ -5,11 +5,11 @@ use Rattle.store_faults.specs.declared.fault.StoreFault.TheVariants as store
 use Rattle.result_book.specs.declared.book_fault.BookFault.{BookFault}
 use Rattle.result_book.specs.declared.book_fault.BookFault.TheVariants.{OutOfMemory, Store}
 
-abbrev pub number_of : BookFault → ℕ
-number_of OutOfMemory = 1
-number_of (Store fault) = 2
+abbrev pub book_fault_number : BookFault → ℕ
+book_fault_number OutOfMemory = 1
+book_fault_number (Store fault) = 2
 
 -- want of memory is distinguished from every other fault of the store
-abbrev pub of_store : StoreFault → BookFault
-of_store store.OutOfMemory = OutOfMemory
-of_store fault = Store fault
+abbrev pub book_fault_of_store : StoreFault → BookFault
+book_fault_of_store store.OutOfMemory = OutOfMemory
+book_fault_of_store fault = Store fault

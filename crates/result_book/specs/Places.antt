@@ -9,17 +9,18 @@ use Rattle.result_book.specs.Contents.{Contents, HasKey, LackRow, with_rows}
 abbrev pub shown_rows : ℕ → List BookRow → Contents
 shown_rows limit rows = with_rows limit (reverse rows)
 
-abbrev pub IsAt : List (List ℕ) → List File → List BookRow → ℕ → Type 0
-IsAt words seen [] index = ⊥
-IsAt words seen (row ∷ rows) zero = HasKey words seen row
-IsAt words seen (row ∷ rows) (suc index) = IsAt words seen rows index
+abbrev pub IsBookRowAt : List (List ℕ) → List File → List BookRow → ℕ → Type 0
+IsBookRowAt words seen [] index = ⊥
+IsBookRowAt words seen (row ∷ rows) zero = HasKey words seen row
+IsBookRowAt words seen (row ∷ rows) (suc index) = IsBookRowAt words seen rows index
 
-abbrev pub IsPlace : List (List ℕ) → List File → List BookRow → Option ℕ → Type 0
-IsPlace words seen rows None = LackRow words seen rows
-IsPlace words seen rows (Some index) = IsAt words seen rows index
+abbrev pub IsBookPlace : List (List ℕ) → List File → List BookRow → Option ℕ → Type 0
+IsBookPlace words seen rows None = LackRow words seen rows
+IsBookPlace words seen rows (Some index) = IsBookRowAt words seen rows index
 
 -- a put drops the row of the words and the seen files, or the first one if they have none and the limit is
 -- reached
 abbrev pub IsGoing : List (List ℕ) → List File → ℕ → List BookRow → Option ℕ → Type 0
 IsGoing words seen limit rows None = LackRow words seen rows × (length rows < limit)
-IsGoing words seen limit rows (Some index) = IsAt words seen rows index ⊎ (LackRow words seen rows × ((index ≡ 0) × (limit ≤ length rows)))
+IsGoing words seen limit rows (Some index) =
+    IsBookRowAt words seen rows index ⊎ (LackRow words seen rows × ((index ≡ 0) × (limit ≤ length rows)))

@@ -38,7 +38,8 @@ pub trait Book {
         ensures after { OnOk result (AfterFind words.now seen.now (contents self.old) (contents self.new)) }
         ensures kept { OnErr result (contents self.new ≡ contents self.old) }
         ensures refused { IfErr result (λ fault. refuses fault) }
-        ensures left { (left : Contents) → leaves self.new left → leaves self.old left ⊎ AfterFind words.now seen.now (contents self.old) left }
+        ensures left { (left : Contents) → leaves self.new left
+            → leaves self.old left ⊎ AfterFind words.now seen.now (contents self.old) left }
         ensures rest { rests self.old self.new };
 
     /// Caches an answer for the words and the seen files. Its row comes to the front and replaces the one
@@ -50,7 +51,8 @@ pub trait Book {
         ensures after { OnOk result (AfterPut words.now seen.now answer.now (contents self.old) (contents self.new)) }
         ensures kept { OnErr result (contents self.new ≡ contents self.old) }
         ensures refused { IfErr result (λ fault. refuses fault) }
-        ensures left { (left : Contents) → leaves self.new left → leaves self.old left ⊎ AfterPut words.now seen.now answer.now (contents self.old) left }
+        ensures left { (left : Contents) → leaves self.new left
+            → leaves self.old left ⊎ AfterPut words.now seen.now answer.now (contents self.old) left }
         ensures rest { rests self.old self.new };
 
     /// Removes all answers, and answers how many there were. The limit stays. `OutOfMemory` if memory is
@@ -60,7 +62,8 @@ pub trait Book {
         ensures after { OnOk result (AfterForget (contents self.old) (contents self.new)) }
         ensures kept { OnErr result (contents self.new ≡ contents self.old) }
         ensures refused { IfErr result (λ fault. refuses fault) }
-        ensures left { (left : Contents) → leaves self.new left → leaves self.old left ⊎ AfterForget (contents self.old) left }
+        ensures left { (left : Contents) → leaves self.new left
+            → leaves self.old left ⊎ AfterForget (contents self.old) left }
         ensures rest { rests self.old self.new };
 
     /// How many answers are cached, at most as many as the limit.

@@ -1,7 +1,7 @@
 //! Why a call of a book is refused.
 
 ghost use Rattle.std.specs.Prelude.{◌≡◌};
-ghost use Rattle.result_book.specs.Faults.{number_of};
+ghost use Rattle.result_book.specs.Faults.{book_fault_number};
 
 use hook_base::OutOfMemory as Refused;
 use std::alloc::{AllocError, AllocFailed};
@@ -22,7 +22,7 @@ pub enum BookFault {
 impl BookFault {
     /// The number of the fault: 1 or 2.
     pub fn number(&self) -> u8
-        ensures { result ≡ number_of self.now }
+        ensures { result ≡ book_fault_number self.now }
     {
         match self {
             BookFault::OutOfMemory => 1,
@@ -32,9 +32,9 @@ impl BookFault {
 }
 
 impl From<StoreFault> for BookFault {
-    ghost use Rattle.result_book.specs.Faults.{of_store};
+    ghost use Rattle.result_book.specs.Faults.{book_fault_of_store};
 
-    ghost from_gives = { λ fault refusal. refusal ≡ of_store fault };
+    ghost from_gives = { λ fault refusal. refusal ≡ book_fault_of_store fault };
 
     /// Want of memory becomes `OutOfMemory`, and every other fault `Store`.
     fn from(fault: StoreFault) -> Self {

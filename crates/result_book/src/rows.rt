@@ -6,7 +6,7 @@ ghost use Rattle.std.specs.Vec.{vec_capacity, vec_len};
 ghost use Rattle.std.specs.List.{remove};
 ghost use Rattle.result_book.specs.Calls.{AfterPut, brought};
 ghost use Rattle.result_book.specs.Contents.{Finds, HaveDistinctKeys, IsBook};
-ghost use Rattle.result_book.specs.Places.{IsGoing, IsPlace, shown_rows};
+ghost use Rattle.result_book.specs.Places.{IsGoing, IsBookPlace, shown_rows};
 
 use crate::BookRow;
 use child_port::Answer;
@@ -15,7 +15,7 @@ use std::alloc::Global;
 
 // The index of the first row for the words and the seen files, or `None` if there is none.
 fn place_of(rows: &[BookRow], words: &[Text], seen: &Tree) -> Option<usize>
-    ensures { IsPlace words.now seen.now rows.now result }
+    ensures { IsBookPlace words.now seen.now rows.now result }
 {
     'rows: for (index, row) in rows.iter().enumerate() {
         if row.is_for(words, seen) {
@@ -27,7 +27,7 @@ fn place_of(rows: &[BookRow], words: &[Text], seen: &Tree) -> Option<usize>
 
 // The same, but the row at the index `near` is tried first.
 fn place_near(rows: &[BookRow], near: usize, words: &[Text], seen: &Tree) -> Option<usize>
-    ensures { IsPlace words.now seen.now rows.now result }
+    ensures { IsBookPlace words.now seen.now rows.now result }
 {
     if near < rows.len() && rows[near].is_for(words, seen) {
         return Some(near);
@@ -63,8 +63,10 @@ pub(crate) fn found_in(
     seen: &Tree,
 ) -> Result<Option<Answer>, OutOfMemory>
     requires { HaveDistinctKeys (reverse rows.old.items) }
-    ensures found { (limit : ℕ) → IfOk result (λ found. Finds words.now seen.now (shown_rows limit rows.old.items) found) }
-    ensures brought { (limit : ℕ) → OnOk result (shown_rows limit rows.new.items ≡ brought words.now seen.now (shown_rows limit rows.old.items)) }
+    ensures found { (limit : ℕ) → IfOk result
+        (λ found. Finds words.now seen.now (shown_rows limit rows.old.items) found) }
+    ensures brought { (limit : ℕ) → OnOk result
+        (shown_rows limit rows.new.items ≡ brought words.now seen.now (shown_rows limit rows.old.items)) }
     ensures kept { OnErr result (rows.new.items ≡ rows.old.items) }
 {
     let Some(index) = place_near(rows.as_slice(), *next, words, seen) else {
@@ -115,7 +117,8 @@ pub(crate) fn put_row(
     answer: &Answer,
 ) -> Result<(), OutOfMemory>
     requires { IsBook (shown_rows limit rows.old.items) }
-    ensures put { OnOk result (AfterPut words.now seen.now answer.now (shown_rows limit rows.old.items) (shown_rows limit rows.new.items)) }
+    ensures put { OnOk result (AfterPut words.now seen.now answer.now (shown_rows limit rows.old.items)
+        (shown_rows limit rows.new.items)) }
     ensures kept { OnErr result (rows.new.items ≡ rows.old.items) }
     ensures book { IsBook (shown_rows limit rows.new.items) }
 {

@@ -40,7 +40,8 @@ is_long_option text = is_option_cut_at (position is_equals text) text
 -- what follows `-`: a letter, maybe with a number, or a second dash and a long option
 abbrev pub is_option_text : List ℕ → Bool
 is_option_text [] = false
-is_option_text (first ∷ rest) = if is_dash first then is_long_option rest else is_ascii_alphabetic first && list_all is_ascii_digit rest
+is_option_text (first ∷ rest) =
+    if is_dash first then is_long_option rest else is_ascii_alphabetic first && list_all is_ascii_digit rest
 
 abbrev pub is_option : List ℕ → Bool
 is_option [] = false
@@ -105,7 +106,8 @@ is_script script = not (list_any (has_byte sed_commands) script)
 
 -- letters after `e` are a script, and those after `i` are the suffix of a backup file's name (sed(1))
 abbrev pub is_sed_option : List ℕ → List ℕ → Bool
-is_sed_option word letters = bytes_eq word (codes "-e") || bytes_eq word (codes "-i") || are_letters_of sed_letters letters
+is_sed_option word letters =
+    bytes_eq word (codes "-e") || bytes_eq word (codes "-i") || are_letters_of sed_letters letters
 
 abbrev pub is_of_sed : List ℕ → Bool
 is_of_sed [] = true

@@ -31,7 +31,7 @@ use hook_run::{HooksRun, Reuse, RunAsk, RunOut, RunRefusal, run_hooks};
 use result_book::{Book, BookFault};
 use std::alloc::Global;
 use store_faults::{FIRST_LIMIT, MOST_ANSWERS, StoreFault};
-use trial_rows::{Answer, Stop, Words, fault_of, mode_of, text_of};
+use trial_rows::{AnswerBytes, Stop, Words, fault_of, mode_of, text_of};
 
 /// The files, the rows from which children answer, as their texts describe them, and the book.
 #[derive(Drop)]
@@ -42,7 +42,7 @@ pub(crate) struct BookPlay {
 }
 
 /// `play_book CONFIGURATION STEP..`: what the runs answer, one after another.
-pub(crate) fn played(alloc: Global, arguments: &[Vec<u8>]) -> Result<Answer, Stop> {
+pub(crate) fn played(alloc: Global, arguments: &[Vec<u8>]) -> Result<AnswerBytes, Stop> {
     let mut words = Words { left: arguments };
     match read_config(alloc, words.bytes()?) {
         Ok(config) => over_config(alloc, &config, &mut words),
@@ -50,13 +50,13 @@ pub(crate) fn played(alloc: Global, arguments: &[Vec<u8>]) -> Result<Answer, Sto
     }
 }
 
-fn over_config(alloc: Global, config: &Config, words: &mut Words<'_>) -> Result<Answer, Stop> {
+fn over_config(alloc: Global, config: &Config, words: &mut Words<'_>) -> Result<AnswerBytes, Stop> {
     let mut play = BookPlay {
         tree: Tree::new(alloc),
         rows: Vec::new(alloc),
         book: FusedBook::new(alloc, FIRST_LIMIT),
     };
-    let mut answer = Answer::new(alloc);
+    let mut answer = AnswerBytes::new(alloc);
     for _ in 0..words.left.len() {
         match words.next() {
             Some(step) => answer = stepped(text_of(step)?, words, config, &mut play, answer)?,
@@ -71,8 +71,8 @@ fn stepped(
     words: &mut Words<'_>,
     config: &Config,
     play: &mut BookPlay,
-    answer: Answer,
-) -> Result<Answer, Stop> {
+    answer: AnswerBytes,
+) -> Result<AnswerBytes, Stop> {
     let alloc = answer.alloc();
     match step {
         "file" => put_file(alloc, words, &mut play.tree)?,
@@ -111,7 +111,7 @@ fn remove_file(alloc: Global, words: &mut Words<'_>, tree: &mut Tree) -> Result<
     Ok(())
 }
 
-fn with_forgotten(play: &mut BookPlay, answer: Answer) -> Answer {
+fn with_forgotten(play: &mut BookPlay, answer: AnswerBytes) -> AnswerBytes {
     match play.book.forget() {
         Ok(count) => answer.shown(count).text(" forgotten\n"),
         Err(fault) => answer.shown(fault).text("\n"),
@@ -122,8 +122,8 @@ fn run(
     words: &mut Words<'_>,
     config: &Config,
     play: &mut BookPlay,
-    answer: Answer,
-) -> Result<Answer, Stop> {
+    answer: AnswerBytes,
+) -> Result<AnswerBytes, Stop> {
     let alloc = answer.alloc();
     let ask = ask_of(alloc, &play.tree, words.text()?)?;
     let table = table_of(alloc, words.bytes()?, play.rows.as_slice())?;

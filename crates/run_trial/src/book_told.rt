@@ -8,15 +8,15 @@ use hook_base::Tree;
 use hook_run::{RunOut, RunRefusal};
 use result_book::{Book, BookFault};
 use std::alloc::Global;
-use trial_rows::{Answer, Stop, row_of, text_of, verdict_of};
+use trial_rows::{AnswerBytes, Stop, row_of, text_of, verdict_of};
 
 pub(crate) fn with_ran(
-    answer: Answer,
+    answer: AnswerBytes,
     ran: &Result<RunOut, RunRefusal>,
     calls: u64,
     faults: u64,
     tree: &Tree,
-) -> Result<Answer, Stop> {
+) -> Result<AnswerBytes, Stop> {
     match ran {
         Ok(out) => {
             let answer = with_counts(answer.text(verdict_of(out.passed)), calls, faults);
@@ -26,17 +26,17 @@ pub(crate) fn with_ran(
     }
 }
 
-fn with_refusal(answer: Answer, refused: &RunRefusal) -> Answer {
+fn with_refusal(answer: AnswerBytes, refused: &RunRefusal) -> AnswerBytes {
     let answer = answer.shown(refused.number());
     answer.texts(&[" ", refused.name(), ": "]).shown(refused)
 }
 
-fn with_counts(answer: Answer, calls: u64, faults: u64) -> Answer {
+fn with_counts(answer: AnswerBytes, calls: u64, faults: u64) -> AnswerBytes {
     let answer = answer.text(", ").shown(calls).text(" calls, ");
     answer.shown(faults).text(" faults\n")
 }
 
-fn with_out(answer: Answer, out: &RunOut, tree: &Tree) -> Result<Answer, Stop> {
+fn with_out(answer: AnswerBytes, out: &RunOut, tree: &Tree) -> Result<AnswerBytes, Stop> {
     let mut answer = answer;
     for id in out.unsteady.as_slice() {
         answer = answer.texts(&["unsteady: ", id.as_str(), "\n"]);
@@ -46,7 +46,10 @@ fn with_out(answer: Answer, out: &RunOut, tree: &Tree) -> Result<Answer, Stop> {
 }
 
 /// Adds how many results are cached, and whether that of each row of the table is.
-pub(crate) fn with_remembered(answer: Answer, play: &mut BookPlay) -> Result<Answer, Stop> {
+pub(crate) fn with_remembered(
+    answer: AnswerBytes,
+    play: &mut BookPlay,
+) -> Result<AnswerBytes, Stop> {
     play.book.fuse(0, BookFault::OutOfMemory);
     let mut answer = answer.shown(play.book.len()).text(" remembered:");
     for text in play.rows.as_slice() {

@@ -5,20 +5,24 @@ use crate::{
     run_times, stages,
 };
 use std::alloc::Global;
-use trial_rows::{Answer, Answers, Row, Stop};
+use trial_rows::{AnswerBytes, Answers, Row, Stop};
 
 /// The calls of the program.
 pub(crate) struct Calls;
 
 impl Answers for Calls {
-    fn answer_to(&self, alloc: Global, row: &Row) -> Result<Answer, Stop> {
+    fn answer_to(&self, alloc: Global, row: &Row) -> Result<AnswerBytes, Stop> {
         of_configurations(alloc, row.call.as_str(), row.arguments.as_slice())
     }
 }
 
 // The calls are spread over several functions, each of which calls the next: one `match` with many arms takes
 // the checker long.
-fn of_configurations(alloc: Global, call: &str, arguments: &[Vec<u8>]) -> Result<Answer, Stop> {
+fn of_configurations(
+    alloc: Global,
+    call: &str,
+    arguments: &[Vec<u8>],
+) -> Result<AnswerBytes, Stop> {
     match call {
         "read_config" => configurations::read_alone(alloc, arguments),
         "read_config_with_node" => configurations::read_with_node(alloc, arguments),
@@ -28,7 +32,7 @@ fn of_configurations(alloc: Global, call: &str, arguments: &[Vec<u8>]) -> Result
     }
 }
 
-fn of_hook_config(alloc: Global, call: &str, arguments: &[Vec<u8>]) -> Result<Answer, Stop> {
+fn of_hook_config(alloc: Global, call: &str, arguments: &[Vec<u8>]) -> Result<AnswerBytes, Stop> {
     match call {
         "top_patterns" => configurations::top_patterns(alloc, arguments),
         "node" => configurations::node(alloc, arguments),
@@ -39,7 +43,7 @@ fn of_hook_config(alloc: Global, call: &str, arguments: &[Vec<u8>]) -> Result<An
     }
 }
 
-fn of_stages(alloc: Global, call: &str, arguments: &[Vec<u8>]) -> Result<Answer, Stop> {
+fn of_stages(alloc: Global, call: &str, arguments: &[Vec<u8>]) -> Result<AnswerBytes, Stop> {
     match call {
         "hook_stages" => stages::of_hooks(alloc, arguments),
         "stage_of_word" => stages::of_word(alloc, arguments),
@@ -48,7 +52,7 @@ fn of_stages(alloc: Global, call: &str, arguments: &[Vec<u8>]) -> Result<Answer,
     }
 }
 
-fn of_runs(alloc: Global, call: &str, arguments: &[Vec<u8>]) -> Result<Answer, Stop> {
+fn of_runs(alloc: Global, call: &str, arguments: &[Vec<u8>]) -> Result<AnswerBytes, Stop> {
     match call {
         "hook_text" => report_texts::of_hook(alloc, arguments),
         "columns" => report_texts::for_names(alloc, arguments),
@@ -59,7 +63,7 @@ fn of_runs(alloc: Global, call: &str, arguments: &[Vec<u8>]) -> Result<Answer, S
     }
 }
 
-fn of_books(alloc: Global, call: &str, arguments: &[Vec<u8>]) -> Result<Answer, Stop> {
+fn of_books(alloc: Global, call: &str, arguments: &[Vec<u8>]) -> Result<AnswerBytes, Stop> {
     match call {
         "play_book" => book_plays::played(alloc, arguments),
         "first_runs" => run_times::first_runs(alloc, arguments),

@@ -10,7 +10,7 @@ use hook_run::{Need, RunAsk, RunOut, RunPlan, RunRefusal, run_hooks};
 use result_book::ListBook;
 use std::alloc::Global;
 use store_faults::FIRST_LIMIT;
-use trial_rows::{Answer, Stop, fault_of, number_of, row_of, text_of, verdict_of};
+use trial_rows::{AnswerBytes, Stop, fault_of, number_of, row_of, text_of, verdict_of};
 
 // A run that a row asks for: its configuration, its children and its files.
 #[derive(Drop)]
@@ -28,7 +28,7 @@ struct Asked<'a> {
 /// It answers the run's refusal with its number, name and text. Otherwise it answers a line that says whether
 /// every hook passed, how many outcomes the run added, how many of them are faults, and how many hooks are
 /// unsteady. Then come a line for each changed file, a line for each result, and the report.
-pub(crate) fn played(alloc: Global, arguments: &[Vec<u8>]) -> Result<Answer, Stop> {
+pub(crate) fn played(alloc: Global, arguments: &[Vec<u8>]) -> Result<AnswerBytes, Stop> {
     let Asked {
         configuration,
         children,
@@ -44,7 +44,7 @@ pub(crate) fn played(alloc: Global, arguments: &[Vec<u8>]) -> Result<Answer, Sto
 
 /// `run_plan ..`: the same, but here the program starts the children that the plan of the run needs, and
 /// gives their outcomes to it.
-pub(crate) fn planned(alloc: Global, arguments: &[Vec<u8>]) -> Result<Answer, Stop> {
+pub(crate) fn planned(alloc: Global, arguments: &[Vec<u8>]) -> Result<AnswerBytes, Stop> {
     let Asked {
         configuration,
         children,
@@ -103,7 +103,7 @@ fn run_over(
     config: &Config,
     ask: &RunAsk,
     tree: &Tree,
-) -> Result<Answer, Stop> {
+) -> Result<AnswerBytes, Stop> {
     let (calls, faults) = (children.calls(), children.faults());
     let mut book = ListBook::new(alloc, FIRST_LIMIT);
     match run_hooks(alloc, children, &mut book, config, ask, tree) {
@@ -122,7 +122,7 @@ fn plan_over(
     config: &Config,
     ask: &RunAsk,
     tree: &Tree,
-) -> Result<Answer, Stop> {
+) -> Result<AnswerBytes, Stop> {
     let (calls, faults) = (children.calls(), children.faults());
     let mut plan = match RunPlan::begin(alloc, config, ask, tree) {
         Ok(plan) => plan,
@@ -140,16 +140,22 @@ fn plan_over(
     told(alloc, &plan.finish(), calls, faults, tree)
 }
 
-fn told(alloc: Global, out: &RunOut, calls: u64, faults: u64, tree: &Tree) -> Result<Answer, Stop> {
+fn told(
+    alloc: Global,
+    out: &RunOut,
+    calls: u64,
+    faults: u64,
+    tree: &Tree,
+) -> Result<AnswerBytes, Stop> {
     let changes = tree.changes_to(&out.tree)?;
-    let answer = Answer::new(alloc).texts(&[verdict_of(out.passed), ", "]);
+    let answer = AnswerBytes::new(alloc).texts(&[verdict_of(out.passed), ", "]);
     let answer = answer.shown(calls).text(" calls, ");
     let answer = answer.shown(faults).text(" faults, ");
     let answer = answer.shown(out.unsteady.len()).text(" unsteady\n");
     Ok(with_results(with_changes(answer, changes.as_slice()), out))
 }
 
-pub(crate) fn with_changes(answer: Answer, changes: &[Change]) -> Answer {
+pub(crate) fn with_changes(answer: AnswerBytes, changes: &[Change]) -> AnswerBytes {
     let mut answer = answer;
     for change in changes {
         let what = if change.now.is_some() {

@@ -6,45 +6,45 @@ use hook_config::{
     read_config_with_node,
 };
 use std::alloc::Global;
-use trial_rows::{Answer, Stop, only};
+use trial_rows::{AnswerBytes, Stop, only};
 
 /// `read_config TEXT`: the number of hooks, `fail_fast` and the unknown keys; or the refusal's number, name
 /// and place.
-pub(crate) fn read_alone(alloc: Global, arguments: &[Vec<u8>]) -> Result<Answer, Stop> {
+pub(crate) fn read_alone(alloc: Global, arguments: &[Vec<u8>]) -> Result<AnswerBytes, Stop> {
     Ok(outcome(alloc, &read_config(alloc, only(arguments)?)))
 }
 
 /// `read_config_with_node TEXT`: the same, but the text's node is read with its configuration.
-pub(crate) fn read_with_node(alloc: Global, arguments: &[Vec<u8>]) -> Result<Answer, Stop> {
+pub(crate) fn read_with_node(alloc: Global, arguments: &[Vec<u8>]) -> Result<AnswerBytes, Stop> {
     Ok(outcome(alloc, &configuration_with_node(alloc, only(arguments)?)))
 }
 
 /// `hooks TEXT`: the line of each hook, or the refusal.
-pub(crate) fn hooks_alone(alloc: Global, arguments: &[Vec<u8>]) -> Result<Answer, Stop> {
+pub(crate) fn hooks_alone(alloc: Global, arguments: &[Vec<u8>]) -> Result<AnswerBytes, Stop> {
     Ok(hooks(alloc, &read_config(alloc, only(arguments)?)))
 }
 
 /// `hooks_with_node TEXT`: the same, but the text's node is read with its configuration.
-pub(crate) fn hooks_with_node(alloc: Global, arguments: &[Vec<u8>]) -> Result<Answer, Stop> {
+pub(crate) fn hooks_with_node(alloc: Global, arguments: &[Vec<u8>]) -> Result<AnswerBytes, Stop> {
     Ok(hooks(alloc, &configuration_with_node(alloc, only(arguments)?)))
 }
 
 /// `top_patterns TEXT`: the patterns `files` and `exclude` at the top, separated by a bar, or the refusal.
-pub(crate) fn top_patterns(alloc: Global, arguments: &[Vec<u8>]) -> Result<Answer, Stop> {
+pub(crate) fn top_patterns(alloc: Global, arguments: &[Vec<u8>]) -> Result<AnswerBytes, Stop> {
     match read_config(alloc, only(arguments)?) {
         Ok(config) => Ok(patterns(alloc, &config)),
         Err(fault) => Ok(refusal(alloc, fault)),
     }
 }
 
-fn patterns(alloc: Global, config: &Config) -> Answer {
-    Answer::new(alloc).texts(&[text_of(&config.files), "|", text_of(&config.exclude)])
+fn patterns(alloc: Global, config: &Config) -> AnswerBytes {
+    AnswerBytes::new(alloc).texts(&[text_of(&config.files), "|", text_of(&config.exclude)])
 }
 
 /// `node TEXT`: the node that is read with the configuration, as `Debug` shows it, or the refusal.
-pub(crate) fn node(alloc: Global, arguments: &[Vec<u8>]) -> Result<Answer, Stop> {
+pub(crate) fn node(alloc: Global, arguments: &[Vec<u8>]) -> Result<AnswerBytes, Stop> {
     match read_config_with_node(alloc, only(arguments)?) {
-        Ok(read) => Ok(Answer::new(alloc).debug(&read.node)),
+        Ok(read) => Ok(AnswerBytes::new(alloc).debug(&read.node)),
         Err(fault) => Ok(refusal(alloc, fault)),
     }
 }
@@ -61,28 +61,28 @@ fn configuration_with_node(alloc: Global, bytes: &[u8]) -> Result<Config, Config
     }
 }
 
-fn outcome(alloc: Global, read: &Result<Config, ConfigFault>) -> Answer {
+fn outcome(alloc: Global, read: &Result<Config, ConfigFault>) -> AnswerBytes {
     match read {
         Ok(config) => summary(alloc, config),
         Err(fault) => refusal(alloc, *fault),
     }
 }
 
-fn hooks(alloc: Global, read: &Result<Config, ConfigFault>) -> Answer {
+fn hooks(alloc: Global, read: &Result<Config, ConfigFault>) -> AnswerBytes {
     match read {
         Ok(config) => hook_lines(alloc, config.hooks.as_slice()),
         Err(fault) => refusal(alloc, *fault),
     }
 }
 
-fn summary(alloc: Global, config: &Config) -> Answer {
-    let answer = Answer::new(alloc).shown(config.hooks.as_slice().len());
+fn summary(alloc: Global, config: &Config) -> AnswerBytes {
+    let answer = AnswerBytes::new(alloc).shown(config.hooks.as_slice().len());
     let answer = answer.text(" hooks, ").shown(config.fail_fast);
     with_texts(answer, " ", config.unknown.as_slice())
 }
 
 // Adds each of the texts, with a mark before it.
-fn with_texts(answer: Answer, mark: &str, texts: &[Text]) -> Answer {
+fn with_texts(answer: AnswerBytes, mark: &str, texts: &[Text]) -> AnswerBytes {
     let mut answer = answer;
     for text in texts {
         answer = answer.texts(&[mark, text.as_str()]);
@@ -91,13 +91,13 @@ fn with_texts(answer: Answer, mark: &str, texts: &[Text]) -> Answer {
 }
 
 /// The number, name and place of a refusal.
-pub(crate) fn refusal(alloc: Global, fault: ConfigFault) -> Answer {
-    let answer = Answer::new(alloc).shown(fault.number());
+pub(crate) fn refusal(alloc: Global, fault: ConfigFault) -> AnswerBytes {
+    let answer = AnswerBytes::new(alloc).shown(fault.number());
     answer.texts(&[" ", fault.name(), " at "]).shown(fault.at)
 }
 
-fn hook_lines(alloc: Global, hooks: &[Hook]) -> Answer {
-    let mut answer = Answer::new(alloc);
+fn hook_lines(alloc: Global, hooks: &[Hook]) -> AnswerBytes {
+    let mut answer = AnswerBytes::new(alloc);
     for hook in hooks {
         answer = with_selection(with_names(answer, hook), hook);
         answer = with_reads(with_truths(answer, hook), hook);
@@ -107,7 +107,7 @@ fn hook_lines(alloc: Global, hooks: &[Hook]) -> Answer {
 }
 
 // Adds a hook's line: its fields without its stages, in the order of the type, separated by bars.
-fn with_names(answer: Answer, hook: &Hook) -> Answer {
+fn with_names(answer: AnswerBytes, hook: &Hook) -> AnswerBytes {
     let answer = answer.texts(&[hook.id.as_str(), "|", hook.name.as_str(), "|"]);
     let answer = answer.texts(&[hook.alias.as_str(), "|"]);
     let answer = answer.text(word_of(&hook.language)).text("|");
@@ -127,36 +127,36 @@ fn text_of(pattern: &SharedPattern) -> &str {
     pattern.as_pattern().as_str()
 }
 
-fn with_selection(answer: Answer, hook: &Hook) -> Answer {
+fn with_selection(answer: AnswerBytes, hook: &Hook) -> AnswerBytes {
     let answer = answer.texts(&["|", text_of(&hook.files), "|", text_of(&hook.exclude), "|"]);
     let answer = with_texts(answer, "+", hook.types.as_slice()).text("|");
     let answer = with_texts(answer, "+", hook.types_or.as_slice()).text("|");
     with_texts(answer, "+", hook.exclude_types.as_slice())
 }
 
-fn with_truths(answer: Answer, hook: &Hook) -> Answer {
+fn with_truths(answer: AnswerBytes, hook: &Hook) -> AnswerBytes {
     let answer = with_truth(with_truth(answer, hook.always_run), hook.verbose);
     with_truth(with_truth(answer, hook.pass_filenames), hook.fail_fast)
 }
 
-fn with_reads(answer: Answer, hook: &Hook) -> Answer {
+fn with_reads(answer: AnswerBytes, hook: &Hook) -> AnswerBytes {
     with_truth(
         answer.texts(&["|", text_of(&hook.x_reads)]),
         hook.x_per_file,
     )
 }
 
-fn with_truth(answer: Answer, truth: bool) -> Answer {
+fn with_truth(answer: AnswerBytes, truth: bool) -> AnswerBytes {
     answer.text("|").shown(truth)
 }
 
-fn with_unserved(answer: Answer, hook: &Hook) -> Answer {
+fn with_unserved(answer: AnswerBytes, hook: &Hook) -> AnswerBytes {
     let answer = answer.texts(&["|", hook.log_file.as_str(), "|"]);
     with_args(answer, hook.additional_dependencies.as_slice()).text("\n")
 }
 
 // Adds each of the texts, with a plus sign before it.
-fn with_args(answer: Answer, texts: &[ConfigText]) -> Answer {
+fn with_args(answer: AnswerBytes, texts: &[ConfigText]) -> AnswerBytes {
     let mut answer = answer;
     for text in texts {
         answer = answer.texts(&["+", text.as_str()]);

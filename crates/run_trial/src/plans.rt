@@ -7,13 +7,13 @@ use hook_config::{Config, read_config};
 use hook_run::{Need, RunAsk, RunOut, RunPlan, RunRefusal};
 use report_text::Ending;
 use std::alloc::Global;
-use trial_rows::{Answer, Stop, verdict_of};
+use trial_rows::{AnswerBytes, Stop, verdict_of};
 
 /// `run CONFIGURATION STAGE CANDIDATES ONLY SKIP FILE..`: the run's refusal with its number, name and text.
 /// Otherwise a line that says that the plan is over, whether every hook passed, what became of the tree, and
 /// how many hooks are unsteady. Then come a line for each result, and the report. `Child` if the plan needs a
 /// child.
-pub(crate) fn played(alloc: Global, arguments: &[Vec<u8>]) -> Result<Answer, Stop> {
+pub(crate) fn played(alloc: Global, arguments: &[Vec<u8>]) -> Result<AnswerBytes, Stop> {
     let [configuration, rest @ ..] = arguments else {
         return Err(Stop::BadLine);
     };
@@ -27,7 +27,7 @@ pub(crate) fn played(alloc: Global, arguments: &[Vec<u8>]) -> Result<Answer, Sto
     }
 }
 
-fn planned(alloc: Global, config: &Config, ask: &RunAsk, tree: &Tree) -> Result<Answer, Stop> {
+fn planned(alloc: Global, config: &Config, ask: &RunAsk, tree: &Tree) -> Result<AnswerBytes, Stop> {
     match RunPlan::begin(alloc, config, ask, tree) {
         Ok(plan) => Ok(ended(alloc, plan, tree)),
         Err(refused) => refused_run(alloc, refused),
@@ -35,25 +35,25 @@ fn planned(alloc: Global, config: &Config, ask: &RunAsk, tree: &Tree) -> Result<
 }
 
 /// The number, name and text of a run's refusal.
-pub(crate) fn refused_run(alloc: Global, refused: RunRefusal) -> Result<Answer, Stop> {
+pub(crate) fn refused_run(alloc: Global, refused: RunRefusal) -> Result<AnswerBytes, Stop> {
     if refused == RunRefusal::OutOfMemory {
         return Err(Stop::OutOfMemory);
     }
-    let answer = Answer::new(alloc).shown(refused.number());
+    let answer = AnswerBytes::new(alloc).shown(refused.number());
     Ok(answer.texts(&[" ", refused.name(), ": "]).shown(refused))
 }
 
-fn ended(alloc: Global, plan: RunPlan, tree: &Tree) -> Answer {
+fn ended(alloc: Global, plan: RunPlan, tree: &Tree) -> AnswerBytes {
     match plan.next() {
         Need::Over => told(alloc, &plan.finish(), tree),
-        Need::Child => Answer::new(alloc).text("Child"),
+        Need::Child => AnswerBytes::new(alloc).text("Child"),
     }
 }
 
-fn told(alloc: Global, out: &RunOut, tree: &Tree) -> Answer {
+fn told(alloc: Global, out: &RunOut, tree: &Tree) -> AnswerBytes {
     let same = out.tree == *tree;
     let after = if same { "the same" } else { "another" };
-    let answer = Answer::new(alloc).texts(&[
+    let answer = AnswerBytes::new(alloc).texts(&[
         "Over, ",
         verdict_of(out.passed),
         ", ",
@@ -65,7 +65,7 @@ fn told(alloc: Global, out: &RunOut, tree: &Tree) -> Answer {
 }
 
 /// Adds a line for each result, and the report.
-pub(crate) fn with_results(answer: Answer, out: &RunOut) -> Answer {
+pub(crate) fn with_results(answer: AnswerBytes, out: &RunOut) -> AnswerBytes {
     let mut answer = answer;
     for hook in out.results.as_slice() {
         answer = with_ending(answer.text(hook.id.as_str()), &hook.ending);
@@ -74,7 +74,7 @@ pub(crate) fn with_results(answer: Answer, out: &RunOut) -> Answer {
 }
 
 // How a hook ended.
-fn with_ending(answer: Answer, ending: &Ending) -> Answer {
+fn with_ending(answer: AnswerBytes, ending: &Ending) -> AnswerBytes {
     match ending {
         Ending::SkippedAsked => answer.text(": skipped as asked\n"),
         Ending::SkippedNoFiles => answer.text(": skipped, no files\n"),

@@ -4,13 +4,13 @@ use child_port::Fault;
 use hook_base::{Bytes, Items, Text};
 use report_text::{Ending, HookResult, LineFault, MOST_NAME_BYTES, columns, hook_text};
 use std::alloc::Global;
-use trial_rows::{Answer, Stop, number_of, text_of, texts_of};
+use trial_rows::{AnswerBytes, Stop, number_of, text_of, texts_of};
 use unicode_width::UnicodeWidthStr;
 
 /// `hook_text COLUMNS NAME VERBOSE ENDING..`: the text of a hook with the id `t`, whose name must fit the
 /// columns. An ending is `asked`, `no files` or `ran STATUS MODIFIED OUTPUT FAULT..`. VERBOSE is `verbose` or
 /// empty, and MODIFIED is `modified` or empty.
-pub(crate) fn of_hook(alloc: Global, arguments: &[Vec<u8>]) -> Result<Answer, Stop> {
+pub(crate) fn of_hook(alloc: Global, arguments: &[Vec<u8>]) -> Result<AnswerBytes, Stop> {
     let [columns, name, verbose, ending @ ..] = arguments else {
         return Err(Stop::BadLine);
     };
@@ -29,13 +29,13 @@ fn hook_of(alloc: Global, name: &str, verbose: bool, ending: Ending) -> Result<H
     })
 }
 
-fn fitting(alloc: Global, columns: u32, hook: HookResult) -> Result<Answer, Stop> {
+fn fitting(alloc: Global, columns: u32, hook: HookResult) -> Result<AnswerBytes, Stop> {
     let columns = columns as usize;
     if columns < 30 || columns - 30 < hook.name.as_str().width() {
         return Err(Stop::BadLine);
     }
     let text = hook_text(alloc, columns, &hook)?;
-    Ok(Answer::new(alloc).bytes(text.as_slice()))
+    Ok(AnswerBytes::new(alloc).bytes(text.as_slice()))
 }
 
 fn ending_of(alloc: Global, arguments: &[Vec<u8>]) -> Result<Ending, Stop> {
@@ -96,10 +96,10 @@ fn fault_of(word: &str) -> Option<LineFault> {
 }
 
 /// `columns NAME..`: the columns of a report on hooks with these names.
-pub(crate) fn for_names(alloc: Global, arguments: &[Vec<u8>]) -> Result<Answer, Stop> {
+pub(crate) fn for_names(alloc: Global, arguments: &[Vec<u8>]) -> Result<AnswerBytes, Stop> {
     let names = texts_of(alloc, arguments)?;
     if names.iter().any(|name| MOST_NAME_BYTES < name.len()) {
         return Err(Stop::BadLine);
     }
-    Ok(Answer::new(alloc).shown(columns(names.as_slice())))
+    Ok(AnswerBytes::new(alloc).shown(columns(names.as_slice())))
 }

@@ -9,11 +9,11 @@ use hook_run::{HooksRun, Reuse, RunAsk, RunOut, run_hooks};
 use result_book::{Book, ListBook};
 use std::alloc::Global;
 use store_faults::MOST_ANSWERS;
-use trial_rows::{Answer, Stop, number_of};
+use trial_rows::{AnswerBytes, Stop, number_of};
 
 /// `first_runs CONFIGURATION FILES SIZE COUNT`: COUNT runs on FILES files of SIZE bytes, each over an empty
 /// book.
-pub(crate) fn first_runs(alloc: Global, arguments: &[Vec<u8>]) -> Result<Answer, Stop> {
+pub(crate) fn first_runs(alloc: Global, arguments: &[Vec<u8>]) -> Result<AnswerBytes, Stop> {
     let [configuration, files, size, count] = arguments else {
         return Err(Stop::BadLine);
     };
@@ -31,7 +31,7 @@ pub(crate) fn first_runs(alloc: Global, arguments: &[Vec<u8>]) -> Result<Answer,
 }
 
 /// `further_runs CONFIGURATION FILES SIZE COUNT`: the same, but over one book.
-pub(crate) fn further_runs(alloc: Global, arguments: &[Vec<u8>]) -> Result<Answer, Stop> {
+pub(crate) fn further_runs(alloc: Global, arguments: &[Vec<u8>]) -> Result<AnswerBytes, Stop> {
     let [configuration, files, size, count] = arguments else {
         return Err(Stop::BadLine);
     };
@@ -49,7 +49,7 @@ pub(crate) fn further_runs(alloc: Global, arguments: &[Vec<u8>]) -> Result<Answe
 
 /// `runs_among CONFIGURATION ROWS COUNT`: COUNT runs on one file, over a book with cached results of the
 /// command `c` for ROWS other contents of that file.
-pub(crate) fn runs_among(alloc: Global, arguments: &[Vec<u8>]) -> Result<Answer, Stop> {
+pub(crate) fn runs_among(alloc: Global, arguments: &[Vec<u8>]) -> Result<AnswerBytes, Stop> {
     let [configuration, rows, count] = arguments else {
         return Err(Stop::BadLine);
     };
@@ -64,7 +64,7 @@ pub(crate) fn runs_among(alloc: Global, arguments: &[Vec<u8>]) -> Result<Answer,
 
 /// `runs_of_each CONFIGURATION CONTENTS COUNT`: COUNT times, a run on one file for each of its CONTENTS
 /// contents.
-pub(crate) fn runs_of_each(alloc: Global, arguments: &[Vec<u8>]) -> Result<Answer, Stop> {
+pub(crate) fn runs_of_each(alloc: Global, arguments: &[Vec<u8>]) -> Result<AnswerBytes, Stop> {
     let [configuration, contents, count] = arguments else {
         return Err(Stop::BadLine);
     };
@@ -129,8 +129,8 @@ impl Times {
         Ok(())
     }
 
-    fn told(&self) -> Answer {
-        let answer = Answer::new(self.alloc).shown(self.children.calls());
+    fn told(&self) -> AnswerBytes {
+        let answer = AnswerBytes::new(self.alloc).shown(self.children.calls());
         let answer = answer.text(" calls, ").shown(self.book.len());
         let answer = answer.text(" remembered\n");
         answer.bytes(self.report.as_slice())

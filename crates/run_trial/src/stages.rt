@@ -3,7 +3,7 @@
 use crate::configurations::refusal;
 use hook_config::{Hook, Stage, Stages, read_config};
 use std::alloc::Global;
-use trial_rows::{Answer, Stop, only, text_of};
+use trial_rows::{AnswerBytes, Stop, only, text_of};
 
 // All stages, with their first names.
 const EVERY: &[(Stage, &str)] = &[
@@ -21,7 +21,7 @@ const EVERY: &[(Stage, &str)] = &[
 ];
 
 /// `hook_stages TEXT`: the stages of each hook of the configuration, a line each, or the refusal.
-pub(crate) fn of_hooks(alloc: Global, arguments: &[Vec<u8>]) -> Result<Answer, Stop> {
+pub(crate) fn of_hooks(alloc: Global, arguments: &[Vec<u8>]) -> Result<AnswerBytes, Stop> {
     match read_config(alloc, only(arguments)?) {
         Ok(config) => Ok(lines(alloc, config.hooks.as_slice())),
         Err(fault) => Ok(refusal(alloc, fault)),
@@ -29,15 +29,15 @@ pub(crate) fn of_hooks(alloc: Global, arguments: &[Vec<u8>]) -> Result<Answer, S
 }
 
 /// `stage_of_word WORD`: the stage that the word names, or `none`.
-pub(crate) fn of_word(alloc: Global, arguments: &[Vec<u8>]) -> Result<Answer, Stop> {
+pub(crate) fn of_word(alloc: Global, arguments: &[Vec<u8>]) -> Result<AnswerBytes, Stop> {
     match Stage::of_word(text_of(only(arguments)?)?) {
-        Some(stage) => Ok(Answer::new(alloc).debug(stage)),
-        None => Ok(Answer::new(alloc).text("none")),
+        Some(stage) => Ok(AnswerBytes::new(alloc).debug(stage)),
+        None => Ok(AnswerBytes::new(alloc).text("none")),
     }
 }
 
 /// `stages SET WORD..`: the stages of the set, `all` or `none`, with those that the words name.
-pub(crate) fn of_set(alloc: Global, arguments: &[Vec<u8>]) -> Result<Answer, Stop> {
+pub(crate) fn of_set(alloc: Global, arguments: &[Vec<u8>]) -> Result<AnswerBytes, Stop> {
     let [set, words @ ..] = arguments else {
         return Err(Stop::BadLine);
     };
@@ -45,7 +45,7 @@ pub(crate) fn of_set(alloc: Global, arguments: &[Vec<u8>]) -> Result<Answer, Sto
     for word in words {
         stages = stages.with(Stage::of_word(text_of(word.as_slice())?).ok_or(Stop::BadLine)?);
     }
-    Ok(with_stages(Answer::new(alloc), stages))
+    Ok(with_stages(AnswerBytes::new(alloc), stages))
 }
 
 fn set_of(word: &str) -> Result<Stages, Stop> {
@@ -56,8 +56,8 @@ fn set_of(word: &str) -> Result<Stages, Stop> {
     }
 }
 
-fn lines(alloc: Global, hooks: &[Hook]) -> Answer {
-    let mut answer = Answer::new(alloc);
+fn lines(alloc: Global, hooks: &[Hook]) -> AnswerBytes {
+    let mut answer = AnswerBytes::new(alloc);
     for hook in hooks {
         answer = with_stages(answer, hook.stages).text("\n");
     }
@@ -65,7 +65,7 @@ fn lines(alloc: Global, hooks: &[Hook]) -> Answer {
 }
 
 // Adds the names of the stages, each followed by a blank.
-fn with_stages(answer: Answer, stages: Stages) -> Answer {
+fn with_stages(answer: AnswerBytes, stages: Stages) -> AnswerBytes {
     let mut answer = answer;
     for (stage, name) in EVERY {
         if stages.has(*stage) {

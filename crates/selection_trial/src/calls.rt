@@ -2,20 +2,20 @@
 
 use crate::{commands, found, greps, kept, options, paths, tags};
 use std::alloc::Global;
-use trial_rows::{Answer, Answers, Row, Stop};
+use trial_rows::{AnswerBytes, Answers, Row, Stop};
 
 /// The calls of the program.
 pub(crate) struct Calls;
 
 impl Answers for Calls {
-    fn answer_to(&self, alloc: Global, row: &Row) -> Result<Answer, Stop> {
+    fn answer_to(&self, alloc: Global, row: &Row) -> Result<AnswerBytes, Stop> {
         of_selections(alloc, row.call.as_str(), row.arguments.as_slice())
     }
 }
 
 // The calls are spread over four functions, each of which calls the next: one `match` with many arms takes
 // the checker long.
-fn of_selections(alloc: Global, call: &str, arguments: &[Vec<u8>]) -> Result<Answer, Stop> {
+fn of_selections(alloc: Global, call: &str, arguments: &[Vec<u8>]) -> Result<AnswerBytes, Stop> {
     match call {
         "tags_of" => tags::among(alloc, arguments),
         "shebang" => tags::words_of(alloc, arguments),
@@ -27,7 +27,7 @@ fn of_selections(alloc: Global, call: &str, arguments: &[Vec<u8>]) -> Result<Ans
     }
 }
 
-fn of_kept_tags(alloc: Global, call: &str, arguments: &[Vec<u8>]) -> Result<Answer, Stop> {
+fn of_kept_tags(alloc: Global, call: &str, arguments: &[Vec<u8>]) -> Result<AnswerBytes, Stop> {
     match call {
         "follow" => kept::tags_after(alloc, arguments),
         "select_kept" => kept::selected_after(alloc, arguments),
@@ -35,7 +35,7 @@ fn of_kept_tags(alloc: Global, call: &str, arguments: &[Vec<u8>]) -> Result<Answ
     }
 }
 
-fn of_commands(alloc: Global, call: &str, arguments: &[Vec<u8>]) -> Result<Answer, Stop> {
+fn of_commands(alloc: Global, call: &str, arguments: &[Vec<u8>]) -> Result<AnswerBytes, Stop> {
     match call {
         "fail_answer" => greps::of_fail(alloc, arguments),
         "grep_build" => greps::built(alloc, arguments),
@@ -46,7 +46,7 @@ fn of_commands(alloc: Global, call: &str, arguments: &[Vec<u8>]) -> Result<Answe
     }
 }
 
-fn of_options(alloc: Global, call: &str, arguments: &[Vec<u8>]) -> Result<Answer, Stop> {
+fn of_options(alloc: Global, call: &str, arguments: &[Vec<u8>]) -> Result<AnswerBytes, Stop> {
     match call {
         "command_reads" => options::read_by(alloc, arguments),
         "tools" => options::tools(alloc),

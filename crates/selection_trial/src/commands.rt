@@ -4,26 +4,26 @@ use crate::files::paths_of;
 use arg_partition::{Cut, PartsFault, WordsFault, parts, words};
 use hook_base::Text;
 use std::alloc::Global;
-use trial_rows::{Answer, Stop, only, text_of};
+use trial_rows::{AnswerBytes, Stop, only, text_of};
 
 /// `words TEXT`: the words, each with a line feed before it, or the number and the name of the refusal.
-pub(crate) fn cut(alloc: Global, arguments: &[Vec<u8>]) -> Result<Answer, Stop> {
+pub(crate) fn cut(alloc: Global, arguments: &[Vec<u8>]) -> Result<AnswerBytes, Stop> {
     match words(alloc, text_of(only(arguments)?)?) {
         Ok(words) => Ok(preceded(alloc, words.as_slice())),
         Err(fault) => words_refusal(alloc, fault),
     }
 }
 
-fn preceded(alloc: Global, words: &[Text]) -> Answer {
-    let mut answer = Answer::new(alloc);
+fn preceded(alloc: Global, words: &[Text]) -> AnswerBytes {
+    let mut answer = AnswerBytes::new(alloc);
     for word in words {
         answer = answer.texts(&["\n", word.as_str()]);
     }
     answer
 }
 
-fn words_refusal(alloc: Global, fault: WordsFault) -> Result<Answer, Stop> {
-    let answer = Answer::new(alloc).shown(fault.number());
+fn words_refusal(alloc: Global, fault: WordsFault) -> Result<AnswerBytes, Stop> {
+    let answer = AnswerBytes::new(alloc).shown(fault.number());
     match fault {
         WordsFault::OpenQuote => Ok(answer.text(" OpenQuote")),
         WordsFault::NothingEscaped => Ok(answer.text(" NothingEscaped")),
@@ -33,7 +33,7 @@ fn words_refusal(alloc: Global, fault: WordsFault) -> Result<Answer, Stop> {
 
 /// `parts LIMIT MOST WORDS NAMES`: the cuts, a line each, or the number, the name and the index of the
 /// refusal. Each word and each name ends with a line feed.
-pub(crate) fn partitioned(alloc: Global, arguments: &[Vec<u8>]) -> Result<Answer, Stop> {
+pub(crate) fn partitioned(alloc: Global, arguments: &[Vec<u8>]) -> Result<AnswerBytes, Stop> {
     let [limit, most, words, names] = arguments else {
         return Err(Stop::BadLine);
     };
@@ -47,7 +47,7 @@ fn parted(
     most: usize,
     words: &[u8],
     names: &[u8],
-) -> Result<Answer, Stop> {
+) -> Result<AnswerBytes, Stop> {
     let words = texts(alloc, words)?;
     let names = paths_of(alloc, names)?;
     if most == 0 {
@@ -56,14 +56,14 @@ fn parted(
     match parts(alloc, words.as_slice(), names.as_slice(), limit, most) {
         Ok(cuts) => Ok(shown(alloc, cuts.as_slice())),
         Err(PartsFault::TooLong(index)) => {
-            Ok(Answer::new(alloc).text("1 TooLong ").shown(index))
+            Ok(AnswerBytes::new(alloc).text("1 TooLong ").shown(index))
         }
         Err(PartsFault::OutOfMemory) => Err(Stop::OutOfMemory),
     }
 }
 
-fn shown(alloc: Global, cuts: &[Cut]) -> Answer {
-    let mut answer = Answer::new(alloc);
+fn shown(alloc: Global, cuts: &[Cut]) -> AnswerBytes {
+    let mut answer = AnswerBytes::new(alloc);
     for cut in cuts {
         answer = answer.shown(cut.start).text(" ");
         answer = answer.shown(cut.end).text("\n");

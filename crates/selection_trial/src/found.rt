@@ -6,11 +6,11 @@ use crate::rules::pattern_of;
 use hook_base::{Items, RepoPath, Tree};
 use path_select::{Pattern, Rules, select, select_found};
 use std::alloc::Global;
-use trial_rows::{Answer, Stop};
+use trial_rows::{AnswerBytes, Stop};
 
 /// `select_found PATTERN TREE`: the paths of the tree's files in which the pattern is found, a line each.
 /// `TwoAnswers` if `select` gives others. A line of the tree is as `select` takes it.
-pub(crate) fn found(alloc: Global, arguments: &[Vec<u8>]) -> Result<Answer, Stop> {
+pub(crate) fn found(alloc: Global, arguments: &[Vec<u8>]) -> Result<AnswerBytes, Stop> {
     let [pattern, tree] = arguments else {
         return Err(Stop::BadLine);
     };
@@ -18,7 +18,7 @@ pub(crate) fn found(alloc: Global, arguments: &[Vec<u8>]) -> Result<Answer, Stop
     found_in(alloc, &pattern, &tree_of(alloc, tree.as_slice())?)
 }
 
-fn found_in(alloc: Global, pattern: &Pattern, tree: &Tree) -> Result<Answer, Stop> {
+fn found_in(alloc: Global, pattern: &Pattern, tree: &Tree) -> Result<AnswerBytes, Stop> {
     let found = select_found(alloc, pattern, tree)?;
     if selected_alone(alloc, pattern, tree)? == found {
         Ok(lines_of(alloc, found.as_slice()))

@@ -5,10 +5,10 @@ use builtin_hooks::{Grep, GrepFault, fail_answer};
 use child_port::Answer as ChildAnswer;
 use hook_base::{Mode, RepoPath, Tree};
 use std::alloc::Global;
-use trial_rows::{Answer, Stop, text_of};
+use trial_rows::{AnswerBytes, Stop, text_of};
 
 /// `fail_answer ENTRY PATH..`: the answer's status, a line end, and its output.
-pub(crate) fn of_fail(alloc: Global, arguments: &[Vec<u8>]) -> Result<Answer, Stop> {
+pub(crate) fn of_fail(alloc: Global, arguments: &[Vec<u8>]) -> Result<AnswerBytes, Stop> {
     let [entry, paths @ ..] = arguments else {
         return Err(Stop::BadLine);
     };
@@ -20,25 +20,25 @@ pub(crate) fn of_fail(alloc: Global, arguments: &[Vec<u8>]) -> Result<Answer, St
     Ok(shown(alloc, &answer))
 }
 
-fn shown(alloc: Global, answer: &ChildAnswer) -> Answer {
-    let told = Answer::new(alloc).shown(answer.status);
+fn shown(alloc: Global, answer: &ChildAnswer) -> AnswerBytes {
+    let told = AnswerBytes::new(alloc).shown(answer.status);
     told.text("\n").bytes(answer.output.as_slice())
 }
 
 /// `grep_build ENTRY ARGS`: `built`, or the refusal's number and name. Line ends separate the arguments.
-pub(crate) fn built(alloc: Global, arguments: &[Vec<u8>]) -> Result<Answer, Stop> {
+pub(crate) fn built(alloc: Global, arguments: &[Vec<u8>]) -> Result<AnswerBytes, Stop> {
     let [entry, args] = arguments else {
         return Err(Stop::BadLine);
     };
     match build(alloc, entry.as_slice(), args.as_slice())? {
-        Ok(_grep) => Ok(Answer::new(alloc).text("built")),
+        Ok(_grep) => Ok(AnswerBytes::new(alloc).text("built")),
         Err(fault) => refusal(alloc, fault),
     }
 }
 
 /// `grep_answer ENTRY ARGS PATHS (PATH CONTENTS)..`: the same as `fail_answer` for PATHS, over a tree of the
 /// files that follow, or the refusal. Line ends separate arguments and paths.
-pub(crate) fn answered(alloc: Global, arguments: &[Vec<u8>]) -> Result<Answer, Stop> {
+pub(crate) fn answered(alloc: Global, arguments: &[Vec<u8>]) -> Result<AnswerBytes, Stop> {
     let [entry, args, paths, files @ ..] = arguments else {
         return Err(Stop::BadLine);
     };
@@ -48,7 +48,12 @@ pub(crate) fn answered(alloc: Global, arguments: &[Vec<u8>]) -> Result<Answer, S
     }
 }
 
-fn grepped(alloc: Global, grep: &Grep, paths: &[u8], files: &[Vec<u8>]) -> Result<Answer, Stop> {
+fn grepped(
+    alloc: Global,
+    grep: &Grep,
+    paths: &[u8],
+    files: &[Vec<u8>],
+) -> Result<AnswerBytes, Stop> {
     let asked = asked_paths(alloc, paths)?;
     let tree = tree_of(alloc, files)?;
     let answer = grep.answer(alloc, asked.as_slice(), &tree)?;
@@ -60,8 +65,8 @@ fn build(alloc: Global, entry: &[u8], args: &[u8]) -> Result<Result<Grep, GrepFa
     Ok(Grep::build(alloc, text_of(entry)?, args.as_slice()))
 }
 
-fn refusal(alloc: Global, fault: GrepFault) -> Result<Answer, Stop> {
-    let answer = Answer::new(alloc).shown(fault.number());
+fn refusal(alloc: Global, fault: GrepFault) -> Result<AnswerBytes, Stop> {
+    let answer = AnswerBytes::new(alloc).shown(fault.number());
     match fault {
         GrepFault::NotAPattern => Ok(answer.text(" NotAPattern")),
         GrepFault::BadArg => Ok(answer.text(" BadArg")),

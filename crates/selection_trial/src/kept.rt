@@ -10,7 +10,7 @@ use file_tags::{KeptTags, Tags, tags_of};
 use hook_base::{Change, File, Items, OutOfMemory, RepoPath, Tree};
 use path_select::{Rules, select, select_kept};
 use std::alloc::Global;
-use trial_rows::{Answer, Stop, texts_of};
+use trial_rows::{AnswerBytes, Stop, texts_of};
 
 // A tree to which changes were applied, and the tags that followed them.
 #[derive(Drop)]
@@ -23,7 +23,7 @@ struct Followed {
 /// path, and those of the given tags that the file has, each after a blank. `TwoAnswers` if the tags that
 /// followed the changes aren't those of the file. A line of the changes is `+ PATH BYTES`, or `- PATH` if the
 /// file is gone. A line of the tree is as `select` takes it.
-pub(crate) fn tags_after(alloc: Global, arguments: &[Vec<u8>]) -> Result<Answer, Stop> {
+pub(crate) fn tags_after(alloc: Global, arguments: &[Vec<u8>]) -> Result<AnswerBytes, Stop> {
     let [tree, changes, asked @ ..] = arguments else {
         return Err(Stop::BadLine);
     };
@@ -52,13 +52,13 @@ fn follow(alloc: Global, old: &Tree, changes: &[Change]) -> Result<Followed, Out
     Ok(Followed { tree, tags })
 }
 
-fn tags_shown(alloc: Global, followed: &Followed, asked: &[&str]) -> Result<Answer, Stop> {
+fn tags_shown(alloc: Global, followed: &Followed, asked: &[&str]) -> Result<AnswerBytes, Stop> {
     let tree = &followed.tree;
     let tags = &followed.tags;
     if tags.len() != tree.len() {
         return Err(Stop::TwoAnswers);
     }
-    let mut answer = Answer::new(alloc);
+    let mut answer = AnswerBytes::new(alloc);
     for index in 0..tree.len() {
         answer = file_shown(alloc, answer, tree.entry(index), tags.get(index), asked)?;
     }
@@ -67,11 +67,11 @@ fn tags_shown(alloc: Global, followed: &Followed, asked: &[&str]) -> Result<Answ
 
 fn file_shown(
     alloc: Global,
-    answer: Answer,
+    answer: AnswerBytes,
     file: &File,
     kept: &Tags,
     asked: &[&str],
-) -> Result<Answer, Stop> {
+) -> Result<AnswerBytes, Stop> {
     let made = tags_of(alloc, &file.path, &file.entry)?;
     let mut answer = answer.text(file.path.as_str());
     for tag in asked {
@@ -88,7 +88,7 @@ fn file_shown(
 /// `select_kept TOP_FILES TOP_EXCLUDE FILES EXCLUDE TYPES TYPES_OR EXCLUDE_TYPES CANDIDATES TREE CHANGES`:
 /// what is selected from the tree that the changes leave, by the tags that followed them. `TwoAnswers` if
 /// `select` gives other paths.
-pub(crate) fn selected_after(alloc: Global, arguments: &[Vec<u8>]) -> Result<Answer, Stop> {
+pub(crate) fn selected_after(alloc: Global, arguments: &[Vec<u8>]) -> Result<AnswerBytes, Stop> {
     let [rules @ .., paths, tree, changes] = arguments else {
         return Err(Stop::BadLine);
     };

@@ -4,11 +4,11 @@ use crate::commands::texts;
 use hook_config::{Config, Hook, MOST_TEXT_BYTES, SharedPattern, read_config};
 use run_options::{RunOptions, TOOLS, ToolKind, command_reads, with_options};
 use std::alloc::Global;
-use trial_rows::{Answer, Stop, text_of};
+use trial_rows::{AnswerBytes, Stop, text_of};
 
 /// `command_reads WORDS PASS_FILENAMES ALWAYS_RUN`: the text of the pattern of what the command reads besides
 /// its files, or `every path`. Each word ends with a line feed, and the other two are `true` or `false`.
-pub(crate) fn read_by(alloc: Global, arguments: &[Vec<u8>]) -> Result<Answer, Stop> {
+pub(crate) fn read_by(alloc: Global, arguments: &[Vec<u8>]) -> Result<AnswerBytes, Stop> {
     let [words, pass_filenames, always_run] = arguments else {
         return Err(Stop::BadLine);
     };
@@ -16,7 +16,7 @@ pub(crate) fn read_by(alloc: Global, arguments: &[Vec<u8>]) -> Result<Answer, St
     let pass_filenames = truth_of(pass_filenames.as_slice())?;
     let always_run = truth_of(always_run.as_slice())?;
     let reads = command_reads(words.as_slice(), pass_filenames, always_run);
-    Ok(Answer::new(alloc).text(shown_pattern(reads)))
+    Ok(AnswerBytes::new(alloc).text(shown_pattern(reads)))
 }
 
 fn truth_of(word: &[u8]) -> Result<bool, Stop> {
@@ -33,12 +33,12 @@ fn shown_pattern(text: &str) -> &str {
 
 /// `tools`: the name of each known tool and the text of its pattern, separated by a bar, a line each.
 /// `BadLine` if a pattern is refused.
-pub(crate) fn tools(alloc: Global) -> Result<Answer, Stop> {
+pub(crate) fn tools(alloc: Global) -> Result<AnswerBytes, Stop> {
     tool_lines(alloc, &TOOLS)
 }
 
-fn tool_lines(alloc: Global, tools: &[(&str, ToolKind, &str)]) -> Result<Answer, Stop> {
-    let mut answer = Answer::new(alloc);
+fn tool_lines(alloc: Global, tools: &[(&str, ToolKind, &str)]) -> Result<AnswerBytes, Stop> {
+    let mut answer = AnswerBytes::new(alloc);
     for (name, _kind, reads) in tools {
         if reads.len() > MOST_TEXT_BYTES {
             return Err(Stop::BadLine);
@@ -54,7 +54,7 @@ fn tool_lines(alloc: Global, tools: &[(&str, ToolKind, &str)]) -> Result<Answer,
 /// `with_options OPTIONS TEXT`: a line for each hook of the configuration that is run with these options. It
 /// has the hook's id, the pattern of what the hook reads, and whether it is verbose, separated by bars. The
 /// options are names separated by blanks.
-pub(crate) fn hooks(alloc: Global, arguments: &[Vec<u8>]) -> Result<Answer, Stop> {
+pub(crate) fn hooks(alloc: Global, arguments: &[Vec<u8>]) -> Result<AnswerBytes, Stop> {
     let [options, text] = arguments else {
         return Err(Stop::BadLine);
     };
@@ -81,15 +81,15 @@ fn options_of(names: &str) -> Result<RunOptions, Stop> {
     Ok(options)
 }
 
-fn hook_lines(alloc: Global, config: &Config) -> Answer {
-    let mut answer = Answer::new(alloc);
+fn hook_lines(alloc: Global, config: &Config) -> AnswerBytes {
+    let mut answer = AnswerBytes::new(alloc);
     for hook in config.hooks.as_slice() {
         answer = with_hook(answer, hook);
     }
     answer
 }
 
-fn with_hook(answer: Answer, hook: &Hook) -> Answer {
+fn with_hook(answer: AnswerBytes, hook: &Hook) -> AnswerBytes {
     let reads = shown_pattern(hook.x_reads.as_pattern().as_str());
     let answer = answer.texts(&[hook.id.as_str(), "|", reads, "|"]);
     answer.shown(hook.verbose).text("\n")

@@ -8,26 +8,26 @@ use path_select::{
     Candidates, Pattern, PatternFault, Rules, select, select_among, select_kept, select_kept_among,
 };
 use std::alloc::Global;
-use trial_rows::{Answer, Stop, only, text_of};
+use trial_rows::{AnswerBytes, Stop, only, text_of};
 
 /// `pattern TEXT`: the pattern's text, or the number of the refusal and its text.
-pub(crate) fn built(alloc: Global, arguments: &[Vec<u8>]) -> Result<Answer, Stop> {
+pub(crate) fn built(alloc: Global, arguments: &[Vec<u8>]) -> Result<AnswerBytes, Stop> {
     match Pattern::build(alloc, text_of(only(arguments)?)?) {
-        Ok(pattern) => Ok(Answer::new(alloc).text(pattern.as_str())),
+        Ok(pattern) => Ok(AnswerBytes::new(alloc).text(pattern.as_str())),
         Err(PatternFault::OutOfMemory) => Err(Stop::OutOfMemory),
         Err(fault) => Ok(refusal(alloc, fault)),
     }
 }
 
-fn refusal(alloc: Global, fault: PatternFault) -> Answer {
-    let answer = Answer::new(alloc).shown(fault.number());
+fn refusal(alloc: Global, fault: PatternFault) -> AnswerBytes {
+    let answer = AnswerBytes::new(alloc).shown(fault.number());
     answer.text(" ").shown(fault)
 }
 
 /// `select TOP_FILES TOP_EXCLUDE FILES EXCLUDE TYPES TYPES_OR EXCLUDE_TYPES CANDIDATES TREE`: the paths that
 /// are selected, a line each. Blanks separate tags, and line feeds candidates. A line of the tree is
 /// `MODE PATH BYTES`, with the mode `-` or `x`.
-pub(crate) fn selected(alloc: Global, arguments: &[Vec<u8>]) -> Result<Answer, Stop> {
+pub(crate) fn selected(alloc: Global, arguments: &[Vec<u8>]) -> Result<AnswerBytes, Stop> {
     let [rules @ .., paths, tree] = arguments else {
         return Err(Stop::BadLine);
     };
@@ -38,8 +38,8 @@ pub(crate) fn selected(alloc: Global, arguments: &[Vec<u8>]) -> Result<Answer, S
 }
 
 /// The paths, a line each.
-pub(crate) fn lines_of(alloc: Global, paths: &[RepoPath]) -> Answer {
-    let mut answer = Answer::new(alloc);
+pub(crate) fn lines_of(alloc: Global, paths: &[RepoPath]) -> AnswerBytes {
+    let mut answer = AnswerBytes::new(alloc);
     for path in paths {
         answer = answer.texts(&[path.as_str(), "\n"]);
     }

@@ -4,10 +4,10 @@ use crate::files::path_of;
 use file_tags::{MOST_SHEBANG_BYTES, Tags, shebang, tags_of};
 use hook_base::{Content, FileEntry, Mode};
 use std::alloc::Global;
-use trial_rows::{Answer, Stop, only, text_of};
+use trial_rows::{AnswerBytes, Stop, only, text_of};
 
 /// `tags_of MODE PATH BYTES TAG..`: those of the given tags that the file has, a line each.
-pub(crate) fn among(alloc: Global, arguments: &[Vec<u8>]) -> Result<Answer, Stop> {
+pub(crate) fn among(alloc: Global, arguments: &[Vec<u8>]) -> Result<AnswerBytes, Stop> {
     let [mode, path, bytes, asked @ ..] = arguments else {
         return Err(Stop::BadLine);
     };
@@ -23,8 +23,8 @@ fn entry_of(alloc: Global, mode: &[u8], bytes: &[u8]) -> Result<FileEntry, Stop>
 }
 
 // Adds those of the asked tags that are among the tags, a line each.
-fn lines_among(alloc: Global, tags: &Tags, asked: &[Vec<u8>]) -> Result<Answer, Stop> {
-    let mut answer = Answer::new(alloc);
+fn lines_among(alloc: Global, tags: &Tags, asked: &[Vec<u8>]) -> Result<AnswerBytes, Stop> {
+    let mut answer = AnswerBytes::new(alloc);
     for tag in asked {
         let tag = text_of(tag.as_slice())?;
         if tags.has(tag) {
@@ -43,9 +43,9 @@ fn mode_of(word: &[u8]) -> Result<Mode, Stop> {
 }
 
 /// `shebang BYTES`: the words of the first line, a line each.
-pub(crate) fn words_of(alloc: Global, arguments: &[Vec<u8>]) -> Result<Answer, Stop> {
+pub(crate) fn words_of(alloc: Global, arguments: &[Vec<u8>]) -> Result<AnswerBytes, Stop> {
     let words = shebang(alloc, only(arguments)?)?;
-    let mut answer = Answer::new(alloc);
+    let mut answer = AnswerBytes::new(alloc);
     for word in words.as_slice() {
         answer = answer.texts(&[word.as_str(), "\n"]);
     }
@@ -53,6 +53,6 @@ pub(crate) fn words_of(alloc: Global, arguments: &[Vec<u8>]) -> Result<Answer, S
 }
 
 /// `most_shebang_bytes`: the limit of a first line.
-pub(crate) fn most_bytes(alloc: Global) -> Answer {
-    Answer::new(alloc).shown(MOST_SHEBANG_BYTES)
+pub(crate) fn most_bytes(alloc: Global) -> AnswerBytes {
+    AnswerBytes::new(alloc).shown(MOST_SHEBANG_BYTES)
 }

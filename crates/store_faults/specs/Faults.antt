@@ -9,23 +9,23 @@ use Rattle.answer_records.specs.declared.record_fault.RecordFault.TheVariants as
 use Rattle.store_faults.specs.declared.fault.StoreFault.{StoreFault}
 use Rattle.store_faults.specs.declared.fault.StoreFault.TheVariants.{NotAStore, Damaged, Sql, OutOfMemory, Collision, TooLarge, TooMany}
 
-abbrev pub number_of : StoreFault → ℕ
-number_of NotAStore = 1
-number_of Damaged = 2
-number_of (Sql error) = 3
-number_of OutOfMemory = 4
-number_of Collision = 5
-number_of TooLarge = 6
-number_of TooMany = 7
+abbrev pub store_fault_number : StoreFault → ℕ
+store_fault_number NotAStore = 1
+store_fault_number Damaged = 2
+store_fault_number (Sql error) = 3
+store_fault_number OutOfMemory = 4
+store_fault_number Collision = 5
+store_fault_number TooLarge = 6
+store_fault_number TooMany = 7
 
-abbrev pub name_of : StoreFault → List ℕ
-name_of NotAStore = codes "NotAStore"
-name_of Damaged = codes "Damaged"
-name_of (Sql error) = codes "Sql"
-name_of OutOfMemory = codes "OutOfMemory"
-name_of Collision = codes "Collision"
-name_of TooLarge = codes "TooLarge"
-name_of TooMany = codes "TooMany"
+abbrev pub store_fault_name : StoreFault → List ℕ
+store_fault_name NotAStore = codes "NotAStore"
+store_fault_name Damaged = codes "Damaged"
+store_fault_name (Sql error) = codes "Sql"
+store_fault_name OutOfMemory = codes "OutOfMemory"
+store_fault_name Collision = codes "Collision"
+store_fault_name TooLarge = codes "TooLarge"
+store_fault_name TooMany = codes "TooMany"
 
 -- the refusal for an error of the database: lack of memory is a case of its own, every other error is passed
 -- on

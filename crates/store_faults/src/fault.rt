@@ -38,11 +38,11 @@ pub enum StoreFault {
 
 impl StoreFault {
     ghost use Rattle.std.specs.Prelude.{◌≡◌};
-    ghost use Rattle.store_faults.specs.Faults.{name_of, number_of};
+    ghost use Rattle.store_faults.specs.Faults.{store_fault_name, store_fault_number};
 
     /// The number of the refusal, from 1 to 7.
     pub fn number(&self) -> u8
-        ensures { result ≡ number_of self.now }
+        ensures { result ≡ store_fault_number self.now }
     {
         match self {
             StoreFault::NotAStore => 1,
@@ -57,7 +57,7 @@ impl StoreFault {
 
     /// The refusal's name, as it is printed after its number.
     pub fn name(&self) -> &'static str
-        ensures { result.now ≡ name_of self.now }
+        ensures { result.now ≡ store_fault_name self.now }
     {
         match self {
             StoreFault::NotAStore => "NotAStore",

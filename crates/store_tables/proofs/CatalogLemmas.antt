@@ -4,7 +4,7 @@ use Rattle.sqlite_schema.specs.declared.schema.Schema.{Schema}
 use Rattle.sqlite_trees.specs.Objects.{catalog_tree}
 use Rattle.sqlite_trees.specs.Tree.{Trees}
 use Rattle.sqlite_catalog.specs.Listing.{IsSound}
-use Rattle.sqlite_catalog.proofs.ReadLemmas.{lists_once}
+use Rattle.store_tables.proofs.Kit.{lists_once}
 
 -- trees obey one schema at most
 pub one_schema : (trees : Trees) (s t : Schema) → IsSound s trees → IsSound t trees → s ≡ t

@@ -39,7 +39,8 @@ columns_3 at row a b c full h0 h1 h2 =
     let r0 : drop at row ≡ a ∷ b ∷ c ∷ [] = one_more at row 2 a (omega arith) h0 ∙ ap (λ l. a ∷ l) (ap (λ k. drop k row) (let s : at + 1 ≡ at + 1 = omega arith in s) ∙ r1) in
     r0
 
-pub columns_4 : (at : ℕ) (row : Row) (a b c d : Value) → length row ≡ at + 4 → column row at ≡ a → column row (at + 1) ≡ b → column row (at + 2) ≡ c → column row (at + 3) ≡ d → drop at row ≡ a ∷ b ∷ c ∷ d ∷ []
+pub columns_4 : (at : ℕ) (row : Row) (a b c d : Value) → length row ≡ at + 4 → column row at ≡ a → column row (at + 1) ≡ b → column row (at + 2) ≡ c → column row (at + 3) ≡ d
+    → drop at row ≡ a ∷ b ∷ c ∷ d ∷ []
 columns_4 at row a b c d full h0 h1 h2 h3 =
     let last : drop (at + 4) row ≡ [] = none_left (at + 4) row (omega arith) in
     let r3 : drop (at + 3) row ≡ d ∷ [] = one_more (at + 3) row 0 d (omega arith) h3 ∙ ap (λ l. d ∷ l) (ap (λ k. drop k row) (let s : (at + 3) + 1 ≡ at + 4 = omega arith in s) ∙ last) in
@@ -48,7 +49,8 @@ columns_4 at row a b c d full h0 h1 h2 h3 =
     let r0 : drop at row ≡ a ∷ b ∷ c ∷ d ∷ [] = one_more at row 3 a (omega arith) h0 ∙ ap (λ l. a ∷ l) (ap (λ k. drop k row) (let s : at + 1 ≡ at + 1 = omega arith in s) ∙ r1) in
     r0
 
-pub columns_5 : (at : ℕ) (row : Row) (a b c d e : Value) → length row ≡ at + 5 → column row at ≡ a → column row (at + 1) ≡ b → column row (at + 2) ≡ c → column row (at + 3) ≡ d → column row (at + 4) ≡ e → drop at row ≡ a ∷ b ∷ c ∷ d ∷ e ∷ []
+pub columns_5 : (at : ℕ) (row : Row) (a b c d e : Value) → length row ≡ at + 5 → column row at ≡ a → column row (at + 1) ≡ b → column row (at + 2) ≡ c → column row (at + 3) ≡ d
+    → column row (at + 4) ≡ e → drop at row ≡ a ∷ b ∷ c ∷ d ∷ e ∷ []
 columns_5 at row a b c d e full h0 h1 h2 h3 h4 =
     let last : drop (at + 5) row ≡ [] = none_left (at + 5) row (omega arith) in
     let r4 : drop (at + 4) row ≡ e ∷ [] = one_more (at + 4) row 0 e (omega arith) h4 ∙ ap (λ l. e ∷ l) (ap (λ k. drop k row) (let s : (at + 4) + 1 ≡ at + 5 = omega arith in s) ∙ last) in

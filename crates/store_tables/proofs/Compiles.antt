@@ -10,7 +10,7 @@ use Rattle.sqlite_sql.specs.declared.ops.CompareOp.TheVariants.{Eq}
 use Rattle.sqlite_schema.specs.declared.command.Source.TheVariants.{Values}
 use Rattle.sqlite_schema.specs.declared.command.Command.{Command}
 use Rattle.sqlite_schema.specs.declared.command.Command.TheVariants.{Insert, Delete, Select}
-use Rattle.sqlite.proofs.Callers.{IsPlain, command_of}
+use Rattle.store_tables.proofs.Kit.{IsPlain, command_of}
 use Rattle.store_tables.proofs.QueryLemmas.{plain_query}
 use Rattle.sqlite_resolve.specs.Compile.{table_defined_by}
 use Rattle.sqlite_tied.specs.Compute.{everything}
@@ -251,7 +251,8 @@ module _ (more : MoreTables) where
   unfolding understood everything
   all_commits_is = ((refl, (refl, refl)), refl)
 
-  pub all_entries_is : Selects schema all_entries 9 (col 1 0 ∷ col 1 1 ∷ col 1 2 ∷ col 1 3 ∷ col 1 4 ∷ []) (rising 1 ∷ rising 2 ∷ []) (codes "rowid" ∷ codes "n" ∷ codes "path" ∷ codes "mode" ∷ codes "digest" ∷ [])
+  pub all_entries_is : Selects schema all_entries 9 (col 1 0 ∷ col 1 1 ∷ col 1 2 ∷ col 1 3 ∷ col 1 4 ∷ []) (rising 1 ∷ rising 2 ∷ [])
+      (codes "rowid" ∷ codes "n" ∷ codes "path" ∷ codes "mode" ∷ codes "digest" ∷ [])
   unfolding understood everything
   all_entries_is = ((refl, (refl, refl)), refl)
 

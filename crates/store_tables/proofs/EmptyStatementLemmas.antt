@@ -1,6 +1,6 @@
 -- The empty statement.
 use Rattle.std.proofs.Common.{◌≡◌, ◌<◌, ℕ, [], Ok, refl, sym, subst}
-use Rattle.sqlite_keyed.proofs.ListLemmas.{all_of}
+use Rattle.store_tables.proofs.Kit.{all_of, runs_as}
 use Rattle.sqlite_schema.specs.declared.schema.Schema.{Schema}
 use Rattle.sqlite_schema.specs.declared.schema.Table.{Table}
 use Rattle.sqlite_schema.specs.declared.command.Command.TheVariants.{Nothing}
@@ -8,7 +8,6 @@ use Rattle.sqlite_tied.specs.Compute.{everything}
 use Rattle.sqlite.specs.Effect.{Database}
 use Rattle.sqlite.specs.Listing.{understood}
 use Rattle.sqlite.specs.State.{State, Executes}
-use Rattle.sqlite.proofs.Callers.{runs_as}
 use Rattle.store_tables.specs.Schema.{MoreTables, store_with}
 use Rattle.store_tables.specs.Tables.{Tables, HoldsIn, KeepsMore, greatest_tree}
 use Rattle.store_tables.proofs.Compiles.{Compiles}
@@ -30,4 +29,5 @@ module _ (more : MoreTables) where
 
   pub keeps_all : (old new : State) (count : ℕ) → old.now.schema ≡ schema → Executes [] [] old new (Ok count) → KeepsMore schema old.now new.now
   keeps_all old new count has ran =
-      subst (KeepsMore schema old.now) (sym (is_unchanged old new count has ran)) (record { schema = has; trees = all_of (λ (t : Table). greatest_tree < t.tree → old.now.trees t.tree ≡ old.now.trees t.tree) (λ t above. refl) schema.tables; meta_keyed = λ keyed. keyed })
+      subst (KeepsMore schema old.now) (sym (is_unchanged old new count has ran))
+      (record { schema = has; trees = all_of (λ (t : Table). greatest_tree < t.tree → old.now.trees t.tree ≡ old.now.trees t.tree) (λ t above. refl) schema.tables; meta_keyed = λ keyed. keyed })

@@ -3,6 +3,7 @@ pub mod CatalogLemmas
 pub mod ColumnLemmas
 pub mod Compiles
 pub mod EmptyStatementLemmas
+pub mod Kit
 pub mod MakeLemmas
 pub mod MetaLemmas
 pub mod OnlyLemmas

@@ -8,7 +8,7 @@ use Rattle.sqlite_schema.specs.declared.schema.Schema.{Schema}
 use Rattle.sqlite_schema.specs.declared.command.Command.TheVariants.{CreateTable}
 use Rattle.sqlite_resolve.specs.Compile.{table_defined_by}
 use Rattle.sqlite_catalog.specs.Change.{created, next_tree}
-use Rattle.sqlite_keyed.proofs.ListLemmas.{all_both, all-append}
+use Rattle.store_tables.proofs.Kit.{IsPlain, all-append, all_both, command_of, keeps_then, runs_as, statement_of, survives_then}
 use Rattle.sqlite_tied.specs.Compute.{everything}
 use Rattle.sqlite.specs.declared.error.Error.{Error}
 use Rattle.sqlite.specs.declared.error.Error.TheVariants.{SqliteFailure}
@@ -18,9 +18,6 @@ use Rattle.sqlite.specs.Effect.{Database}
 use Rattle.sqlite.specs.Held.{Held, state}
 use Rattle.sqlite.specs.Listing.{understood}
 use Rattle.sqlite.specs.State.{State, HasCleanDisk, Shows, Survives, Writes, Executes, ExecutesInside}
-use Rattle.sqlite.proofs.Callers.{IsPlain, command_of, statement_of, runs_as}
-use Rattle.sqlite.proofs.InsideLemmas.{keeps_then}
-use Rattle.sqlite.proofs.StateLemmas.{survives_then}
 use Rattle.store_tables.specs.Schema.{meta, blobs, staged, fixes, commits, entries, answers, MoreTables, store_with}
 use Rattle.store_tables.specs.Steps.{IsMade}
 use Rattle.store_tables.specs.Tables.{HoldsIn, IsBare, first_tables, no_rows}
@@ -38,7 +35,8 @@ pub record Makes (schema : Schema) (sql : List ℕ) (table : Table) (after : Sch
   pub after_is : created schema table ≡ after
   pub uncounted : lacks_sequence after ≡ false
 
-made : (schema : Schema) (sql : List ℕ) (table : Table) (after : Schema) → Makes schema sql table after → (old new : State) (count : ℕ) → IsBare schema old.now → Executes sql [] old new (Ok count) → IsBare after new.now
+made : (schema : Schema) (sql : List ℕ) (table : Table) (after : Schema) → Makes schema sql table after → (old new : State) (count : ℕ) → IsBare schema old.now → Executes sql [] old new (Ok count)
+    → IsBare after new.now
 made schema sql table after it old new count bare h =
     let w = subst (λ t. Writes old new None CreateTable t [] count) it.whole (runs_as sql [] old new schema bare.schema_is CreateTable it.is it.plain count h) in
     let all = went w.changed in
@@ -51,13 +49,16 @@ made schema sql table after it old new count bare h =
     let now : new.now ≡ first.0 = ap (λ (p : Tally × Database). p.1) (same_value all.2) ∙ same_value (rw none at first.2) in
     let others = subst (λ s. AllByRecursion (λ (t : Table). first.0.trees t.tree ≡ old.now.trees t.tree) s) (ap (λ (s : Schema). s.tables) bare.schema_is) made.others in
     let kept : AllByRecursion (λ (t : Table). first.0.trees t.tree ≡ []) schema.tables =
-    all_both (λ (t : Table). first.0.trees t.tree ≡ old.now.trees t.tree) (λ (t : Table). old.now.trees t.tree ≡ []) (λ (t : Table). first.0.trees t.tree ≡ []) (λ t a b. a ∙ b) schema.tables others bare.empty in
+    all_both (λ (t : Table). first.0.trees t.tree ≡ old.now.trees t.tree) (λ (t : Table). old.now.trees t.tree ≡ []) (λ (t : Table). first.0.trees t.tree ≡ []) (λ t a b. a ∙ b) schema.tables others
+    bare.empty in
     let fresh : first.0.trees (next_tree schema) ≡ [] = subst (λ s. first.0.trees (next_tree s) ≡ []) bare.schema_is made.empty in
     let whole : AllByRecursion (λ (t : Table). first.0.trees t.tree ≡ []) (created schema table).tables = all-append (λ (t : Table). first.0.trees t.tree ≡ []) schema.tables _ kept (fresh, tt) in
     record {
       schema_is = ap (λ (d : Database). d.schema) now ∙ grown ∙ it.after_is;
       sound = w.sound;
-      empty = subst (λ (d : Database). AllByRecursion (λ (t : Table). d.trees t.tree ≡ []) after.tables) (sym now) (subst (λ (s : Schema). AllByRecursion (λ (t : Table). first.0.trees t.tree ≡ []) s.tables) it.after_is whole);
+      empty =
+          subst (λ (d : Database). AllByRecursion (λ (t : Table). d.trees t.tree ≡ []) after.tables) (sym now)
+          (subst (λ (s : Schema). AllByRecursion (λ (t : Table). first.0.trees t.tree ≡ []) s.tables) it.after_is whole);
     }
 
 pub makes_meta : Makes (first_tables 0 0) text.make_meta (unplaced meta) (first_tables 1 1)
@@ -113,9 +114,11 @@ module _ {S : Type 0} (g : Ghosts S) (old new : Held S) (sql : List ℕ) (r : Re
     (ended : old.in_transaction ≡ false → (r ≡ Err (SqliteFailure TransactionState)) × (new ≡ old))
     (runs : HasCleanDisk (state g new) → IsTrue old.in_transaction → ExecutesInside 0 sql [] (state g old) (state g new) r)
     (survives : Survives (state g old) (state g new) (λ _. ⊥)) where
-  pub makes_step : (schema : Schema) (table : Table) (after : Schema) → Makes schema sql table after → (count : ℕ) → r ≡ Ok count → IsMade {A = Unit {0}} g old new (Ok tt) (IsBare schema) (IsBare after)
+  pub makes_step : (schema : Schema) (table : Table) (after : Schema) → Makes schema sql table after → (count : ℕ) → r ≡ Ok count
+      → IsMade {A = Unit {0}} g old new (Ok tt) (IsBare schema) (IsBare after)
   makes_step schema table after it count is = record {
-    done = λ clean inside. let ran = subst (ExecutesInside 0 sql [] (state g old) (state g new)) is (runs clean inside) in (ran.1, λ bare. made schema sql table after it (state g old) (state g new) count bare ran.0);
+    done = λ clean inside. let ran =
+        subst (ExecutesInside 0 sql [] (state g old) (state g new)) is (runs clean inside) in (ran.1, λ bare. made schema sql table after it (state g old) (state g new) count bare ran.0);
     kept = keeps g old new sql [] r ended runs survives;
     survives = survives;
   }
@@ -143,5 +146,6 @@ made_then {S} {A} g a b c r P Q R one two = record {
 pub stopped : {S A B : Type 0} (g : Ghosts S) (a b : Held S) (e d : Error) (r : Result B Error) (P Q R : Database → Type 0) → r ≡ Err d → IsMade {A = A} g a b (Err e) P Q → IsMade {A = B} g a b r P R
 stopped g a b e d r P Q R is one = record { done = λ _ _. rw is tt; kept = one.kept; survives = one.survives }
 
-pub made_to : {S : Type 0} (g : Ghosts S) (a b : Held S) (P Q R : Database → Type 0) → ((db : Database) → Q db → R db) → IsMade {A = Unit {0}} g a b (Ok tt) P Q → IsMade {A = Unit {0}} g a b (Ok tt) P R
+pub made_to : {S : Type 0} (g : Ghosts S) (a b : Held S) (P Q R : Database → Type 0) → ((db : Database) → Q db → R db) → IsMade {A = Unit {0}} g a b (Ok tt) P Q
+    → IsMade {A = Unit {0}} g a b (Ok tt) P R
 made_to g a b P Q R f one = record { done = λ clean inside. let it = one.done clean inside in (it.0, λ p. f (state g b).now (it.1 p)); kept = one.kept; survives = one.survives }

@@ -10,7 +10,7 @@ use Rattle.sqlite_trees.specs.Tree.{Trees}
 use Rattle.sqlite_sql.specs.Term.{Term, lit, eval_all, holds}
 use Rattle.sqlite_sql.specs.Query.{Query, inner, end, matches, IsAnswer, IsSureAnswer, Output, output}
 use Rattle.sqlite_sql.specs.Program.{overlay}
-use Rattle.sqlite_keyed.proofs.ListLemmas.{map-map, map-flat_map, filter_as_flat_map}
+use Rattle.store_tables.proofs.Kit.{filter_as_flat_map, map-flat_map, map-map}
 
 -- a query over one table, with no limit
 abbrev pub plain_query : ℕ → List Term → List Term → List (Term × Key) → Query
@@ -36,7 +36,8 @@ no_list : (n : ℕ) → slice_get {X = List Row} [] n ≡ None
 no_list n = refl
 
 no_tables : (db : Trees) (t : ℕ) → overlay db [] t ≡ db t
-no_tables db t = elim (nat_le (2 ^ 31) t) as (λ b. unwrap_or (cond b (slice_get {X = List Row} [] (t - 2 ^ 31)) None) (db t) ≡ db t) [ true ↦ ap (λ o. unwrap_or o (db t)) (no_list (t - 2 ^ 31)) | false ↦ refl ]
+no_tables db t =
+    elim (nat_le (2 ^ 31) t) as (λ b. unwrap_or (cond b (slice_get {X = List Row} [] (t - 2 ^ 31)) None) (db t) ≡ db t) [ true ↦ ap (λ o. unwrap_or o (db t)) (no_list (t - 2 ^ 31)) | false ↦ refl ]
 
 -- one environment for each row that passes
 found : (db : Trees) (tree : ℕ) (tests : List Term) (params : Row) → matches db tests (inner tree end) (params ∷ []) ≡ map (λ r. params ∷ r ∷ []) (filter (passes_all tests params) (db tree))
@@ -47,7 +48,8 @@ found db tree tests params =
     once r = elim (passes_all tests params r) as (λ b. map (λ s. params ∷ s ∷ []) (cond b (r ∷ []) []) ≡ cond b ((params ∷ r ∷ []) ∷ []) []) [ true ↦ refl | false ↦ refl ]
 
 -- the rows that pass, as they are shown, in some order
-pub selected : (tree : ℕ) (tests project : List Term) (order : List (Term × Key)) (db : Trees) (params : Row) (rows : List Row) → IsSureAnswer (plain_query tree tests project order) (overlay db []) params rows
+pub selected : (tree : ℕ) (tests project : List Term) (order : List (Term × Key)) (db : Trees) (params : Row) (rows : List Row)
+    → IsSureAnswer (plain_query tree tests project order) (overlay db []) params rows
     → IsPermutation (map (shown_as project params) (filter (passes_all tests params) (db tree))) rows
 selected tree tests project order db params rows sure =
     let q = plain_query tree tests project order in

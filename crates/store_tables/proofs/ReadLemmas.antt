@@ -13,16 +13,12 @@ use Rattle.sqlite_sql.specs.Term.{Term}
 use Rattle.sqlite_schema.specs.declared.command.Returning.{Returning}
 use Rattle.sqlite_schema.specs.declared.schema.Schema.{Schema}
 use Rattle.sqlite_rules.specs.Edit.{have_rowids}
-use Rattle.sqlite_rules.proofs.ListLemmas.{test_from}
-use Rattle.sqlite_rules.proofs.ProbeLemmas.{has_mapped}
+use Rattle.store_tables.proofs.Kit.{IsPlain, has_mapped, map-map, reads_as, test_from, unchanged_keeps}
 use Rattle.sqlite.specs.declared.error.Error.{Error}
 use Rattle.sqlite.specs.Clock.{timed}
 use Rattle.sqlite.specs.Held.{Held, state}
 use Rattle.sqlite.specs.Listing.{understood}
 use Rattle.sqlite.specs.State.{State, HasCleanDisk, IsUnchanged, KeepsCommit, Survives, Shown, ShowsRows, FailsToQuery, FailsToShow, IsNotRun, IsTooLate}
-use Rattle.sqlite.proofs.Callers.{IsPlain, reads_as}
-use Rattle.sqlite.proofs.InsideLemmas.{unchanged_keeps}
-use Rattle.sqlite_keyed.proofs.ListLemmas.{map-map}
 use Rattle.store_tables.specs.Schema.{MoreTables, store_with}
 use Rattle.store_tables.specs.Steps.{IsRead}
 use Rattle.store_tables.specs.Rowids.{ShowRowids}
@@ -63,7 +59,8 @@ shown_unchanged sql params old new rows plain h =
 
 -- ---- the rows
 
-pub read_rows : {X : Type 0} (cells : X → Row) (places : List ℕ) (first : ℕ) (project : List Term) (items : List X) (rows shown : List Row) → ((r : Row) → drop first (shown_as project [] r) ≡ map (column r) places)
+pub read_rows : {X : Type 0} (cells : X → Row) (places : List ℕ) (first : ℕ) (project : List Term) (items : List X) (rows shown : List Row)
+    → ((r : Row) → drop first (shown_as project [] r) ≡ map (column r) places)
     → IsPermutation (map (shown_as project []) rows) shown → map cells items ≡ map (drop first) shown → Stored cells places items rows
 read_rows cells places first project items rows shown each same items_are =
     let dropped = IsPermutation-map (drop first) (map (shown_as project []) rows) shown same in
@@ -84,7 +81,8 @@ ids_number rows ids same =
     let n = has_mapped Int ids (rowid r) (has_permuted (map rowid rows) (map Int ids) (rowid r) same (mapped_has rowid rows r h)) in ap is_int n.2)
 
 -- rowids of which none is shown twice
-pub keyed_as_shown : (project : List Term) (rows shown : List Row) → ((r : Row) → column (shown_as project [] r) 0 ≡ rowid r) → IsPermutation (map (shown_as project []) rows) shown → ShowRowids shown → AreKeyed rows
+pub keyed_as_shown : (project : List Term) (rows shown : List Row) → ((r : Row) → column (shown_as project [] r) 0 ≡ rowid r) → IsPermutation (map (shown_as project []) rows) shown → ShowRowids shown
+    → AreKeyed rows
 keyed_as_shown project rows shown each same it =
     let ids = ids_shown project rows shown it.0 each same it.1 in record { numbered = ids_number rows it.0 ids; apart = apart_from_ids rows it.0 ids it.2 }
 
@@ -95,7 +93,8 @@ module _ {S : Type 0} (g : Ghosts S) (old new : Held S) (sql : List ℕ) where
   abbrev pub Refused : {V : Type 0} → Result V Error → Type 0
   Refused r = HasCleanDisk (state g new) → IfErr r (λ e. FailsToQuery sql [] (state g old) (state g new) e ⊎ IsTooLate sql [] (state g old) (state g new) e)
 
-  pub query_keeps : {V : Type 0} (items : V → List Row) (r : Result V Error) → Answered items r → Refused r → HasCleanDisk (state g new) → IsTrue (state g old).in_transaction → KeepsCommit (state g old) (state g new)
+  pub query_keeps : {V : Type 0} (items : V → List Row) (r : Result V Error) → Answered items r → Refused r → HasCleanDisk (state g new) → IsTrue (state g old).in_transaction
+      → KeepsCommit (state g old) (state g new)
   query_keeps items (Ok rows) ok err clean inside = shown_keeps sql [] (state g old) (state g new) (items rows) inside (ok clean)
   query_keeps items (Err e) ok err clean inside = elim (err clean) [
     | inl failed ↦ refused_keeps sql [] (state g old) (state g new) e failed
@@ -103,7 +102,8 @@ module _ {S : Type 0} (g : Ghosts S) (old new : Held S) (sql : List ℕ) where
   ]
 
   -- the rows of the table that the text selects, and that nothing has changed
-  pub table_shown : (schema : Schema) (tree : ℕ) (project : List Term) (order : List (Term × Key)) (names : List (List ℕ)) → Selects schema sql tree project order names → (rows : List Row) → (state g old).now.schema ≡ schema
+  pub table_shown : (schema : Schema) (tree : ℕ) (project : List Term) (order : List (Term × Key)) (names : List (List ℕ)) → Selects schema sql tree project order names → (rows : List Row)
+      → (state g old).now.schema ≡ schema
       → Shown sql [] (state g old) (state g new) rows → IsUnchanged (state g old) (state g new) × IsPermutation (map (shown_as project []) ((state g old).now.trees tree)) rows
   table_shown schema tree project order names text rows has h = (
     shown_unchanged sql [] (state g old) (state g new) rows (subst (λ s. IsPlain (understood s sql)) (sym has) text.0.1) h,
@@ -114,13 +114,18 @@ module _ {S : Type 0} (g : Ghosts S) (old new : Held S) (sql : List ℕ) where
     pub read_fails : {W : Type 0} (out : Result W Error) (d : Error) → out ≡ Err d → (Rows : W → Trees → Type 0) → IsRead g old new out Rows
     read_fails out d is Rows = record { rows = λ _ _ _. rw is tt; kept = query_keeps items r ok err; survives = survives }
 
-    module _ (tree : ℕ) (project : List Term) (order : List (Term × Key)) (names : List (List ℕ)) (text : (more : MoreTables) → Selects (store_with more) sql tree project order names) (shown : V) (is : r ≡ Ok shown) where
-      answer : (more : MoreTables) → HasCleanDisk (state g new) → (state g old).now.schema ≡ store_with more → IsUnchanged (state g old) (state g new) × IsPermutation (map (shown_as project []) ((state g old).now.trees tree)) (items shown)
-      answer more clean has = table_shown (store_with more) tree project order names (text more) (items shown) has (IfOk-at_ok (λ rows. Shown sql [] (state g old) (state g new) (items rows)) is (ok clean))
+    module _ (tree : ℕ) (project : List Term) (order : List (Term × Key)) (names : List (List ℕ)) (text : (more : MoreTables) → Selects (store_with more) sql tree project order names) (shown : V)
+        (is : r ≡ Ok shown) where
+      answer : (more : MoreTables) → HasCleanDisk (state g new) → (state g old).now.schema ≡ store_with more
+          → IsUnchanged (state g old) (state g new) × IsPermutation (map (shown_as project []) ((state g old).now.trees tree)) (items shown)
+      answer more clean has =
+          table_shown (store_with more) tree project order names (text more) (items shown) has (IfOk-at_ok (λ rows. Shown sql [] (state g old) (state g new) (items rows)) is (ok clean))
 
       -- with what else the answer shows of the rows
-      pub read_also : {W X : Type 0} (K : List Row → Type 0) (out : Result W Error) (listed : W → List X) (cells : X → Row) (places : List ℕ) (first : ℕ) → ((row : Row) → drop first (shown_as project [] row) ≡ map (column row) places)
-          → (values : List Row) → values ≡ items shown → ((rows : List Row) → IsPermutation (map (shown_as project []) rows) values → K rows) → IfOk out (λ w. map cells (listed w) ≡ map (drop first) values)
+      pub read_also : {W X : Type 0} (K : List Row → Type 0) (out : Result W Error) (listed : W → List X) (cells : X → Row) (places : List ℕ) (first : ℕ)
+          → ((row : Row) → drop first (shown_as project [] row) ≡ map (column row) places)
+          → (values : List Row) → values ≡ items shown → ((rows : List Row) → IsPermutation (map (shown_as project []) rows) values → K rows)
+          → IfOk out (λ w. map cells (listed w) ≡ map (drop first) values)
           → IsRead g old new out (λ w trees. Stored cells places (listed w) (trees tree) × K (trees tree))
       read_also K out listed cells places first each values same also done = record {
         rows = λ more clean has.
@@ -132,19 +137,23 @@ module _ {S : Type 0} (g : Ghosts S) (old new : Held S) (sql : List ℕ) where
       }
 
       -- with the rowids, in the first column
-      pub read_keyed : {W X : Type 0} (out : Result W Error) (listed : W → List X) (cells : X → Row) (places : List ℕ) → ((row : Row) → drop 1 (shown_as project [] row) ≡ map (column row) places) → ((row : Row) → column (shown_as project [] row) 0 ≡ rowid row)
+      pub read_keyed : {W X : Type 0} (out : Result W Error) (listed : W → List X) (cells : X → Row) (places : List ℕ) → ((row : Row) → drop 1 (shown_as project [] row) ≡ map (column row) places)
+          → ((row : Row) → column (shown_as project [] row) 0 ≡ rowid row)
           → (values : List Row) → values ≡ items shown → IfOk out (λ w. map cells (listed w) ≡ map (drop 1) values) → IfOk out (λ w. ShowRowids values)
           → IsRead g old new out (λ w trees. Stored cells places (listed w) (trees tree) × AreKeyed (trees tree))
       read_keyed (Err e) listed cells places each ids values same done apart = read_fails (Err e) e refl _
       read_keyed (Ok w) listed cells places each ids values same done apart =
           read_also AreKeyed (Ok w) listed cells places 1 each values same (λ rows there. keyed_as_shown project rows values ids there apart) done
 
-      pub read_ends : {W X : Type 0} (out : Result W Error) (listed : W → List X) (cells : X → Row) (places : List ℕ) (first : ℕ) → ((row : Row) → drop first (shown_as project [] row) ≡ map (column row) places)
+      pub read_ends : {W X : Type 0} (out : Result W Error) (listed : W → List X) (cells : X → Row) (places : List ℕ) (first : ℕ)
+          → ((row : Row) → drop first (shown_as project [] row) ≡ map (column row) places)
           → (values : List Row) → values ≡ items shown → IfOk out (λ w. map cells (listed w) ≡ map (drop first) values) → IsRead g old new out (λ w trees. Stored cells places (listed w) (trees tree))
       read_ends out listed cells places first each values same done =
           let it = read_also (λ _. Unit {0}) out listed cells places first each values same (λ _ _. tt) done in
           record { rows = λ more clean has. IfOk-weaker out _ _ (λ w e. (e.0, e.1.0)) (it.rows more clean has); kept = it.kept; survives = it.survives }
 
 -- what is told of less
-pub read_weaker : {S W : Type 0} (g : Ghosts S) (old new : Held S) (out : Result W Error) (Rows Fewer : W → Trees → Type 0) → ((w : W) (trees : Trees) → Rows w trees → Fewer w trees) → IsRead g old new out Rows → IsRead g old new out Fewer
-read_weaker g old new out Rows Fewer weaker it = record { rows = λ more clean has. IfOk-weaker out _ _ (λ w e. (e.0, weaker w (state g old).now.trees e.1)) (it.rows more clean has); kept = it.kept; survives = it.survives }
+pub read_weaker : {S W : Type 0} (g : Ghosts S) (old new : Held S) (out : Result W Error) (Rows Fewer : W → Trees → Type 0) → ((w : W) (trees : Trees) → Rows w trees → Fewer w trees)
+    → IsRead g old new out Rows → IsRead g old new out Fewer
+read_weaker g old new out Rows Fewer weaker it =
+    record { rows = λ more clean has. IfOk-weaker out _ _ (λ w e. (e.0, weaker w (state g old).now.trees e.1)) (it.rows more clean has); kept = it.kept; survives = it.survives }

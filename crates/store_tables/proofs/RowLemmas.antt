@@ -7,18 +7,13 @@ use Rattle.std.proofs.lemmas.Cmp.{tied_itself}
 use Rattle.std.proofs.lemmas.List.Sorted.{IsPermutation-refl, IsPermutation-cons, IsPermutation-trans, IsPermutation-sym, IsPermutation-middle, Contains-permutation}
 use Rattle.sqlite_value.specs.declared.value.Value.TheVariants.{Int}
 use Rattle.sqlite_value.specs.Order.{Row, value_cmp}
-use Rattle.sqlite_value.proofs.OrderLemmas.{value_cmp_total}
+use Rattle.store_tables.proofs.Kit.{all-put_row, all_has, ascending-filter, contains_had, has_contained, has_filtered, has_kept, has_mapped, int_is, put_has, some_from, some_has, test_from, test_has, value_cmp_total}
 use Rattle.sqlite_trees.specs.Tree.{rowid, has_rowid, put_row, without_rowid}
 use Rattle.sqlite_trees.specs.View.{is_int}
-use Rattle.sqlite_trees.proofs.TreeLemmas.{all-put_row}
 use Rattle.sqlite_rules.specs.Lists.{Has}
 use Rattle.sqlite_rules.specs.Edit.{id_in, without_all, is_taken, have_rowids}
 use Rattle.sqlite_rules.specs.Calls.{ids_of}
-use Rattle.sqlite_rules.proofs.ListLemmas.{all_has, test_has, test_from, some_has, some_from, has_filtered, has_kept, has_contained, contains_had}
-use Rattle.sqlite_rules.proofs.ProbeLemmas.{has_mapped}
-use Rattle.sqlite_rules.proofs.TableLemmas.{int_is, put_has}
-use Rattle.sqlite_keyed.proofs.ListLemmas.{ascending-filter}
-use Rattle.store_tables.specs.Tables.{AreApart, AreKeyed, have_one_rowid}
+use Rattle.store_tables.specs.Tables.{HaveDistinctRowids, AreKeyed, have_one_rowid}
 
 pub has_permuted : {X : Type 0} (xs ys : List X) (x : X) → IsPermutation xs ys → Has xs x → Has ys x
 has_permuted xs ys x same h = has_contained ys x (Contains-permutation xs ys x same (contains_had xs x h))
@@ -53,21 +48,22 @@ free_apart : (new : Row) (rows : List Row) → is_taken rows new ≡ false → A
 free_apart new [] free = tt
 free_apart new (r ∷ rows) free = (flipped new r ∙ (or_parts _ _ free).0, free_apart new rows (or_parts _ _ free).1)
 
-pub put_apart : (new : Row) (rows : List Row) → is_taken rows new ≡ false → AreApart rows → AreApart (put_row new rows)
+pub put_apart : (new : Row) (rows : List Row) → is_taken rows new ≡ false → HaveDistinctRowids rows → HaveDistinctRowids (put_row new rows)
 put_apart new [] free apart = (tt, tt)
 put_apart new (r ∷ rows) free apart = go (value_cmp (rowid r) (rowid new)) refl (put_apart new rows (or_parts _ _ free).1 apart.1)
   where
-    go : (o : Ordering) → value_cmp (rowid r) (rowid new) ≡ o → AreApart (put_row new rows) → AreApart (Put o new r rows)
+    go : (o : Ordering) → value_cmp (rowid r) (rowid new) ≡ o → HaveDistinctRowids (put_row new rows) → HaveDistinctRowids (Put o new r rows)
     go Less is later = (all-put_row (λ x. have_one_rowid r x ≡ false) new rows (ap is_eq is) apart.0, later)
     go Equal is later = absurd (both_ways _ (or_parts _ _ free).0 (ap is_eq is))
     go Greater is later = (free_apart new (r ∷ rows) free, apart)
 
 pub put_keyed : (new : Row) (rows : List Row) → is_int (rowid new) ≡ true → have_rowids rows ≡ true → have_rowids (put_row new rows) ≡ true
 put_keyed new rows int keyed =
-    test_from (λ r. is_int (rowid r)) (put_row new rows) (λ x h. elim (put_has new rows x h) [ inl same ↦ ap (λ r. is_int (rowid r)) same ∙ int | inr was ↦ test_has (λ r. is_int (rowid r)) rows x keyed was ])
+    test_from (λ r. is_int (rowid r)) (put_row new rows) (λ x h. elim (put_has new rows x h)
+    [ inl same ↦ ap (λ r. is_int (rowid r)) same ∙ int | inr was ↦ test_has (λ r. is_int (rowid r)) rows x keyed was ])
 
 -- rows with one rowid are one
-apart_same : (rows : List Row) (a b : Row) → AreApart rows → Has rows a → Has rows b → have_one_rowid a b ≡ true → a ≡ b
+apart_same : (rows : List Row) (a b : Row) → HaveDistinctRowids rows → Has rows a → Has rows b → have_one_rowid a b ≡ true → a ≡ b
 apart_same [] a b apart h k tie = absurd h
 apart_same (r ∷ rows) a b apart (inl h) (inl k) tie = h ∙ sym k
 apart_same (r ∷ rows) a b apart (inl h) (inr k) tie = absurd (both_ways _ (all_has _ rows b apart.0 k) (ap (λ x. have_one_rowid x b) (sym h) ∙ tie))
@@ -107,7 +103,8 @@ module _ (rows : List Row) (keyed : have_rowids rows ≡ true) (test : Row → B
   passing_named : (r : Row) → Has rows r → test r ≡ true → is_named (ids_of shown) r ≡ true
   passing_named r h passes =
       some_from (λ id. has_rowid id r) (ids_of shown) (id_in (rowid r))
-      (mapped_has (λ x. id_in (rowid x)) shown (rowid r ∷ []) (has_permuted _ shown (rowid r ∷ []) same (mapped_has (λ x. rowid x ∷ []) (filter test rows) r (has_kept test rows r h passes)))) (names_itself r h)
+      (mapped_has (λ x. id_in (rowid x)) shown (rowid r ∷ []) (has_permuted _ shown (rowid r ∷ []) same (mapped_has (λ x. rowid x ∷ []) (filter test rows) r (has_kept test rows r h passes))))
+      (names_itself r h)
 
   -- every row that passes is taken out
   pub all_out : ((r : Row) → Has rows r → test r ≡ true) → without_all rows (ids_of shown) ≡ []
@@ -118,7 +115,7 @@ module _ (rows : List Row) (keyed : have_rowids rows ≡ true) (test : Row → B
       none (x ∷ xs) = none xs
 
   -- and, where no rowid comes twice, no other
-  pub passing_out : AreApart rows → without_all rows (ids_of shown) ≡ filter (λ r. not (test r)) rows
+  pub passing_out : HaveDistinctRowids rows → without_all rows (ids_of shown) ≡ filter (λ r. not (test r)) rows
   passing_out apart = without_named (ids_of shown) rows ∙ filter_same _ _ rows (λ r h. ap not (exact r h))
     where
       other_unnamed : (r : Row) → Has rows r → test r ≡ false → is_named (ids_of shown) r ≡ true → ⊥
@@ -135,7 +132,7 @@ module _ (rows : List Row) (keyed : have_rowids rows ≡ true) (test : Row → B
       exact : (r : Row) → Has rows r → is_named (ids_of shown) r ≡ test r
       exact r h = elim (cases_Bool (test r)) [ inl passes ↦ passing_named r h passes ∙ sym passes | inr fails ↦ false_from_ne_true _ (other_unnamed r h fails) ∙ sym fails ]
 
-pub filter_apart : (p : Row → Bool) (rows : List Row) → AreApart rows → AreApart (filter p rows)
+pub filter_apart : (p : Row → Bool) (rows : List Row) → HaveDistinctRowids rows → HaveDistinctRowids (filter p rows)
 filter_apart p rows apart = ascending-filter _ p rows apart
 
 pub filter_keyed : (p : Row → Bool) (rows : List Row) → have_rowids rows ≡ true → have_rowids (filter p rows) ≡ true

@@ -5,7 +5,7 @@ use Rattle.sqlite_value.specs.Order.{Row}
 use Rattle.sqlite_schema.specs.declared.schema.Schema.{Schema}
 use Rattle.sqlite_rules.specs.Edit.{have_rowids}
 use Rattle.sqlite.specs.State.{State, Executes}
-use Rattle.sqlite.proofs.Callers.{runs_as}
+use Rattle.store_tables.proofs.Kit.{runs_as}
 use Rattle.store_tables.specs.Schema.{MoreTables, store_with}
 use Rattle.store_tables.specs.Tables.{Tables, HoldsIn, Stored, AreKeyed, meta_cells, blob_cells, staged_cells, fix_cells, commit_cells, entry_cells, answer_cells, without_all_staged}
 use Rattle.store_tables.proofs.Compiles as text

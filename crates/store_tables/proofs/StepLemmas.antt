@@ -10,14 +10,12 @@ use Rattle.sqlite.specs.declared.error.ErrorCode.TheVariants.{TransactionState}
 use Rattle.sqlite.specs.Held.{Held, state}
 use Rattle.sqlite.specs.Effect.{Database}
 use Rattle.sqlite.specs.State.{State, HasCleanDisk, KeepsCommit, Shows, Survives, Executes, ExecutesInside}
-use Rattle.sqlite.proofs.InsideLemmas.{inside_keeps, keeps_then}
-use Rattle.sqlite.proofs.StateLemmas.{survives_then}
-use Rattle.sqlite_keyed.proofs.ListLemmas.{all_both, all_weaker}
+use Rattle.store_tables.proofs.Kit.{all_both, all_weaker, inside_keeps, keeps_then, survives_then}
 use Rattle.sqlite_schema.specs.declared.schema.Schema.{Schema}
 use Rattle.sqlite_schema.specs.declared.schema.Table.{Table}
 use Rattle.store_tables.specs.Tables.{Tables, AreKeyed, HoldsIn, ChangesOnly, KeepsMore, greatest_tree}
 use Rattle.store_tables.specs.Schema.{MoreTables, store_with}
-use Rattle.store_tables.specs.Steps.{IsStep, IsDone, IsChange}
+use Rattle.store_tables.specs.Steps.{IsStep, IsStatementDone, IsChange}
 
 pub keeps_itself : (s : State) → KeepsCommit s s
 keeps_itself s = record { was_open = λ h. h; committed = λ _. refl }
@@ -36,11 +34,15 @@ module _ {S : Type 0} (g : Ghosts S) (old new : Held S) (sql : List ℕ) (params
   fails makes e = record { done = λ _ _. tt; kept = keeps; survives = survives }
 
   pub finishes : (makes : Tables → Tables) (count : ℕ) → r ≡ Ok count
-      → ((more : MoreTables) (t : Tables) → HoldsIn (store_with more) (state g old).now t → Executes sql params (state g old) (state g new) (Ok count) → HoldsIn (store_with more) (state g new).now (makes t))
-      → ((more : MoreTables) → (state g old).now.schema ≡ store_with more → Executes sql params (state g old) (state g new) (Ok count) → KeepsMore (store_with more) (state g old).now (state g new).now)
+      → ((more : MoreTables) (t : Tables) → HoldsIn (store_with more) (state g old).now t → Executes sql params (state g old) (state g new) (Ok count)
+      → HoldsIn (store_with more) (state g new).now (makes t))
+      → ((more : MoreTables) → (state g old).now.schema ≡ store_with more → Executes sql params (state g old) (state g new) (Ok count)
+      → KeepsMore (store_with more) (state g old).now (state g new).now)
       → IsStep {A = Unit {0}} g old new (Ok tt) makes
   finishes makes count is does keeps_more = record {
-    done = λ clean inside. let ran = subst (ExecutesInside 0 sql params (state g old) (state g new)) is (runs clean inside) in record { shown = ran.1; holds = λ more t h. does more t h ran.0; keeps = λ more has. keeps_more more has ran.0 };
+    done = λ clean inside. let ran =
+        subst (ExecutesInside 0 sql params (state g old) (state g new)) is
+        (runs clean inside) in record { shown = ran.1; holds = λ more t h. does more t h ran.0; keeps = λ more has. keeps_more more has ran.0 };
     kept = keeps;
     survives = survives;
   }
@@ -64,10 +66,12 @@ Relation = Schema → Database → Database → Type 0
 
 abbrev pub Went : {S : Type 0} (g : Ghosts S) → Held S → Held S → Relation → Type 0
 Went g x y Change =
-    Shows (state g x) (state g y) (state g y).now (state g x).committed true × ((more : MoreTables) → (state g x).now.schema ≡ store_with more → Change (store_with more) (state g x).now (state g y).now)
+    Shows (state g x) (state g y) (state g y).now (state g x).committed true
+    × ((more : MoreTables) → (state g x).now.schema ≡ store_with more → Change (store_with more) (state g x).now (state g y).now)
 
 pub change_then : {S A : Type 0} (g : Ghosts S) (a b c : Held S) (r : Result A Error) (First Second Both : Relation)
-    → ((listed : Schema) (x y z : Database) → First listed x y → (y.schema ≡ listed → Second listed y z) → Both listed x z) → IsChange {A = Unit {0}} g a b (Ok tt) First → IsChange g b c r Second → IsChange g a c r Both
+    → ((listed : Schema) (x y z : Database) → First listed x y → (y.schema ≡ listed → Second listed y z) → Both listed x z) → IsChange {A = Unit {0}} g a b (Ok tt) First → IsChange g b c r Second
+    → IsChange g a c r Both
 change_then {S} {A} g a b c r First Second Both join one two = record {
   done = λ clean inside. let first = one.done (omega (arith, two.survives.clean)) inside in go r (two.done clean first.0.mode) first;
   kept = λ clean. keeps_then (state g a) (state g b) (state g c) (one.kept (omega (arith, two.survives.clean))) (two.kept clean);
@@ -88,7 +92,7 @@ change_stops g a b e d r First Both is one = record { done = λ _ _. rw is tt; k
 pub step_as_change : {S A : Type 0} (g : Ghosts S) (old new : Held S) (r : Result A Error) (makes : Tables → Tables) → IsStep g old new r makes
     → IsChange g old new r (λ listed x y. (t : Tables) → HoldsIn listed x t → HoldsIn listed y (makes t))
 step_as_change g old new r makes h = record {
-  done = λ clean inside. on_ok_weaker r (λ (d : IsDone (state g old) (state g new) makes). (d.shown, λ more has t before. d.holds more t before)) (h.done clean inside);
+  done = λ clean inside. on_ok_weaker r (λ (d : IsStatementDone (state g old) (state g new) makes). (d.shown, λ more has t before. d.holds more t before)) (h.done clean inside);
   kept = h.kept;
   survives = h.survives;
 }

@@ -8,7 +8,7 @@ use Rattle.sqlite_value.specs.declared.value.Value.{Value}
 use Rattle.sqlite_value.specs.declared.value.Value.TheVariants.{Null, Int, Text, Blob}
 use Rattle.sqlite_value.specs.Order.{Row, column, value_cmp}
 use Rattle.sqlite_value.specs.declared.keys.Collation.TheVariants.{Binary}
-use Rattle.sqlite_value.proofs.OrderLemmas.{value_cmp-Text}
+use Rattle.store_tables.proofs.Kit.{IsPermutation-filter, filter-map, runs_as, value_cmp-Text}
 use Rattle.sqlite_trees.specs.Tree.{put_row}
 use Rattle.sqlite_sql.specs.Ops.{unary, binary, is_true, from_truth}
 use Rattle.sqlite_sql.specs.declared.ops.BinaryOp.TheVariants.{Compare}
@@ -22,8 +22,6 @@ use Rattle.sqlite_rules.specs.Cast.{cast}
 use Rattle.sqlite_rules.specs.Edit.{with_rowid, next_rowid, is_taken, have_rowids}
 use Rattle.sqlite.specs.State.{State, Executes}
 use Rattle.sqlite.specs.Values.{or_null, bound_value}
-use Rattle.sqlite.proofs.Callers.{runs_as}
-use Rattle.sqlite_keyed.proofs.ListLemmas.{filter-map, IsPermutation-filter}
 use Rattle.store_tables.specs.declared.rows.MetaRow.{MetaRow}
 use Rattle.store_tables.specs.declared.rows.BlobRow.{BlobRow}
 use Rattle.store_tables.specs.declared.rows.StagedRow.{StagedRow}
@@ -32,7 +30,7 @@ use Rattle.store_tables.specs.declared.rows.CommitRow.{CommitRow}
 use Rattle.store_tables.specs.declared.rows.EntryRow.{EntryRow}
 use Rattle.store_tables.specs.declared.rows.AnswerRow.{AnswerRow}
 use Rattle.store_tables.specs.Schema.{MoreTables, store_with}
-use Rattle.store_tables.specs.Tables.{Tables, HoldsIn, Stored, AreKeyed, meta_cells, blob_cells, staged_cells, fix_cells, commit_cells, entry_cells, answer_cells, with_meta, with_blob, with_staged, without_staged, with_fix, fix_row, without_fixes, with_commit, with_entry, with_answer, without_answers}
+use Rattle.store_tables.specs.Tables.{Tables, HoldsIn, Stored, AreKeyed, meta_cells, blob_cells, staged_cells, fix_cells, commit_cells, entry_cells, answer_cells, with_meta, with_blob, with_staged, without_staged, with_fix, fix_row_of_digest, without_fixes, with_commit, with_entry, with_answer, without_answers}
 use Rattle.store_tables.proofs.Compiles as text
 use Rattle.store_tables.proofs.Compiles.{two, three, four, five, keyed_two, first_is_given}
 use Rattle.store_tables.proofs.QueryLemmas.{passes_all}
@@ -61,7 +59,8 @@ cast_int n = either _ (Int n)
 pub chosen_is : (rows : List Row) (cells : Row) → with_rowid Chosen rows (cast Integer Null ∷ cells) ≡ Int (next_rowid rows) ∷ cells
 chosen_is rows cells = rw cast_null refl
 
-pub stored_more : {X : Type 0} (cells : X → Row) (places : List ℕ) (x : X) (xs : List X) (row : Row) (rows : List Row) → map (column row) places ≡ cells x → is_taken rows row ≡ false → Stored cells places xs rows
+pub stored_more : {X : Type 0} (cells : X → Row) (places : List ℕ) (x : X) (xs : List X) (row : Row) (rows : List Row) → map (column row) places ≡ cells x → is_taken rows row ≡ false
+    → Stored cells places xs rows
     → Stored cells places (x ∷ xs) (put_row row rows)
 stored_more cells places x xs row rows shows free h =
     let show = λ (r : Row). map (column r) places in
@@ -106,14 +105,17 @@ module _ (more : MoreTables) where
 
   -- ---- INSERT
 
-  pub put_meta : (old new : State) (t : Tables) (row : MetaRow) (count : ℕ) → HoldsIn schema old.now t → Executes text.put_meta (Text row.name ∷ Int row.value ∷ []) old new (Ok count) → HoldsIn schema new.now (with_meta row t)
+  pub put_meta : (old new : State) (t : Tables) (row : MetaRow) (count : ℕ) → HoldsIn schema old.now t → Executes text.put_meta (Text row.name ∷ Int row.value ∷ []) old new (Ok count)
+      → HoldsIn schema new.now (with_meta row t)
   put_meta old new t row count h ran =
       let params = Text row.name ∷ Int row.value ∷ [] in
       let rows = old.now.trees 0 in
       let new_row = Int (next_rowid rows) ∷ Text row.name ∷ Int row.value ∷ [] in
       let w = runs_as text.put_meta params old new schema h.schema (Insert 0 (Values two 3)) (text.put_meta_is more).0 (text.put_meta_is more).1 count ran in
       let p = inserts schema 0 _ 0 _ _ _ _ _ refl old new h.schema _ params count two 3 (Null ∷ Text row.name ∷ Int row.value ∷ []) refl w in
-      let q : PutsRow schema 0 new_row old.now.trees new.now.trees = subst (λ x. PutsRow schema 0 x old.now.trees new.now.trees) (chosen_is rows (Text row.name ∷ cast Integer (Int row.value) ∷ []) ∙ ap (λ v. Int (next_rowid rows) ∷ Text row.name ∷ v ∷ []) (cast_int row.value)) p.1 in
+      let q : PutsRow schema 0 new_row old.now.trees new.now.trees =
+      subst (λ x. PutsRow schema 0 x old.now.trees new.now.trees) (chosen_is rows (Text row.name ∷ cast Integer (Int row.value) ∷ [])
+      ∙ ap (λ v. Int (next_rowid rows) ∷ Text row.name ∷ v ∷ []) (cast_int row.value)) p.1 in
       let o = q.others in
       record {
         schema = p.0;
@@ -130,7 +132,8 @@ module _ (more : MoreTables) where
         answers_keyed = subst AreKeyed (sym (o.1.1.1.1.1.1.0 (omega arith))) h.answers_keyed;
       }
 
-  pub put_blob : (old new : State) (t : Tables) (row : BlobRow) (count : ℕ) → HoldsIn schema old.now t → Executes text.put_blob (Blob row.digest ∷ Blob row.bytes ∷ []) old new (Ok count) → HoldsIn schema new.now (with_blob row t)
+  pub put_blob : (old new : State) (t : Tables) (row : BlobRow) (count : ℕ) → HoldsIn schema old.now t → Executes text.put_blob (Blob row.digest ∷ Blob row.bytes ∷ []) old new (Ok count)
+      → HoldsIn schema new.now (with_blob row t)
   put_blob old new t row count h ran =
       let params = Blob row.digest ∷ Blob row.bytes ∷ [] in
       let rows = old.now.trees 2 in
@@ -154,14 +157,17 @@ module _ (more : MoreTables) where
         answers_keyed = subst AreKeyed (sym (o.1.1.1.1.1.1.0 (omega arith))) h.answers_keyed;
       }
 
-  pub put_staged : (old new : State) (t : Tables) (row : StagedRow) (count : ℕ) → HoldsIn schema old.now t → Executes text.put_staged (Text row.path ∷ Int row.mode ∷ Blob row.digest ∷ []) old new (Ok count) → HoldsIn schema new.now (with_staged row t)
+  pub put_staged : (old new : State) (t : Tables) (row : StagedRow) (count : ℕ) → HoldsIn schema old.now t
+      → Executes text.put_staged (Text row.path ∷ Int row.mode ∷ Blob row.digest ∷ []) old new (Ok count) → HoldsIn schema new.now (with_staged row t)
   put_staged old new t row count h ran =
       let params = Text row.path ∷ Int row.mode ∷ Blob row.digest ∷ [] in
       let rows = old.now.trees 4 in
       let new_row = Int (next_rowid rows) ∷ Text row.path ∷ Int row.mode ∷ Blob row.digest ∷ [] in
       let w = runs_as text.put_staged params old new schema h.schema (Insert 2 (Values three 4)) (text.put_staged_is more).0 (text.put_staged_is more).1 count ran in
       let p = inserts schema 2 _ 4 _ _ _ _ _ refl old new h.schema _ params count three 4 (Null ∷ Text row.path ∷ Int row.mode ∷ Blob row.digest ∷ []) refl w in
-      let q : PutsRow schema 4 new_row old.now.trees new.now.trees = subst (λ x. PutsRow schema 4 x old.now.trees new.now.trees) (chosen_is rows (Text row.path ∷ cast Integer (Int row.mode) ∷ Blob row.digest ∷ []) ∙ ap (λ v. Int (next_rowid rows) ∷ Text row.path ∷ v ∷ Blob row.digest ∷ []) (cast_int row.mode)) p.1 in
+      let q : PutsRow schema 4 new_row old.now.trees new.now.trees =
+      subst (λ x. PutsRow schema 4 x old.now.trees new.now.trees) (chosen_is rows (Text row.path ∷ cast Integer (Int row.mode) ∷ Blob row.digest ∷ [])
+      ∙ ap (λ v. Int (next_rowid rows) ∷ Text row.path ∷ v ∷ Blob row.digest ∷ []) (cast_int row.mode)) p.1 in
       let o = q.others in
       record {
         schema = p.0;
@@ -178,14 +184,17 @@ module _ (more : MoreTables) where
         answers_keyed = subst AreKeyed (sym (o.1.1.1.1.1.1.0 (omega arith))) h.answers_keyed;
       }
 
-  pub put_fix : (old new : State) (t : Tables) (row : FixRow) (count : ℕ) → HoldsIn schema old.now t → Executes text.put_fix (Text row.path ∷ Int row.gone ∷ or_null Blob row.digest ∷ []) old new (Ok count) → HoldsIn schema new.now (with_fix row t)
+  pub put_fix : (old new : State) (t : Tables) (row : FixRow) (count : ℕ) → HoldsIn schema old.now t
+      → Executes text.put_fix (Text row.path ∷ Int row.gone ∷ or_null Blob row.digest ∷ []) old new (Ok count) → HoldsIn schema new.now (with_fix row t)
   put_fix old new t row count h ran =
       let params = Text row.path ∷ Int row.gone ∷ or_null Blob row.digest ∷ [] in
       let rows = old.now.trees 6 in
       let new_row = Int (next_rowid rows) ∷ Text row.path ∷ Int row.gone ∷ or_null Blob row.digest ∷ [] in
       let w = runs_as text.put_fix params old new schema h.schema (Insert 3 (Values three 4)) (text.put_fix_is more).0 (text.put_fix_is more).1 count ran in
       let p = inserts schema 3 _ 6 _ _ _ _ _ refl old new h.schema _ params count three 4 (Null ∷ Text row.path ∷ Int row.gone ∷ or_null Blob row.digest ∷ []) refl w in
-      let q : PutsRow schema 6 new_row old.now.trees new.now.trees = subst (λ x. PutsRow schema 6 x old.now.trees new.now.trees) (chosen_is rows (Text row.path ∷ cast Integer (Int row.gone) ∷ or_null Blob row.digest ∷ []) ∙ ap (λ v. Int (next_rowid rows) ∷ Text row.path ∷ v ∷ or_null Blob row.digest ∷ []) (cast_int row.gone)) p.1 in
+      let q : PutsRow schema 6 new_row old.now.trees new.now.trees =
+      subst (λ x. PutsRow schema 6 x old.now.trees new.now.trees) (chosen_is rows (Text row.path ∷ cast Integer (Int row.gone) ∷ or_null Blob row.digest ∷ [])
+      ∙ ap (λ v. Int (next_rowid rows) ∷ Text row.path ∷ v ∷ or_null Blob row.digest ∷ []) (cast_int row.gone)) p.1 in
       let o = q.others in
       record {
         schema = p.0;
@@ -202,7 +211,8 @@ module _ (more : MoreTables) where
         answers_keyed = subst AreKeyed (sym (o.1.1.1.1.1.1.0 (omega arith))) h.answers_keyed;
       }
 
-  pub put_commit : (old new : State) (t : Tables) (row : CommitRow) (count : ℕ) → HoldsIn schema old.now t → Executes text.put_commit (Int row.n ∷ Blob row.message ∷ []) old new (Ok count) → HoldsIn schema new.now (with_commit row t)
+  pub put_commit : (old new : State) (t : Tables) (row : CommitRow) (count : ℕ) → HoldsIn schema old.now t → Executes text.put_commit (Int row.n ∷ Blob row.message ∷ []) old new (Ok count)
+      → HoldsIn schema new.now (with_commit row t)
   put_commit old new t row count h ran =
       let params = Int row.n ∷ Blob row.message ∷ [] in
       let rows = old.now.trees 8 in
@@ -226,14 +236,18 @@ module _ (more : MoreTables) where
         answers_keyed = subst AreKeyed (sym (o.1.1.1.1.1.1.0 (omega arith))) h.answers_keyed;
       }
 
-  pub put_entry : (old new : State) (t : Tables) (row : EntryRow) (count : ℕ) → HoldsIn schema old.now t → Executes text.put_entry (Int row.n ∷ Text row.path ∷ Int row.mode ∷ Blob row.digest ∷ []) old new (Ok count) → HoldsIn schema new.now (with_entry row t)
+  pub put_entry : (old new : State) (t : Tables) (row : EntryRow) (count : ℕ) → HoldsIn schema old.now t
+      → Executes text.put_entry (Int row.n ∷ Text row.path ∷ Int row.mode ∷ Blob row.digest ∷ []) old new (Ok count) → HoldsIn schema new.now (with_entry row t)
   put_entry old new t row count h ran =
       let params = Int row.n ∷ Text row.path ∷ Int row.mode ∷ Blob row.digest ∷ [] in
       let rows = old.now.trees 9 in
       let new_row = Int (next_rowid rows) ∷ Int row.n ∷ Text row.path ∷ Int row.mode ∷ Blob row.digest ∷ [] in
       let w = runs_as text.put_entry params old new schema h.schema (Insert 5 (Values four 5)) (text.put_entry_is more).0 (text.put_entry_is more).1 count ran in
       let p = inserts schema 5 _ 9 _ _ _ _ _ refl old new h.schema _ params count four 5 (Null ∷ Int row.n ∷ Text row.path ∷ Int row.mode ∷ Blob row.digest ∷ []) refl w in
-      let q : PutsRow schema 9 new_row old.now.trees new.now.trees = subst (λ x. PutsRow schema 9 x old.now.trees new.now.trees) (chosen_is rows (cast Integer (Int row.n) ∷ Text row.path ∷ cast Integer (Int row.mode) ∷ Blob row.digest ∷ []) ∙ ap (λ v. Int (next_rowid rows) ∷ v ∷ Text row.path ∷ cast Integer (Int row.mode) ∷ Blob row.digest ∷ []) (cast_int row.n) ∙ ap (λ v. Int (next_rowid rows) ∷ Int row.n ∷ Text row.path ∷ v ∷ Blob row.digest ∷ []) (cast_int row.mode)) p.1 in
+      let q : PutsRow schema 9 new_row old.now.trees new.now.trees =
+      subst (λ x. PutsRow schema 9 x old.now.trees new.now.trees) (chosen_is rows (cast Integer (Int row.n) ∷ Text row.path ∷ cast Integer (Int row.mode) ∷ Blob row.digest ∷ [])
+      ∙ ap (λ v. Int (next_rowid rows) ∷ v ∷ Text row.path ∷ cast Integer (Int row.mode) ∷ Blob row.digest ∷ []) (cast_int row.n)
+      ∙ ap (λ v. Int (next_rowid rows) ∷ Int row.n ∷ Text row.path ∷ v ∷ Blob row.digest ∷ []) (cast_int row.mode)) p.1 in
       let o = q.others in
       record {
         schema = p.0;
@@ -250,14 +264,17 @@ module _ (more : MoreTables) where
         answers_keyed = subst AreKeyed (sym (o.1.1.1.1.1.1.0 (omega arith))) h.answers_keyed;
       }
 
-  pub put_answer : (old new : State) (t : Tables) (row : AnswerRow) (count : ℕ) → HoldsIn schema old.now t → Executes text.put_answer (Blob row.words ∷ Blob row.seen ∷ Blob row.output ∷ Blob row.changes ∷ Int row.status ∷ []) old new (Ok count) → HoldsIn schema new.now (with_answer row t)
+  pub put_answer : (old new : State) (t : Tables) (row : AnswerRow) (count : ℕ) → HoldsIn schema old.now t
+      → Executes text.put_answer (Blob row.words ∷ Blob row.seen ∷ Blob row.output ∷ Blob row.changes ∷ Int row.status ∷ []) old new (Ok count) → HoldsIn schema new.now (with_answer row t)
   put_answer old new t row count h ran =
       let params = Blob row.words ∷ Blob row.seen ∷ Blob row.output ∷ Blob row.changes ∷ Int row.status ∷ [] in
       let rows = old.now.trees 11 in
       let new_row = Int (next_rowid rows) ∷ Blob row.words ∷ Blob row.seen ∷ Blob row.output ∷ Blob row.changes ∷ Int row.status ∷ [] in
       let w = runs_as text.put_answer params old new schema h.schema (Insert 6 (Values five 6)) (text.put_answer_is more).0 (text.put_answer_is more).1 count ran in
       let p = inserts schema 6 _ 11 _ _ _ _ _ refl old new h.schema _ params count five 6 (Null ∷ Blob row.words ∷ Blob row.seen ∷ Blob row.output ∷ Blob row.changes ∷ Int row.status ∷ []) refl w in
-      let q : PutsRow schema 11 new_row old.now.trees new.now.trees = subst (λ x. PutsRow schema 11 x old.now.trees new.now.trees) (chosen_is rows (Blob row.words ∷ Blob row.seen ∷ Blob row.output ∷ Blob row.changes ∷ cast Integer (Int row.status) ∷ []) ∙ ap (λ v. Int (next_rowid rows) ∷ Blob row.words ∷ Blob row.seen ∷ Blob row.output ∷ Blob row.changes ∷ v ∷ []) (cast_int row.status)) p.1 in
+      let q : PutsRow schema 11 new_row old.now.trees new.now.trees =
+      subst (λ x. PutsRow schema 11 x old.now.trees new.now.trees) (chosen_is rows (Blob row.words ∷ Blob row.seen ∷ Blob row.output ∷ Blob row.changes ∷ cast Integer (Int row.status) ∷ [])
+      ∙ ap (λ v. Int (next_rowid rows) ∷ Blob row.words ∷ Blob row.seen ∷ Blob row.output ∷ Blob row.changes ∷ v ∷ []) (cast_int row.status)) p.1 in
       let o = q.others in
       record {
         schema = p.0;
@@ -270,13 +287,15 @@ module _ (more : MoreTables) where
         fixes_numbered = subst AreNumbered (sym (o.1.1.1.0 (omega arith))) h.fixes_numbered;
         commits = subst (Stored commit_cells (0 ∷ 2 ∷ []) t.commits) (sym (o.1.1.1.1.0 (omega arith))) h.commits;
         entries = subst (Stored entry_cells (1 ∷ 2 ∷ 3 ∷ 4 ∷ []) t.entries) (sym (o.1.1.1.1.1.0 (omega arith))) h.entries;
-        answers = subst (Stored answer_cells (1 ∷ 2 ∷ 3 ∷ 4 ∷ 5 ∷ []) (row ∷ t.answers)) (sym q.rows) (stored_more answer_cells (1 ∷ 2 ∷ 3 ∷ 4 ∷ 5 ∷ []) row t.answers new_row rows refl q.free h.answers);
+        answers =
+            subst (Stored answer_cells (1 ∷ 2 ∷ 3 ∷ 4 ∷ 5 ∷ []) (row ∷ t.answers)) (sym q.rows) (stored_more answer_cells (1 ∷ 2 ∷ 3 ∷ 4 ∷ 5 ∷ []) row t.answers new_row rows refl q.free h.answers);
         answers_keyed = subst AreKeyed (sym q.rows) (record { numbered = put_keyed new_row rows q.keyed h.answers_keyed.numbered; apart = put_apart new_row rows q.free h.answers_keyed.apart });
       }
 
   -- ---- DELETE
 
-  pub take_staged : (old new : State) (t : Tables) (path : List ℕ) (count : ℕ) → HoldsIn schema old.now t → Executes text.take_staged (Text path ∷ []) old new (Ok count) → HoldsIn schema new.now (without_staged path t)
+  pub take_staged : (old new : State) (t : Tables) (path : List ℕ) (count : ℕ) → HoldsIn schema old.now t → Executes text.take_staged (Text path ∷ []) old new (Ok count)
+      → HoldsIn schema new.now (without_staged path t)
   take_staged old new t path count h ran =
       let params = Text path ∷ [] in
       let rows = old.now.trees 4 in
@@ -347,7 +366,7 @@ module _ (more : MoreTables) where
 
 -- what is bound for a fix is what its row shows
 pub fix_params : (path : List ℕ) (now : Option (Bor (List ℕ))) (gone : Bool) → is_some now ≡ not gone
-    → Text path ∷ Int (cond gone (pos 1) (pos 0)) ∷ bound_value (or_null (λ (b : Bor (List ℕ)). Blob b.now) now) ∷ [] ≡ fix_cells (fix_row path now)
+    → Text path ∷ Int (cond gone (pos 1) (pos 0)) ∷ bound_value (or_null (λ (b : Bor (List ℕ)). Blob b.now) now) ∷ [] ≡ fix_cells (fix_row_of_digest path now)
 fix_params path None true h = refl
 fix_params path None false h = cc
 fix_params path (Some b) true h = cc

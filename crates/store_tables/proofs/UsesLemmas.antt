@@ -16,7 +16,7 @@ use Rattle.sqlite_rules.specs.Cast.{cast}
 use Rattle.sqlite_rules.specs.Edit.{next_rowid, have_rowids}
 use Rattle.sqlite.specs.Effect.{Database, IsDatabase}
 use Rattle.sqlite.specs.State.{State, Executes}
-use Rattle.sqlite.proofs.Callers.{runs_as}
+use Rattle.store_tables.proofs.Kit.{runs_as}
 use Rattle.store_tables.specs.declared.rows.UseRow.{UseRow}
 use Rattle.store_tables.specs.Schema.{uses, MoreTables, store_with, uses_then}
 use Rattle.store_tables.specs.Tables.{Tables, HoldsIn, KeepsOthers, ChangesOnly, Stored, AreKeyed, meta_cells, blob_cells, staged_cells, fix_cells, commit_cells, entry_cells, answer_cells}
@@ -67,7 +67,9 @@ module _ (more : MoreTables) where
       let new_row = Int (next_rowid rows) ∷ Blob row.words ∷ Blob row.seen ∷ Int row.tick ∷ [] in
       let w = runs_as text.put_use params old new schema h.schema (Insert 7 (Values three 4)) (text.put_use_is more).0 (text.put_use_is more).1 count ran in
       let p = inserts schema 7 _ 13 _ _ _ _ _ refl old new h.schema _ params count three 4 (Null ∷ Blob row.words ∷ Blob row.seen ∷ Int row.tick ∷ []) refl w in
-      let q : PutsRow schema 13 new_row old.now.trees new.now.trees = subst (λ x. PutsRow schema 13 x old.now.trees new.now.trees) (chosen_is rows (Blob row.words ∷ Blob row.seen ∷ cast Integer (Int row.tick) ∷ []) ∙ ap (λ v. Int (next_rowid rows) ∷ Blob row.words ∷ Blob row.seen ∷ v ∷ []) (cast_int row.tick)) p.1 in (
+      let q : PutsRow schema 13 new_row old.now.trees new.now.trees =
+      subst (λ x. PutsRow schema 13 x old.now.trees new.now.trees) (chosen_is rows (Blob row.words ∷ Blob row.seen ∷ cast Integer (Int row.tick) ∷ [])
+      ∙ ap (λ v. Int (next_rowid rows) ∷ Blob row.words ∷ Blob row.seen ∷ v ∷ []) (cast_int row.tick)) p.1 in (
         store_kept old.now new.now t p.0 w.sound q.others h,
         record {
           stored = subst (Stored use_cells (1 ∷ 2 ∷ 3 ∷ []) (row ∷ xs)) (sym q.rows) (stored_more use_cells (1 ∷ 2 ∷ 3 ∷ []) row xs new_row rows refl q.free own.stored);
@@ -114,7 +116,8 @@ module _ (more : MoreTables) where
       inserts_only schema 7 _ 13 _ _ _ _ _ refl old new has _ params count three 4 (Null ∷ Blob row.words ∷ Blob row.seen ∷ Int row.tick ∷ []) refl
       (runs_as text.put_use params old new schema has (Insert 7 (Values three 4)) (text.put_use_is more).0 (text.put_use_is more).1 count ran)
 
-  pub take_use_only : (old new : State) (words seen : List ℕ) (count : ℕ) → old.now.schema ≡ schema → Executes text.take_use (Blob words ∷ Blob seen ∷ []) old new (Ok count) → ChangesOnly uses schema old.now new.now
+  pub take_use_only : (old new : State) (words seen : List ℕ) (count : ℕ) → old.now.schema ≡ schema → Executes text.take_use (Blob words ∷ Blob seen ∷ []) old new (Ok count)
+      → ChangesOnly uses schema old.now new.now
   take_use_only old new words seen count has ran =
       deletes_only schema 7 _ 13 _ _ _ _ _ refl old new has _ (Blob words ∷ Blob seen ∷ []) count two_are_given (store_stays (uses_then more).tables (uses_then more).rests)
       (runs_as text.take_use (Blob words ∷ Blob seen ∷ []) old new schema has _ (text.take_use_is more).0 (text.take_use_is more).1 count ran)
@@ -127,9 +130,12 @@ module _ (more : MoreTables) where
 -- ---- as a clause says it, of any schema that lists the uses
 
 pub told : (listed : Schema) (old new : Database) (makes : List UseRow → List UseRow) → old.schema ≡ listed
-    → ((more : MoreTables) (t : Tables) (rows : List UseRow) → HoldsIn (store_with (uses_then more)) old t → HoldsUses old.trees rows → HoldsIn (store_with (uses_then more)) new t × HoldsUses new.trees (makes rows))
+    → ((more : MoreTables) (t : Tables) (rows : List UseRow) → HoldsIn (store_with (uses_then more)) old t → HoldsUses old.trees rows
+    → HoldsIn (store_with (uses_then more)) new t × HoldsUses new.trees (makes rows))
     → MakesUses makes listed old new
-told listed old new makes has does lists = subst (λ s. (t : Tables) (rows : List UseRow) → HoldsIn s old t → HoldsUses old.trees rows → HoldsIn s new t × HoldsUses new.trees (makes rows)) (sym lists.1) (does lists.0)
+told listed old new makes has does lists =
+    subst (λ s. (t : Tables) (rows : List UseRow) → HoldsIn s old t → HoldsUses old.trees rows → HoldsIn s new t × HoldsUses new.trees (makes rows)) (sym lists.1) (does lists.0)
 
-pub told_only : (listed : Schema) (old new : Database) → old.schema ≡ listed → ((more : MoreTables) → old.schema ≡ store_with (uses_then more) → ChangesOnly uses (store_with (uses_then more)) old new) → ChangesUses listed old new
+pub told_only : (listed : Schema) (old new : Database) → old.schema ≡ listed → ((more : MoreTables) → old.schema ≡ store_with (uses_then more) → ChangesOnly uses (store_with (uses_then more)) old new)
+    → ChangesUses listed old new
 told_only listed old new has does lists = subst (λ s. ChangesOnly uses s old new) (sym lists.1) (does lists.0 (has ∙ lists.1))

@@ -13,7 +13,7 @@ use Rattle.sqlite.specs.Does.{Tally, lacks_sequence}
 use Rattle.sqlite.specs.Effect.{Database, IsDatabase}
 use Rattle.sqlite.specs.Listing.{understood}
 use Rattle.sqlite.specs.State.{State, Writes, Executes}
-use Rattle.sqlite.proofs.Callers.{runs_as}
+use Rattle.store_tables.proofs.Kit.{runs_as}
 use Rattle.store_tables.specs.Schema.{uses, store_schema, schema_with_uses}
 use Rattle.store_tables.specs.Tables.{Tables, HoldsIn, AreKeyed, Stored, meta_cells, blob_cells, staged_cells, fix_cells, commit_cells, entry_cells, answer_cells}
 use Rattle.store_tables.specs.Uses.{HoldsUses, IsAddedTo, AddsUses, MakesBareUses, use_cells}
@@ -36,7 +36,8 @@ record Adds (schema after : Schema) (old new : Database) : Type 0 where
   others : AllByRecursion (λ (t : Table). new.trees t.tree ≡ old.trees t.tree) schema.tables
   bare : new.trees (next_tree schema) ≡ []
 
-added : (schema : Schema) (sql : List ℕ) (table : Table) (after : Schema) → Makes schema sql table after → (old new : State) (count : ℕ) → old.now.schema ≡ schema → Executes sql [] old new (Ok count) → Adds schema after old.now new.now
+added : (schema : Schema) (sql : List ℕ) (table : Table) (after : Schema) → Makes schema sql table after → (old new : State) (count : ℕ) → old.now.schema ≡ schema → Executes sql [] old new (Ok count)
+    → Adds schema after old.now new.now
 added schema sql table after it old new count has h =
     let w = subst (λ t. Writes old new None CreateTable t [] count) it.whole (runs_as sql [] old new schema has CreateTable it.is it.plain count h) in
     let all = went w.changed in

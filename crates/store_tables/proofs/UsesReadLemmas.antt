@@ -25,7 +25,8 @@ module _ {S V : Type 0} (g : Ghosts S) (old new : Held S) (sql : List ℕ) (item
   pub uses_fail : {W : Type 0} (out : Result W Error) (d : Error) → out ≡ Err d → (Rows : W → Trees → Type 0) → IsReadOfUses g old new out Rows
   uses_fail out d is Rows = record { rows = λ _ _ _. rw is tt; kept = query_keeps g old new sql items r ok err; survives = survives }
 
-  pub uses_shown : {W : Type 0} (order : List (Term × Key)) (names : List (List ℕ)) → ((more : MoreTables) → Selects (store_with (uses_then more)) sql 13 all_columns order names) → (shown : V) → r ≡ Ok shown
+  pub uses_shown : {W : Type 0} (order : List (Term × Key)) (names : List (List ℕ)) → ((more : MoreTables) → Selects (store_with (uses_then more)) sql 13 all_columns order names) → (shown : V)
+      → r ≡ Ok shown
       → (out : Result W Error) (listed : W → List UseRow) → IfOk out (λ w. map use_cells (listed w) ≡ map (drop 1) (items shown)) → IfOk out (λ w. ShowRowids (items shown))
       → IsReadOfUses g old new out (λ w trees. HoldsUses trees (listed w))
   uses_shown order names text shown is (Err e) listed done apart = uses_fail (Err e) e refl _

@@ -10,8 +10,8 @@ use Rattle.sqlite.specs.Effect.{Database}
 use Rattle.sqlite.specs.Held.{Held, state}
 use Rattle.store_tables.specs.declared.rows.UseRow.{UseRow}
 use Rattle.store_tables.specs.Schema.{meta, no_more, schema_with_uses, uses_then}
-use Rattle.store_tables.specs.Steps.{IsChange, IsDone, IsMade, IsStep}
-use Rattle.store_tables.specs.Tables.{Tables, AreKeyed, ChangesOnly, Holds, KeepsMore, MakesIfKeyed, Stored, greatest_tree}
+use Rattle.store_tables.specs.Steps.{IsChange, IsStatementDone, IsMade, IsStep}
+use Rattle.store_tables.specs.Tables.{Tables, AreKeyed, ChangesOnly, HoldsTables, KeepsMore, MakesIfKeyed, Stored, greatest_tree}
 use Rattle.store_tables.specs.Uses.{AddsUses, ChangesUses, ListsUses, HoldsRows, HoldsUses, MakesBareUses, MakesUses, use_cells}
 use Rattle.store_tables.proofs.StepLemmas.{Went, only_keeps_more}
 
@@ -40,7 +40,7 @@ module _ {S A : Type 0} (g : Ghosts S) (old new : Held S) (r : Result A Error) (
   -- a statement on the seven
   pub step_as_made : (makes : Tables → Tables) → IsStep g old new r makes → IsMade g old new r (λ db. HoldsRows db t rows) (λ db. HoldsRows db (makes t) rows)
   step_as_made makes step = record {
-    done = λ clean inside. on_ok_weaker r (λ (d : IsDone (state g old) (state g new) makes). (
+    done = λ clean inside. on_ok_weaker r (λ (d : IsStatementDone (state g old) (state g new) makes). (
       d.shown,
       λ h. (
         (d.holds (uses_then no_more) t h.0.0, beside schema_with_uses before after rows (no_more, refl) (d.keeps (uses_then no_more) h.0.0.schema) h.0.1),
@@ -52,7 +52,8 @@ module _ {S A : Type 0} (g : Ghosts S) (old new : Held S) (r : Result A Error) (
   }
 
   -- a statement on the uses
-  pub change_as_made : (makes : List UseRow → List UseRow) → IsChange g old new r (MakesUses makes) → IsChange g old new r ChangesUses → IsMade g old new r (λ db. HoldsRows db t rows) (λ db. HoldsRows db t (makes rows))
+  pub change_as_made : (makes : List UseRow → List UseRow) → IsChange g old new r (MakesUses makes) → IsChange g old new r ChangesUses
+      → IsMade g old new r (λ db. HoldsRows db t rows) (λ db. HoldsRows db t (makes rows))
   change_as_made makes change only = record {
     done = λ clean inside. ok_both r (Went g old new (MakesUses makes)) (Went g old new ChangesUses) _ (λ d o. (
       d.0,
@@ -66,7 +67,8 @@ module _ {S A : Type 0} (g : Ghosts S) (old new : Held S) (r : Result A Error) (
   }
 
   -- a row of `meta` in place of another
-  pub replaced_as_made : (makes : Tables → Tables) → IsChange g old new r (MakesIfKeyed meta makes) → IsChange g old new r (ChangesOnly meta) → IsMade g old new r (λ db. HoldsRows db t rows) (λ db. HoldsRows db (makes t) rows)
+  pub replaced_as_made : (makes : Tables → Tables) → IsChange g old new r (MakesIfKeyed meta makes) → IsChange g old new r (ChangesOnly meta)
+      → IsMade g old new r (λ db. HoldsRows db t rows) (λ db. HoldsRows db (makes t) rows)
   replaced_as_made makes change only = record {
     done = λ clean inside. ok_both r (Went g old new (MakesIfKeyed meta makes)) (Went g old new (ChangesOnly meta)) _ (λ d o. (
       d.0,
@@ -81,7 +83,7 @@ module _ {S A : Type 0} (g : Ghosts S) (old new : Held S) (r : Result A Error) (
 
 -- the table of uses, made behind those of version 1
 pub grown_as_made : {S A : Type 0} (g : Ghosts S) (old new : Held S) (r : Result A Error) (t : Tables) → IsChange g old new r MakesBareUses → IsChange g old new r AddsUses
-    → IsMade g old new r (λ db. Holds db t × AreKeyed (db.trees 0)) (λ db. HoldsRows db t [])
+    → IsMade g old new r (λ db. HoldsTables db t × AreKeyed (db.trees 0)) (λ db. HoldsRows db t [])
 grown_as_made g old new r t change added = record {
   done = λ clean inside. ok_both r (Went g old new MakesBareUses) (Went g old new AddsUses) _ (λ d o. (
     d.0,

@@ -29,11 +29,11 @@ use Rattle.sqlite.specs.Does.{Does, Tally}
 use Rattle.sqlite.specs.Effect.{Database, Reads}
 use Rattle.sqlite.specs.Rows.{Written}
 use Rattle.sqlite.specs.State.{State, Writes, mode_of}
-use Rattle.sqlite.proofs.Callers.{one_step}
-use Rattle.store_tables.specs.Schema.{NoneActs, store_schema, table_of}
+use Rattle.store_tables.proofs.Kit.{one_step}
+use Rattle.store_tables.specs.Schema.{NoneActs, store_schema, table_named}
 use Rattle.store_tables.proofs.QueryLemmas.{plain_query, passes_all, shown_as, selected}
 use Rattle.store_tables.proofs.RowLemmas.{passing_out, all_out, all_kept, put_apart, put_keyed, left_keyed}
-use Rattle.store_tables.specs.Tables.{AreApart, AreKeyed, ChangesOnly, KeepsOthers}
+use Rattle.store_tables.specs.Tables.{HaveDistinctRowids, AreKeyed, ChangesOnly, KeepsOthers}
 
 -- a part that gave a value did not stop on the way
 pub went : {B E R : Type 0} {b : B} {Stops : E → Type 0} → ((stop : E) × Stops stop × (Ok b ≡ Err stop)) ⊎ R → R
@@ -68,7 +68,8 @@ pub store_stays : (tables : List Table) → NoneActs tables → NoneActs (store_
 store_stays tables stay = (tt, ((tt, ((refl, tt), ((refl, tt), (tt, ((refl, (refl, tt)), ((refl, (refl, (refl, (refl, tt)))), stay))))))))
 
 module _ (schema : Schema) (depth tree : ℕ) (olds : List Row) where
-  quiet_refs : (child : Table) (refs : List Reference) → AllByRecursion (λ (ref : Reference). ref.on_delete ≡ NoAction) refs → AllByRecursion (λ ref. work_for schema Enforced depth tree olds [] child ref ≡ None) refs
+  quiet_refs : (child : Table) (refs : List Reference) → AllByRecursion (λ (ref : Reference). ref.on_delete ≡ NoAction) refs
+      → AllByRecursion (λ ref. work_for schema Enforced depth tree olds [] child ref ≡ None) refs
   quiet_refs child [] none = tt
   quiet_refs child (ref ∷ refs) none = (rw none.0, quiet_refs child refs none.1)
 
@@ -91,9 +92,10 @@ pub record LeavesRows (schema : Schema) (tree : ℕ) (rows : List Row) (old new 
   pub others : KeepsOthers schema tree old new
 
 module _ (schema : Schema) (at : ℕ) (name : List ℕ) (tree : ℕ) (columns : List Column) (key : Option ℕ) (primary : List ℕ) (uniques : List (List ℕ)) (references : List Reference)
-    (listed : slice_get schema.tables at ≡ Some (table_of name tree columns key primary uniques references)) (old new : State) (has : old.now.schema ≡ schema) (text : List ℕ) (params : Row) (count : ℕ) where
+    (listed : slice_get schema.tables at ≡ Some (table_named name tree columns key primary uniques references)) (old new : State) (has : old.now.schema ≡ schema) (text : List ℕ) (params : Row)
+    (count : ℕ) where
   abbrev table : Table
-  table = table_of name tree columns key primary uniques references
+  table = table_named name tree columns key primary uniques references
 
   pub inserts : (terms : List Term) (width : ℕ) (source : Row) → value_rows (params ++ []) width (length terms / width) terms ≡ source ∷ []
       → Writes old new None (Insert at (Values terms width)) text params count
@@ -110,7 +112,8 @@ module _ (schema : Schema) (at : ℕ) (name : List ℕ) (tree : ℕ) (columns : 
       let edit = edit_of db table [] Chosen 0 given.0 in
       let a = one_step schema Enforced db written.0 edit (unmoved schema Enforced 0 tree edit.news schema.tables) written.1 in
       let applied : Applies schema Enforced db (edit_of db table [] Chosen 0 (source ∷ [])) new.now.trees =
-      subst (λ t. Applies schema Enforced db (edit_of db table [] Chosen 0 (source ∷ [])) t) (sym (ap (λ (d : Database). d.trees) now ∙ trees)) (subst (λ rows. Applies schema Enforced db (edit_of db table [] Chosen 0 rows) written.0) (given.1.1 ∙ one) a) in (
+      subst (λ t. Applies schema Enforced db (edit_of db table [] Chosen 0 (source ∷ [])) t) (sym (ap (λ (d : Database). d.trees) now ∙ trees))
+      (subst (λ rows. Applies schema Enforced db (edit_of db table [] Chosen 0 rows) written.0) (given.1.1 ∙ one) a) in (
         ap (λ (d : Database). d.schema) now,
         record { rows = applied.rows; free = not-true _ (and_parts _ _ applied.fresh).0; keyed = (and_parts _ _ applied.keyed).0; others = applied.tables },
       )
@@ -148,7 +151,8 @@ module _ (schema : Schema) (at : ℕ) (name : List ℕ) (tree : ℕ) (columns : 
       (ap (λ (d : Database). d.schema) now, given.0, selected tree tests (col 1 0 ∷ []) [] db params given.0 given.1.answer, record { rows_are = applied.rows; others = applied.tables })
 
   -- DELETE with a test takes out the rows that pass
-  pub deletes : (tests : List Term) → NoneActs schema.tables → have_rowids (old.now.trees tree) ≡ true → AreApart (old.now.trees tree) → Writes old new None (Delete at (rowids_where tests)) text params count
+  pub deletes : (tests : List Term) → NoneActs schema.tables → have_rowids (old.now.trees tree) ≡ true → HaveDistinctRowids (old.now.trees tree)
+      → Writes old new None (Delete at (rowids_where tests)) text params count
       → (new.now.schema ≡ schema) × LeavesRows schema tree (filter (λ r. not (passes_all tests params r)) (old.now.trees tree)) old.now.trees new.now.trees
   deletes tests none keyed apart w =
       let it = taken tests none w in
@@ -168,4 +172,5 @@ module _ (schema : Schema) (at : ℕ) (name : List ℕ) (tree : ℕ) (columns : 
 -- what a SELECT over one table shows
 pub shows : (db : Database) (tree : ℕ) (project : List Term) (order : List (Term × Key)) (names : List (List ℕ)) (params : Row) (rows : List Row)
     → Reads (Select (record { lets = []; body = plain_query tree [] project order }) names) db params rows → IsPermutation (map (shown_as project params) (db.trees tree)) rows
-shows db tree project order names params rows h = subst (λ l. IsPermutation (map (shown_as project params) l) rows) (sym (all_kept (db.trees tree))) (selected tree [] project order db.trees params rows h.answer)
+shows db tree project order names params rows h =
+    subst (λ l. IsPermutation (map (shown_as project params) l) rows) (sym (all_kept (db.trees tree))) (selected tree [] project order db.trees params rows h.answer)

@@ -7,16 +7,16 @@ use Rattle.sqlite_value.specs.declared.value.Value.TheVariants.{Int}
 use Rattle.sqlite_value.specs.Order.{Row, column}
 
 -- each number is less than every later one
-abbrev pub IsRising : List ℤ → Type 0
-IsRising = IsAscending (λ a b. int_cmp a b ≡ Less)
+abbrev pub AreRisingRowids : List ℤ → Type 0
+AreRisingRowids = IsAscending (λ a b. int_cmp a b ≡ Less)
 
 abbrev pub AreDistinct : List ℤ → Type 0
 AreDistinct = IsAscending (λ a b. a ≢ b)
 
 -- the last number, if there is one, is less than the next
-abbrev pub IsBelow : Option ℤ → ℤ → Type 0
-IsBelow None next = Unit {0}
-IsBelow (Some last) next = int_cmp last next ≡ Less
+abbrev pub IsLastRowidBelow : Option ℤ → ℤ → Type 0
+IsLastRowidBelow None next = Unit {0}
+IsLastRowidBelow (Some last) next = int_cmp last next ≡ Less
 
 -- each row has a number in its first column, and no two have the same
 abbrev pub ShowRowids : List Row → Type 0

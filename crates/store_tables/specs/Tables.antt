@@ -67,13 +67,13 @@ abbrev pub have_one_rowid : Row → Row → Bool
 have_one_rowid a b = is_eq (value_cmp (rowid a) (rowid b))
 
 -- no rowid comes twice
-abbrev pub AreApart : List Row → Type 0
-AreApart = IsAscending (λ a b. have_one_rowid a b ≡ false)
+abbrev pub HaveDistinctRowids : List Row → Type 0
+HaveDistinctRowids = IsAscending (λ a b. have_one_rowid a b ≡ false)
 
 -- Each row has a rowid of its own, by which it can be removed.
 pub record AreKeyed (rows : List Row) : Type 0 where
   pub numbered : have_rowids rows ≡ true
-  pub apart : AreApart rows
+  pub apart : HaveDistinctRowids rows
 
 -- The database has the listed tables, obeys their rules, and has these rows in the tables of a store. A later
 -- version of a store lists more tables.
@@ -92,8 +92,8 @@ pub record HoldsIn (listed : Schema) (db : Database) (t : Tables) : Type 0 where
   pub answers_keyed : AreKeyed (db.trees 11)
 
 -- the database has exactly the tables of a store, obeys their rules, and has these rows in them
-abbrev pub Holds : Database → Tables → Type 0
-Holds = HoldsIn store_schema
+abbrev pub HoldsTables : Database → Tables → Type 0
+HoldsTables = HoldsIn store_schema
 
 -- the database of these trees, if they list the tables of a store
 abbrev pub with_schema : Trees → Database
@@ -130,7 +130,8 @@ ChangesNothing listed old new = new ≡ old
 
 -- It makes this of the tables of a store, if each row of the one that it changes has a rowid of its own.
 abbrev pub MakesIfKeyed : Table → (Tables → Tables) → Schema → Database → Database → Type 0
-MakesIfKeyed own makes listed old new = (t : Tables) → HoldsIn listed old t → AreKeyed (old.trees own.tree) → HoldsIn listed new (makes t)
+MakesIfKeyed own makes listed old new =
+    (t : Tables) → HoldsIn listed old t → AreKeyed (old.trees own.tree) → HoldsIn listed new (makes t)
 
 abbrev pub with_meta : MetaRow → Tables → Tables
 with_meta row t = record t { meta = row ∷ t.meta }
@@ -155,9 +156,9 @@ abbrev pub without_all_staged : Tables → Tables
 without_all_staged t = record t { staged = [] }
 
 -- the fix of a path: the digest of its new contents, or none if the file is gone
-abbrev pub fix_row : List ℕ → Option (Bor (List ℕ)) → FixRow
-fix_row path None = record { path = path; gone = pos 1; digest = None }
-fix_row path (Some digest) = record { path = path; gone = pos 0; digest = Some digest.now }
+abbrev pub fix_row_of_digest : List ℕ → Option (Bor (List ℕ)) → FixRow
+fix_row_of_digest path None = record { path = path; gone = pos 1; digest = None }
+fix_row_of_digest path (Some digest) = record { path = path; gone = pos 0; digest = Some digest.now }
 
 abbrev pub with_fix : FixRow → Tables → Tables
 with_fix row t = record t { fixes = row ∷ t.fixes }
@@ -176,7 +177,8 @@ with_answer row t = record t { answers = row ∷ t.answers }
 
 -- an answer's key is the words of its command and the files that its child saw, by their digests
 abbrev pub without_answer : List ℕ → List ℕ → Tables → Tables
-without_answer words seen t = record t { answers = filter (λ row. not (bytes_eq row.words words && bytes_eq row.seen seen)) t.answers }
+without_answer words seen t =
+    record t { answers = filter (λ row. not (bytes_eq row.words words && bytes_eq row.seen seen)) t.answers }
 
 abbrev pub without_answers : Tables → Tables
 without_answers t = record t { answers = [] }
@@ -189,8 +191,9 @@ pub record IsBare (schema : Schema) (db : Database) : Type 0 where
 
 -- the first of the store's tables, and of their indexes
 abbrev pub first_tables : ℕ → ℕ → Schema
-first_tables tables indexes = record { tables = take tables store_schema.tables; indexes = take indexes store_schema.indexes; views = [] }
+first_tables tables indexes =
+    record { tables = take tables store_schema.tables; indexes = take indexes store_schema.indexes; views = [] }
 
 -- exactly the tables of a store, without any rows
 abbrev pub IsEmptyStore : Database → Type 0
-IsEmptyStore db = IsBare store_schema db × Holds db no_rows
+IsEmptyStore db = IsBare store_schema db × HoldsTables db no_rows

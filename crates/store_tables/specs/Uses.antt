@@ -47,7 +47,8 @@ as_store trees = record { schema = schema_with_uses; trees = trees }
 -- It makes this of the rows of the table, and keeps those of the seven.
 abbrev pub MakesUses : (List UseRow → List UseRow) → Schema → Database → Database → Type 0
 MakesUses makes listed old new =
-    ListsUses listed → (t : Tables) (rows : List UseRow) → HoldsIn listed old t → HoldsUses old.trees rows → HoldsIn listed new t × HoldsUses new.trees (makes rows)
+    ListsUses listed → (t : Tables) (rows : List UseRow) → HoldsIn listed old t → HoldsUses old.trees rows
+    → HoldsIn listed new t × HoldsUses new.trees (makes rows)
 
 -- Of the listed tables only this one changes.
 abbrev pub ChangesUses : Schema → Database → Database → Type 0
@@ -68,7 +69,9 @@ without_uses rows = []
 
 -- It has no rows, and the seven keep theirs.
 abbrev pub MakesBareUses : Schema → Database → Database → Type 0
-MakesBareUses listed old new = listed ≡ store_schema → (t : Tables) → HoldsIn store_schema old t → HoldsIn schema_with_uses new t × HoldsUses new.trees []
+MakesBareUses listed old new =
+    listed ≡ store_schema → (t : Tables) → HoldsIn store_schema old t
+    → HoldsIn schema_with_uses new t × HoldsUses new.trees []
 
 -- The trees of the seven are as they were.
 pub record IsAddedTo (old new : Database) : Type 0 where
@@ -83,7 +86,8 @@ AddsUses listed old new = listed ≡ store_schema → IsAddedTo old new
 -- ---- the table read
 
 -- A query inside a transaction, as `IsRead` of the tables of version 2.
-pub record IsReadOfUses {S A : Type 0} (g : Ghosts S) (old new : Held S) (result : Result A Error) (Rows : A → Trees → Type 0) : Type 0 where
+pub record IsReadOfUses {S A : Type 0} (g : Ghosts S) (old new : Held S) (result : Result A Error)
+    (Rows : A → Trees → Type 0) : Type 0 where
   pub rows : (more : MoreTables) → HasCleanDisk (state g new) → (state g old).now.schema ≡ store_with (uses_then more)
       → IfOk result (λ answer. IsUnchanged (state g old) (state g new) × Rows answer (state g old).now.trees)
   pub kept : HasCleanDisk (state g new) → IsTrue (state g old).in_transaction → KeepsCommit (state g old) (state g new)

@@ -23,7 +23,8 @@ pub fn read_meta<S: Alter>(
     tx: &mut Transaction<'_, S>,
 ) -> Result<Vec<MetaRow>, Error>
     ensures same_reference { tx.new.conn.ghost_name ≡ tx.old.conn.ghost_name }
-    ensures read { IsRead S.Store tx.old.conn.now tx.new.conn.now result (λ rows trees. Stored meta_cells (1 ∷ 2 ∷ []) rows.items (trees 0)) }
+    ensures read { IsRead S.Store tx.old.conn.now tx.new.conn.now result
+        (λ rows trees. Stored meta_cells (1 ∷ 2 ∷ []) rows.items (trees 0)) }
     ensures keyed { IsRead S.Store tx.old.conn.now tx.new.conn.now result (λ rows trees. AreKeyed (trees 0)) }
 {
     let shown = tx.query_all("SELECT rowid, name, value FROM meta ORDER BY name", &[])?;
@@ -36,7 +37,8 @@ pub fn read_blobs<S: Alter>(
     tx: &mut Transaction<'_, S>,
 ) -> Result<Vec<BlobRow>, Error>
     ensures same_reference { tx.new.conn.ghost_name ≡ tx.old.conn.ghost_name }
-    ensures read { IsRead S.Store tx.old.conn.now tx.new.conn.now result (λ rows trees. Stored blob_cells (1 ∷ 2 ∷ []) rows.items (trees 2)) }
+    ensures read { IsRead S.Store tx.old.conn.now tx.new.conn.now result
+        (λ rows trees. Stored blob_cells (1 ∷ 2 ∷ []) rows.items (trees 2)) }
 {
     let shown = tx.query_all(
         "SELECT rowid, digest, bytes FROM blobs ORDER BY digest",
@@ -52,7 +54,8 @@ pub fn read_commits<S: Alter>(
     tx: &mut Transaction<'_, S>,
 ) -> Result<Vec<CommitRow>, Error>
     ensures same_reference { tx.new.conn.ghost_name ≡ tx.old.conn.ghost_name }
-    ensures read { IsRead S.Store tx.old.conn.now tx.new.conn.now result (λ rows trees. Stored commit_cells (0 ∷ 2 ∷ []) rows.items (trees 8)) }
+    ensures read { IsRead S.Store tx.old.conn.now tx.new.conn.now result
+        (λ rows trees. Stored commit_cells (0 ∷ 2 ∷ []) rows.items (trees 8)) }
 {
     let shown = tx.query_all("SELECT n, message FROM commits ORDER BY n", &[])?;
     decoded(alloc, shown, 0)
@@ -64,7 +67,8 @@ pub fn read_entries<S: Alter>(
     tx: &mut Transaction<'_, S>,
 ) -> Result<Vec<EntryRow>, Error>
     ensures same_reference { tx.new.conn.ghost_name ≡ tx.old.conn.ghost_name }
-    ensures read { IsRead S.Store tx.old.conn.now tx.new.conn.now result (λ rows trees. Stored entry_cells (1 ∷ 2 ∷ 3 ∷ 4 ∷ []) rows.items (trees 9)) }
+    ensures read { IsRead S.Store tx.old.conn.now tx.new.conn.now result
+        (λ rows trees. Stored entry_cells (1 ∷ 2 ∷ 3 ∷ 4 ∷ []) rows.items (trees 9)) }
 {
     let shown = tx.query_all(
         "SELECT rowid, n, path, mode, digest FROM entries ORDER BY n, path",
@@ -81,7 +85,8 @@ pub fn read_staged<S: Alter>(
     tx: &mut Transaction<'_, S>,
 ) -> Result<Vec<StagedRow>, Error>
     ensures same_reference { tx.new.conn.ghost_name ≡ tx.old.conn.ghost_name }
-    ensures read { IsRead S.Store tx.old.conn.now tx.new.conn.now result (λ rows trees. Stored staged_cells (1 ∷ 2 ∷ 3 ∷ []) rows.items (trees 4) × AreKeyed (trees 4)) }
+    ensures read { IsRead S.Store tx.old.conn.now tx.new.conn.now result
+        (λ rows trees. Stored staged_cells (1 ∷ 2 ∷ 3 ∷ []) rows.items (trees 4) × AreKeyed (trees 4)) }
 {
     let shown = tx.query_all(
         "SELECT rowid, path, mode, digest FROM staged ORDER BY path",
@@ -96,7 +101,8 @@ pub fn read_fixes<S: Alter>(
     tx: &mut Transaction<'_, S>,
 ) -> Result<Vec<FixRow>, Error>
     ensures same_reference { tx.new.conn.ghost_name ≡ tx.old.conn.ghost_name }
-    ensures read { IsRead S.Store tx.old.conn.now tx.new.conn.now result (λ rows trees. Stored fix_cells (1 ∷ 2 ∷ 3 ∷ []) rows.items (trees 6) × (have_rowids (trees 6) ≡ true)) }
+    ensures read { IsRead S.Store tx.old.conn.now tx.new.conn.now result
+        (λ rows trees. Stored fix_cells (1 ∷ 2 ∷ 3 ∷ []) rows.items (trees 6) × (have_rowids (trees 6) ≡ true)) }
 {
     let shown = tx.query_all(
         "SELECT rowid, path, gone, digest FROM fixes ORDER BY path",
@@ -113,7 +119,8 @@ pub fn read_answers<S: Alter>(
     tx: &mut Transaction<'_, S>,
 ) -> Result<Vec<AnswerRow>, Error>
     ensures same_reference { tx.new.conn.ghost_name ≡ tx.old.conn.ghost_name }
-    ensures read { IsRead S.Store tx.old.conn.now tx.new.conn.now result (λ rows trees. Stored answer_cells (1 ∷ 2 ∷ 3 ∷ 4 ∷ 5 ∷ []) rows.items (trees 11) × AreKeyed (trees 11)) }
+    ensures read { IsRead S.Store tx.old.conn.now tx.new.conn.now result
+        (λ rows trees. Stored answer_cells (1 ∷ 2 ∷ 3 ∷ 4 ∷ 5 ∷ []) rows.items (trees 11) × AreKeyed (trees 11)) }
 {
     let shown = tx.query_all(
         "SELECT rowid, words, seen, output, changes, status FROM answers ORDER BY words, seen",

@@ -3,7 +3,7 @@
 ghost use Rattle.std.specs.Prelude.{◌≡◌, drop, map, IfOk, IsTrue};
 ghost use Rattle.sqlite_value.specs.declared.value.Value.TheVariants.{Int};
 ghost use Rattle.sqlite_value.specs.Order.{column};
-ghost use Rattle.store_tables.specs.Rowids.{AreDistinct, IsBelow, IsRising, ShowRowids};
+ghost use Rattle.store_tables.specs.Rowids.{AreDistinct, IsLastRowidBelow, AreRisingRowids, ShowRowids};
 
 use crate::columns::{FromColumns, decoded, number_at};
 use sqlite::{Error, ErrorCode, Row};
@@ -26,7 +26,7 @@ pub(crate) fn rowids_in(alloc: Global, rows: &[Row]) -> Result<Vec<i64>, Error>
 }
 
 fn is_below(last: Option<i64>, next: i64) -> bool
-    ensures { IsTrue result → IsBelow last next }
+    ensures { IsTrue result → IsLastRowidBelow last next }
 {
     match last {
         None => true,
@@ -35,7 +35,7 @@ fn is_below(last: Option<i64>, next: i64) -> bool
 }
 
 fn rises(numbers: &[i64]) -> bool
-    ensures { IsTrue result → IsRising numbers.now }
+    ensures { IsTrue result → AreRisingRowids numbers.now }
 {
     let mut last: Option<i64> = None;
     for number in numbers {

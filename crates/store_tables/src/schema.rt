@@ -251,7 +251,8 @@ fn is_answers(table: &Table) -> bool
 // Whether this is the index that SQLite makes for a primary key (SQLite's file format, section 2.6).
 fn is_key_index(index: &Index, name: &str, table: u32, columns: &[usize]) -> bool
     requires { table < 2 ^ 31 }
-    ensures { IsTrue result ↔ (index.now ≡ record { name = name.now; tree = table + 1; table = table; columns = columns.now; order = plain; is_unique = true }) }
+    ensures { IsTrue result ↔ (index.now ≡ record
+        { name = name.now; tree = table + 1; table = table; columns = columns.now; order = plain; is_unique = true }) }
 {
     index.name.as_slice() == name.as_bytes()
         && index.tree == table + 1
@@ -369,7 +370,8 @@ fn is_uses(table: &Table) -> bool
 }
 
 fn is_uses_index(index: &Index, name: &str, tree: u32, columns: &[usize]) -> bool
-    ensures { IsTrue result ↔ (index.now ≡ record { name = name.now; tree = tree; table = 13; columns = columns.now; order = plain; is_unique = true }) }
+    ensures { IsTrue result ↔ (index.now ≡ record
+        { name = name.now; tree = tree; table = 13; columns = columns.now; order = plain; is_unique = true }) }
 {
     index.name.as_slice() == name.as_bytes()
         && index.tree == tree

@@ -29,7 +29,8 @@ pub fn make_uses<S: Alter>(tx: &mut Transaction<'_, S>) -> Result<(), Error>
 /// excludes. `NoRowid` comes if one has the greatest rowid, since no row could be added after it.
 pub fn read_uses<S: Alter>(alloc: Global, tx: &mut Transaction<'_, S>) -> Result<Vec<UseRow>, Error>
     ensures same_reference { tx.new.conn.ghost_name ≡ tx.old.conn.ghost_name }
-    ensures read { IsReadOfUses S.Store tx.old.conn.now tx.new.conn.now result (λ rows trees. HoldsUses trees rows.items) }
+    ensures read { IsReadOfUses S.Store tx.old.conn.now tx.new.conn.now result
+        (λ rows trees. HoldsUses trees rows.items) }
 {
     let shown = tx.query_all(
         "SELECT rowid, words, seen, tick FROM uses ORDER BY words, seen",
@@ -45,7 +46,8 @@ pub fn read_uses_by_tick<S: Alter>(
     tx: &mut Transaction<'_, S>,
 ) -> Result<Vec<UseRow>, Error>
     ensures same_reference { tx.new.conn.ghost_name ≡ tx.old.conn.ghost_name }
-    ensures read { IsReadOfUses S.Store tx.old.conn.now tx.new.conn.now result (λ rows trees. HoldsUses trees rows.items) }
+    ensures read { IsReadOfUses S.Store tx.old.conn.now tx.new.conn.now result
+        (λ rows trees. HoldsUses trees rows.items) }
 {
     let shown = tx.query_all(
         "SELECT rowid, words, seen, tick FROM uses ORDER BY tick",
@@ -62,7 +64,8 @@ pub fn put_use<S: Alter>(
     tick: i64,
 ) -> Result<(), Error>
     ensures same_reference { tx.new.conn.ghost_name ≡ tx.old.conn.ghost_name }
-    ensures step { IsChange S.Store tx.old.conn.now tx.new.conn.now result (MakesUses (with_use (record { words = words.now; seen = seen.now; tick = tick }))) }
+    ensures step { IsChange S.Store tx.old.conn.now tx.new.conn.now result
+        (MakesUses (with_use (record { words = words.now; seen = seen.now; tick = tick }))) }
     ensures only { IsChange S.Store tx.old.conn.now tx.new.conn.now result ChangesUses }
 {
     tx.execute(
@@ -79,7 +82,8 @@ pub fn take_use<S: Alter>(
     seen: &[u8],
 ) -> Result<(), Error>
     ensures same_reference { tx.new.conn.ghost_name ≡ tx.old.conn.ghost_name }
-    ensures step { IsChange S.Store tx.old.conn.now tx.new.conn.now result (MakesUses (without_use words.now seen.now)) }
+    ensures step { IsChange S.Store tx.old.conn.now tx.new.conn.now result
+        (MakesUses (without_use words.now seen.now)) }
     ensures only { IsChange S.Store tx.old.conn.now tx.new.conn.now result ChangesUses }
 {
     tx.execute(

@@ -6,14 +6,15 @@
 ghost use Rattle.std.specs.Prelude.{◌≡◌, pos};
 ghost use Rattle.store_tables.specs.Schema as spec;
 ghost use Rattle.store_tables.specs.Steps.{IsChange, IsStep};
-ghost use Rattle.store_tables.specs.Tables.{ChangesNothing, ChangesOnly, MakesIfKeyed, with_meta, with_new_meta, without_meta, with_blob, with_staged, without_staged, without_all_staged, with_fix, fix_row, without_fixes, with_commit, with_entry, with_answer, without_answer, without_answers};
+ghost use Rattle.store_tables.specs.Tables.{ChangesNothing, ChangesOnly, MakesIfKeyed, with_meta, with_new_meta, without_meta, with_blob, with_staged, without_staged, without_all_staged, with_fix, fix_row_of_digest, without_fixes, with_commit, with_entry, with_answer, without_answer, without_answers};
 
 use sqlite::{Alter, Error, Transaction, params};
 
 /// Keeps a number under a name that has none yet.
 pub fn put_meta<S: Alter>(tx: &mut Transaction<'_, S>, name: &str, value: u32) -> Result<(), Error>
     ensures same_reference { tx.new.conn.ghost_name ≡ tx.old.conn.ghost_name }
-    ensures step { IsStep S.Store tx.old.conn.now tx.new.conn.now result (with_meta (record { name = name.now; value = pos value })) }
+    ensures step { IsStep S.Store tx.old.conn.now tx.new.conn.now result
+        (with_meta (record { name = name.now; value = pos value })) }
     ensures only { IsChange S.Store tx.old.conn.now tx.new.conn.now result (ChangesOnly spec.meta) }
 {
     tx.execute(
@@ -26,7 +27,8 @@ pub fn put_meta<S: Alter>(tx: &mut Transaction<'_, S>, name: &str, value: u32) -
 // Removes the number under a name, if there is one.
 fn take_meta<S: Alter>(tx: &mut Transaction<'_, S>, name: &str) -> Result<(), Error>
     ensures same_reference { tx.new.conn.ghost_name ≡ tx.old.conn.ghost_name }
-    ensures step { IsChange S.Store tx.old.conn.now tx.new.conn.now result (MakesIfKeyed spec.meta (without_meta name.now)) }
+    ensures step { IsChange S.Store tx.old.conn.now tx.new.conn.now result
+        (MakesIfKeyed spec.meta (without_meta name.now)) }
     ensures only { IsChange S.Store tx.old.conn.now tx.new.conn.now result (ChangesOnly spec.meta) }
 {
     tx.execute("DELETE FROM meta WHERE name = ?1", params![name])?;
@@ -41,7 +43,8 @@ pub fn replace_meta<S: Alter>(
     value: u32,
 ) -> Result<(), Error>
     ensures same_reference { tx.new.conn.ghost_name ≡ tx.old.conn.ghost_name }
-    ensures step { IsChange S.Store tx.old.conn.now tx.new.conn.now result (MakesIfKeyed spec.meta (with_new_meta (record { name = name.now; value = pos value }))) }
+    ensures step { IsChange S.Store tx.old.conn.now tx.new.conn.now result
+        (MakesIfKeyed spec.meta (with_new_meta (record { name = name.now; value = pos value }))) }
     ensures only { IsChange S.Store tx.old.conn.now tx.new.conn.now result (ChangesOnly spec.meta) }
 {
     take_meta(tx, name)?;
@@ -55,7 +58,8 @@ pub fn put_blob<S: Alter>(
     bytes: &[u8],
 ) -> Result<(), Error>
     ensures same_reference { tx.new.conn.ghost_name ≡ tx.old.conn.ghost_name }
-    ensures step { IsStep S.Store tx.old.conn.now tx.new.conn.now result (with_blob (record { digest = digest.now; bytes = bytes.now })) }
+    ensures step { IsStep S.Store tx.old.conn.now tx.new.conn.now result
+        (with_blob (record { digest = digest.now; bytes = bytes.now })) }
     ensures only { IsChange S.Store tx.old.conn.now tx.new.conn.now result (ChangesOnly spec.blobs) }
 {
     tx.execute(
@@ -73,7 +77,8 @@ pub fn put_staged<S: Alter>(
     digest: &[u8],
 ) -> Result<(), Error>
     ensures same_reference { tx.new.conn.ghost_name ≡ tx.old.conn.ghost_name }
-    ensures step { IsStep S.Store tx.old.conn.now tx.new.conn.now result (with_staged (record { path = path.now; mode = pos mode; digest = digest.now })) }
+    ensures step { IsStep S.Store tx.old.conn.now tx.new.conn.now result
+        (with_staged (record { path = path.now; mode = pos mode; digest = digest.now })) }
     ensures only { IsChange S.Store tx.old.conn.now tx.new.conn.now result (ChangesOnly spec.staged) }
 {
     tx.execute(
@@ -90,7 +95,8 @@ pub fn put_commit<S: Alter>(
     message: &[u8],
 ) -> Result<(), Error>
     ensures same_reference { tx.new.conn.ghost_name ≡ tx.old.conn.ghost_name }
-    ensures step { IsStep S.Store tx.old.conn.now tx.new.conn.now result (with_commit (record { n = pos n; message = message.now })) }
+    ensures step { IsStep S.Store tx.old.conn.now tx.new.conn.now result
+        (with_commit (record { n = pos n; message = message.now })) }
     ensures only { IsChange S.Store tx.old.conn.now tx.new.conn.now result (ChangesOnly spec.commits) }
 {
     tx.execute(
@@ -109,7 +115,8 @@ pub fn put_entry<S: Alter>(
     digest: &[u8],
 ) -> Result<(), Error>
     ensures same_reference { tx.new.conn.ghost_name ≡ tx.old.conn.ghost_name }
-    ensures step { IsStep S.Store tx.old.conn.now tx.new.conn.now result (with_entry (record { n = pos n; path = path.now; mode = pos mode; digest = digest.now })) }
+    ensures step { IsStep S.Store tx.old.conn.now tx.new.conn.now result
+        (with_entry (record { n = pos n; path = path.now; mode = pos mode; digest = digest.now })) }
     ensures only { IsChange S.Store tx.old.conn.now tx.new.conn.now result (ChangesOnly spec.entries) }
 {
     tx.execute(
@@ -129,7 +136,15 @@ pub fn put_answer<S: Alter>(
     status: u32,
 ) -> Result<(), Error>
     ensures same_reference { tx.new.conn.ghost_name ≡ tx.old.conn.ghost_name }
-    ensures step { IsStep S.Store tx.old.conn.now tx.new.conn.now result (with_answer (record { words = words.now; seen = seen.now; output = output.now; changes = changes.now; status = pos status })) }
+    ensures step { IsStep S.Store tx.old.conn.now tx.new.conn.now result
+        (with_answer (record {
+          words = words.now;
+          seen = seen.now;
+          output = output.now;
+          changes = changes.now;
+          status =
+              pos status;
+        })) }
     ensures only { IsChange S.Store tx.old.conn.now tx.new.conn.now result (ChangesOnly spec.answers) }
 {
     tx.execute(
@@ -146,7 +161,8 @@ pub fn put_fix<S: Alter>(
     now: Option<&[u8]>,
 ) -> Result<(), Error>
     ensures same_reference { tx.new.conn.ghost_name ≡ tx.old.conn.ghost_name }
-    ensures step { IsStep S.Store tx.old.conn.now tx.new.conn.now result (with_fix (fix_row path.now now.entry)) }
+    ensures step { IsStep S.Store tx.old.conn.now tx.new.conn.now result
+        (with_fix (fix_row_of_digest path.now now.entry)) }
     ensures only { IsChange S.Store tx.old.conn.now tx.new.conn.now result (ChangesOnly spec.fixes) }
 {
     tx.execute(

@@ -8,7 +8,8 @@ use Rattle.text_output.specs.Outputs.{HasBeginning, Output}
 
 -- ---- what a writer holds
 
-pub appends-kept : (old mid new : Option (List ℕ)) (bytes : List ℕ) → Appends old mid bytes → Keeps mid new → Appends old new bytes
+pub appends-kept : (old mid new : Option (List ℕ)) (bytes : List ℕ) → Appends old mid bytes → Keeps mid new
+    → Appends old new bytes
 appends-kept None mid new bytes added kept = tt
 appends-kept (Some old) None new bytes added kept = absurd added
 appends-kept (Some old) (Some mid) None bytes added kept = kept
@@ -18,7 +19,8 @@ pub appends-nothing : (held : Option (List ℕ)) → Appends held held []
 appends-nothing None = tt
 appends-nothing (Some bytes) = sym (append-nil bytes)
 
-pub appends-more : (held mid holds : Option (List ℕ)) (first next : List ℕ) → Appends held mid first → Appends mid holds next
+pub appends-more : (held mid holds : Option (List ℕ)) (first next : List ℕ) → Appends held mid first
+    → Appends mid holds next
     → Appends held holds (first ++ next)
 appends-more None mid holds first next one two = tt
 appends-more (Some held) None holds first next one two = absurd one
@@ -36,7 +38,8 @@ on-err (Err error) holds = holds
 
 -- ---- two texts
 
-pub begun-before : (held holds : Option (List ℕ)) (text more : List ℕ) → HasBeginning (record { held = held; holds = holds }) text
+pub begun-before : (held holds : Option (List ℕ)) (text more : List ℕ)
+    → HasBeginning (record { held = held; holds = holds }) text
     → HasBeginning (record { held = held; holds = holds }) (text ++ more)
 begun-before held holds text more begun = record {
   part = begun.part;
@@ -46,7 +49,8 @@ begun-before held holds text more begun = record {
 }
 
 pub begun-behind : (held mid holds : Option (List ℕ)) (text more : List ℕ) → Appends held mid text
-    → HasBeginning (record { held = mid; holds = holds }) more → HasBeginning (record { held = held; holds = holds }) (text ++ more)
+    → HasBeginning (record { held = mid; holds = holds }) more
+    → HasBeginning (record { held = held; holds = holds }) (text ++ more)
 begun-behind held mid holds text more taken begun = record {
   part = text ++ begun.part;
   rest = begun.rest;
@@ -54,12 +58,14 @@ begun-behind held mid holds text more taken begun = record {
   written = appends-more held mid holds text begun.part taken begun.written;
 }
 
-pub both-on-ok : {A E : Type 0} (result : Result A E) (held mid holds : Option (List ℕ)) (text more : List ℕ) → Appends held mid text
+pub both-on-ok : {A E : Type 0} (result : Result A E) (held mid holds : Option (List ℕ)) (text more : List ℕ)
+    → Appends held mid text
     → OnOk result (Appends mid holds more) → OnOk result (Appends held holds (text ++ more))
 both-on-ok (Ok done) held mid holds text more taken next = appends-more held mid holds text more taken next
 both-on-ok (Err error) held mid holds text more taken next = tt
 
-pub both-on-err : {A E : Type 0} (result : Result A E) (held mid holds : Option (List ℕ)) (text more : List ℕ) → Appends held mid text
+pub both-on-err : {A E : Type 0} (result : Result A E) (held mid holds : Option (List ℕ)) (text more : List ℕ)
+    → Appends held mid text
     → OnErr result (HasBeginning (record { held = mid; holds = holds }) more)
     → OnErr result (HasBeginning (record { held = held; holds = holds }) (text ++ more))
 both-on-err (Ok done) held mid holds text more taken next = tt
@@ -68,35 +74,46 @@ both-on-err (Err error) held mid holds text more taken next = begun-behind held 
 -- ---- the texts of items, one after another
 
 module _ {X : Type 0} (text_of : X → List ℕ) where
-  texts-append : (items more : List X) → flat_map text_of (items ++ more) ≡ flat_map text_of items ++ flat_map text_of more
+  texts-append : (items more : List X) → flat_map text_of (items ++ more)
+      ≡ flat_map text_of items ++ flat_map text_of more
   texts-append [] more = refl
   texts-append (item ∷ items) more =
-      ap (λ text. text_of item ++ text) (texts-append items more) ∙ sym (append_assoc (text_of item) (flat_map text_of items) (flat_map text_of more))
+      ap (λ text. text_of item ++ text) (texts-append items more)
+      ∙ sym (append_assoc (text_of item) (flat_map text_of items) (flat_map text_of more))
 
   texts-take : (items : List X) (place : ℕ) (d : X) → place < length items
-      → flat_map text_of (take (place + 1) items) ≡ flat_map text_of (take place items) ++ text_of (get_or items place d)
+      → flat_map text_of (take (place + 1) items)
+      ≡ flat_map text_of (take place items) ++ text_of (get_or items place d)
   texts-take items place d within =
-      ap (flat_map text_of) (take_more items place d within) ∙ texts-append (take place items) (get_or items place d ∷ [])
+      ap (flat_map text_of) (take_more items place d within)
+      ∙ texts-append (take place items) (get_or items place d ∷ [])
       ∙ ap (λ text. flat_map text_of (take place items) ++ text) (append-nil (text_of (get_or items place d)))
 
-  pub texts-written : (held mid holds : Option (List ℕ)) (items : List X) (place : ℕ) (d : X) (item : X) → place < length items
-      → item ≡ get_or items place d → Appends held mid (flat_map text_of (take place items)) → Appends mid holds (text_of item)
+  pub texts-written : (held mid holds : Option (List ℕ)) (items : List X) (place : ℕ) (d : X) (item : X)
+      → place < length items
+      → item ≡ get_or items place d → Appends held mid (flat_map text_of (take place items))
+      → Appends mid holds (text_of item)
       → Appends held holds (flat_map text_of (take (place + 1) items))
   texts-written held mid holds items place d item within is taken more =
       subst (λ (bytes : List ℕ). Appends held holds bytes)
-      (ap (λ (last : X). flat_map text_of (take place items) ++ text_of last) is ∙ sym (texts-take items place d within))
+      (ap (λ (last : X). flat_map text_of (take place items) ++ text_of last) is
+      ∙ sym (texts-take items place d within))
       (appends-more held mid holds (flat_map text_of (take place items)) (text_of item) taken more)
 
-  pub texts-begun : (held mid holds : Option (List ℕ)) (items : List X) (place : ℕ) (d : X) (item : X) → place < length items
+  pub texts-begun : (held mid holds : Option (List ℕ)) (items : List X) (place : ℕ) (d : X) (item : X)
+      → place < length items
       → item ≡ get_or items place d → Appends held mid (flat_map text_of (take place items))
       → HasBeginning (record { held = mid; holds = holds }) (text_of item)
       → HasBeginning (record { held = held; holds = holds }) (flat_map text_of items)
   texts-begun held mid holds items place d item within is taken begun =
       subst (λ (text : List ℕ). HasBeginning (record { held = held; holds = holds }) text)
-      (ap (λ (last : X). (flat_map text_of (take place items) ++ text_of last) ++ flat_map text_of (drop (place + 1) items)) is
+      (ap (λ (last : X). (flat_map text_of (take place items) ++ text_of last) ++ flat_map text_of
+      (drop (place + 1) items)) is
       ∙ ap (λ text. text ++ flat_map text_of (drop (place + 1) items)) (sym (texts-take items place d within))
-      ∙ sym (texts-append (take (place + 1) items) (drop (place + 1) items)) ∙ ap (flat_map text_of) (take-append-drop (place + 1) items))
-      (begun-before held holds (flat_map text_of (take place items) ++ text_of item) (flat_map text_of (drop (place + 1) items))
+      ∙ sym (texts-append (take (place + 1) items) (drop (place + 1) items))
+      ∙ ap (flat_map text_of) (take-append-drop (place + 1) items))
+      (begun-before held holds (flat_map text_of (take place items) ++ text_of item)
+      (flat_map text_of (drop (place + 1) items))
       (begun-behind held mid holds (flat_map text_of (take place items)) (text_of item) taken begun))
 
 abbrev pub itself : List ℕ → List ℕ
@@ -109,7 +126,8 @@ concat-texts (text ∷ texts) = ap (λ more. text ++ more) (concat-texts texts)
 abbrev at : Option (List ℕ) → Option (List ℕ) → Output
 at held holds = record { held = held; holds = holds }
 
-pub reports-written : (held mid holds : Option (List ℕ)) (reports : List (List ℕ)) (place : ℕ) (d report : List ℕ) → place < length reports
+pub reports-written : (held mid holds : Option (List ℕ)) (reports : List (List ℕ)) (place : ℕ) (d report : List ℕ)
+    → place < length reports
     → report ≡ get_or reports place d → Appends held mid (concat (take place reports)) → Appends mid holds report
     → Appends held holds (concat (take (place + 1) reports))
 reports-written held mid holds reports place d report within is taken more =
@@ -117,8 +135,10 @@ reports-written held mid holds reports place d report within is taken more =
     (texts-written itself held mid holds reports place d report within is
     (subst (λ (text : List ℕ). Appends held mid text) (concat-texts (take place reports)) taken) more)
 
-pub reports-begun : (held mid holds : Option (List ℕ)) (reports : List (List ℕ)) (place : ℕ) (d report : List ℕ) → place < length reports
-    → report ≡ get_or reports place d → Appends held mid (concat (take place reports)) → HasBeginning (at mid holds) report
+pub reports-begun : (held mid holds : Option (List ℕ)) (reports : List (List ℕ)) (place : ℕ) (d report : List ℕ)
+    → place < length reports
+    → report ≡ get_or reports place d → Appends held mid (concat (take place reports))
+    → HasBeginning (at mid holds) report
     → HasBeginning (at held holds) (concat reports)
 reports-begun held mid holds reports place d report within is taken begun =
     subst (λ (text : List ℕ). HasBeginning (at held holds) text) (sym (concat-texts reports))

@@ -7,6 +7,10 @@ pub record Output : Type 0 where
   pub held : Option (List ℕ)
   pub holds : Option (List ℕ)
 
+-- these bytes are there before a call, and these after it
+abbrev pub output_of : Option (List ℕ) → Option (List ℕ) → Output
+output_of held holds = record { held = held; holds = holds }
+
 -- nothing was written
 abbrev pub IsSilent : Output → Type 0
 IsSilent output = Keeps output.held output.holds

@@ -4,8 +4,8 @@
 
 ghost use Rattle.std.specs.Prelude.{◌≡◌, ◌∷◌, ◌++◌, [], OnOk, OnErr};
 ghost use Rattle.std.specs.List.{flat_map, list_any};
-ghost use Rattle.text_output.specs.Outputs.{Has, HasBeginning};
-ghost use Rattle.text_output.specs.QuotedPaths.{escape_of, escaped, plain_or_octal, told_path, wants_quotes};
+ghost use Rattle.text_output.specs.Outputs.{Has, HasBeginning, output_of};
+ghost use Rattle.text_output.specs.QuotedPaths.{escape_of, escaped_byte, plain_or_octal, told_path, wants_quotes};
 
 use crate::{Unwritten, write_out};
 use std::io::Write;
@@ -15,8 +15,9 @@ use std::io::Write;
 /// `false`). So it never ends the line, and no two paths look the same. An error leaves what an error of
 /// `write_pieces` leaves.
 pub fn write_path<W: Write>(writer: &mut W, path: &str) -> Result<(), Unwritten>
-    ensures ok { OnOk result (Has (record { held = W.contents writer.old; holds = W.contents writer.new }) (told_path path.now)) }
-    ensures err { OnErr result (HasBeginning (record { held = W.contents writer.old; holds = W.contents writer.new }) (told_path path.now)) }
+    ensures ok { OnOk result (Has (output_of (W.contents writer.old) (W.contents writer.new)) (told_path path.now)) }
+    ensures err { OnErr result (HasBeginning (output_of (W.contents writer.old) (W.contents writer.new))
+        (told_path path.now)) }
 {
     if wants_quotes(path.as_bytes()) {
         write_quoted(writer, path.as_bytes())
@@ -32,24 +33,30 @@ fn wants_quotes(bytes: &[u8]) -> bool
 }
 
 fn write_quoted<W: Write>(writer: &mut W, bytes: &[u8]) -> Result<(), Unwritten>
-    ensures ok { OnOk result (Has (record { held = W.contents writer.old; holds = W.contents writer.new }) (34 ∷ (flat_map escaped bytes.now ++ 34 ∷ []))) }
-    ensures err { OnErr result (HasBeginning (record { held = W.contents writer.old; holds = W.contents writer.new }) (34 ∷ (flat_map escaped bytes.now ++ 34 ∷ []))) }
+    ensures ok { OnOk result (Has (output_of (W.contents writer.old) (W.contents writer.new))
+        (34 ∷ (flat_map escaped_byte bytes.now ++ 34 ∷ []))) }
+    ensures err { OnErr result (HasBeginning (output_of (W.contents writer.old) (W.contents writer.new))
+        (34 ∷ (flat_map escaped_byte bytes.now ++ 34 ∷ []))) }
 {
     write_out(writer, b"\"")?;
     write_behind_quote(writer, bytes)
 }
 
 fn write_behind_quote<W: Write>(writer: &mut W, bytes: &[u8]) -> Result<(), Unwritten>
-    ensures ok { OnOk result (Has (record { held = W.contents writer.old; holds = W.contents writer.new }) (flat_map escaped bytes.now ++ 34 ∷ [])) }
-    ensures err { OnErr result (HasBeginning (record { held = W.contents writer.old; holds = W.contents writer.new }) (flat_map escaped bytes.now ++ 34 ∷ [])) }
+    ensures ok { OnOk result (Has (output_of (W.contents writer.old) (W.contents writer.new))
+        (flat_map escaped_byte bytes.now ++ 34 ∷ [])) }
+    ensures err { OnErr result (HasBeginning (output_of (W.contents writer.old) (W.contents writer.new))
+        (flat_map escaped_byte bytes.now ++ 34 ∷ [])) }
 {
     write_escaped(writer, bytes)?;
     write_out(writer, b"\"")
 }
 
 fn write_escaped<W: Write>(writer: &mut W, bytes: &[u8]) -> Result<(), Unwritten>
-    ensures ok { OnOk result (Has (record { held = W.contents writer.old; holds = W.contents writer.new }) (flat_map escaped bytes.now)) }
-    ensures err { OnErr result (HasBeginning (record { held = W.contents writer.old; holds = W.contents writer.new }) (flat_map escaped bytes.now)) }
+    ensures ok { OnOk result (Has (output_of (W.contents writer.old) (W.contents writer.new))
+        (flat_map escaped_byte bytes.now)) }
+    ensures err { OnErr result (HasBeginning (output_of (W.contents writer.old) (W.contents writer.new))
+        (flat_map escaped_byte bytes.now)) }
 {
     'bytes: for byte in bytes {
         write_byte(writer, *byte)?;
@@ -58,8 +65,9 @@ fn write_escaped<W: Write>(writer: &mut W, bytes: &[u8]) -> Result<(), Unwritten
 }
 
 fn write_byte<W: Write>(writer: &mut W, byte: u8) -> Result<(), Unwritten>
-    ensures ok { OnOk result (Has (record { held = W.contents writer.old; holds = W.contents writer.new }) (escaped byte)) }
-    ensures err { OnErr result (HasBeginning (record { held = W.contents writer.old; holds = W.contents writer.new }) (escaped byte)) }
+    ensures ok { OnOk result (Has (output_of (W.contents writer.old) (W.contents writer.new)) (escaped_byte byte)) }
+    ensures err { OnErr result (HasBeginning (output_of (W.contents writer.old) (W.contents writer.new))
+        (escaped_byte byte)) }
 {
     match escape_of(byte) {
         Some(escape) => write_out(writer, &[b'\\', escape]),
@@ -68,8 +76,9 @@ fn write_byte<W: Write>(writer: &mut W, byte: u8) -> Result<(), Unwritten>
 }
 
 fn write_plain_or_octal<W: Write>(writer: &mut W, byte: u8) -> Result<(), Unwritten>
-    ensures ok { OnOk result (Has (record { held = W.contents writer.old; holds = W.contents writer.new }) (plain_or_octal byte)) }
-    ensures err { OnErr result (HasBeginning (record { held = W.contents writer.old; holds = W.contents writer.new }) (plain_or_octal byte)) }
+    ensures ok { OnOk result (Has (output_of (W.contents writer.old) (W.contents writer.new)) (plain_or_octal byte)) }
+    ensures err { OnErr result (HasBeginning (output_of (W.contents writer.old) (W.contents writer.new))
+        (plain_or_octal byte)) }
 {
     if byte < 32 || byte == 127 {
         let (first, second, third) = (byte / 64, byte / 8 % 8, byte % 8);

@@ -4,7 +4,7 @@
 
 ghost use Rattle.std.specs.Prelude.{◌≤◌, IfOk, OnOk, OnErr, length, map, take};
 ghost use Rattle.std.specs.List.{concat};
-ghost use Rattle.text_output.specs.Outputs.{Has, HasBeginning, IsSilent};
+ghost use Rattle.text_output.specs.Outputs.{Has, HasBeginning, IsSilent, output_of};
 
 use std::io::{ErrorKind, Write};
 
@@ -15,8 +15,10 @@ pub struct Unwritten;
 /// Writes a text, piece by piece, and flushes the writer. After an error a beginning of the text is out; it
 /// may be all of it, if only the flush gave the error.
 pub fn write_pieces<'a, W: Write>(writer: &mut W, pieces: &'a [&'a str]) -> Result<(), Unwritten>
-    ensures ok { OnOk result (Has (record { held = W.contents writer.old; holds = W.contents writer.new }) (concat (map (λ s. s.now) pieces.entry.now))) }
-    ensures err { OnErr result (HasBeginning (record { held = W.contents writer.old; holds = W.contents writer.new }) (concat (map (λ s. s.now) pieces.entry.now))) }
+    ensures ok { OnOk result (Has (output_of (W.contents writer.old) (W.contents writer.new))
+        (concat (map (λ s. s.now) pieces.entry.now))) }
+    ensures err { OnErr result (HasBeginning (output_of (W.contents writer.old) (W.contents writer.new))
+        (concat (map (λ s. s.now) pieces.entry.now))) }
 {
     'pieces: for piece in pieces {
         write_piece(writer, piece.as_bytes())?;
@@ -26,8 +28,8 @@ pub fn write_pieces<'a, W: Write>(writer: &mut W, pieces: &'a [&'a str]) -> Resu
 
 /// Writes a text and flushes the writer. An error leaves what an error of `write_pieces` leaves.
 pub fn write_out<W: Write>(writer: &mut W, text: &[u8]) -> Result<(), Unwritten>
-    ensures ok { OnOk result (Has (record { held = W.contents writer.old; holds = W.contents writer.new }) text.now) }
-    ensures err { OnErr result (HasBeginning (record { held = W.contents writer.old; holds = W.contents writer.new }) text.now) }
+    ensures ok { OnOk result (Has (output_of (W.contents writer.old) (W.contents writer.new)) text.now) }
+    ensures err { OnErr result (HasBeginning (output_of (W.contents writer.old) (W.contents writer.new)) text.now) }
 {
     write_piece(writer, text)?;
     flush(writer)
@@ -36,8 +38,8 @@ pub fn write_out<W: Write>(writer: &mut W, text: &[u8]) -> Result<(), Unwritten>
 // Writes a text as `write_all` does. The contract of that one doesn't say what an error leaves; here it is a
 // beginning of the text.
 fn write_piece<W: Write>(writer: &mut W, text: &[u8]) -> Result<(), Unwritten>
-    ensures ok { OnOk result (Has (record { held = W.contents writer.old; holds = W.contents writer.new }) text.now) }
-    ensures err { OnErr result (HasBeginning (record { held = W.contents writer.old; holds = W.contents writer.new }) text.now) }
+    ensures ok { OnOk result (Has (output_of (W.contents writer.old) (W.contents writer.new)) text.now) }
+    ensures err { OnErr result (HasBeginning (output_of (W.contents writer.old) (W.contents writer.new)) text.now) }
 {
     let mut written = 0;
     'tries: for _ in 0..u64::MAX {
@@ -52,8 +54,9 @@ fn write_piece<W: Write>(writer: &mut W, text: &[u8]) -> Result<(), Unwritten>
 // Writes once, and answers how many bytes the writer took: 0 if the call was interrupted.
 fn write_some<W: Write>(writer: &mut W, text: &[u8]) -> Result<usize, Unwritten>
     ensures count { IfOk result (λ count. count ≤ length text.now) }
-    ensures ok { IfOk result (λ count. Has (record { held = W.contents writer.old; holds = W.contents writer.new }) (take count text.now)) }
-    ensures err { OnErr result (IsSilent (record { held = W.contents writer.old; holds = W.contents writer.new })) }
+    ensures ok { IfOk result (λ count. Has (output_of (W.contents writer.old) (W.contents writer.new))
+        (take count text.now)) }
+    ensures err { OnErr result (IsSilent (output_of (W.contents writer.old) (W.contents writer.new))) }
 {
     match writer.write(text) {
         Ok(0) => Err(Unwritten),
@@ -64,7 +67,7 @@ fn write_some<W: Write>(writer: &mut W, text: &[u8]) -> Result<usize, Unwritten>
 }
 
 fn flush<W: Write>(writer: &mut W) -> Result<(), Unwritten>
-    ensures { IsSilent (record { held = W.contents writer.old; holds = W.contents writer.new }) }
+    ensures { IsSilent (output_of (W.contents writer.old) (W.contents writer.new)) }
 {
     writer.flush().map_err(|_| Unwritten)
 }

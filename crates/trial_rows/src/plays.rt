@@ -1,6 +1,6 @@
 //! Plays of rows.
 
-use crate::gathered::Answer;
+use crate::answer_bytes::AnswerBytes;
 use crate::row::Row;
 use crate::stop::Stop;
 use std::alloc::Global;
@@ -12,7 +12,7 @@ pub trait Answers {
     /// The answer to a row. It is `NoCall` if no call has its name, and `BadLine` if the call doesn't take
     /// its arguments. It is `TwoAnswers` if two ways to ask for the same differ, and `OutOfMemory` if the
     /// program itself is refused memory.
-    fn answer_to(&self, alloc: Global, row: &Row) -> Result<Answer, Stop>;
+    fn answer_to(&self, alloc: Global, row: &Row) -> Result<AnswerBytes, Stop>;
 }
 
 /// Answers each line of standard input by a line, and returns the exit status of the program. What stops

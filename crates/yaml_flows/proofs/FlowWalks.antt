@@ -13,7 +13,7 @@ use Rattle.yaml_lines.proofs.FlowSeams.{then_all, all_step, then_lines, lines_se
 use Rattle.yaml_lines.proofs.FlowTokens.{token_by, token_tests}
 use Rattle.yaml_lines.proofs.QuotedSeams.{line_before}
 use Rattle.yaml_flows.specs.FlowLaws.{closes_last}
-use Rattle.yaml_flows.specs.Flows.{Found, mapped, next_part, part, parts_within, parts, behind_colon, row_of, entry, distinct, list_at, table_at, text_node, text_node_at, node, is_end, whole, begins_flow, flow_meaning}
+use Rattle.yaml_flows.specs.Flows.{Found, mapped, next_part, part, parts_within, parts, after_flow_colon, flow_row_of, entry, distinct_flow_rows, list_at, table_at, text_node, text_node_at, node, is_end, whole, begins_list_or_table, flow_meaning}
 use Rattle.yaml_flows.specs.Keys.{Row, keys_differ}
 
 -- ---- tests
@@ -266,14 +266,16 @@ module _ {A : Type 0} (d close : ℕ) (opens : is_opening close ≡ false) (clos
       let same : here ≡ x = cc in
       closed_alike d close opens closes false c cs is ∙ ap (λ (f : Found (List A)). behind_closing d f.rest) same
 
-  more_by : (most : ℕ) (cs : List ℕ) (x : Found (List A)) (o : Option (Found A)) → Through most → part close read cs ≡ o → more_from most o ≡ Some x → behind_all (state (suc d) false) cs ≡ behind_closing d x.rest
+  more_by : (most : ℕ) (cs : List ℕ) (x : Found (List A)) (o : Option (Found A)) → Through most → part close read cs ≡ o → more_from most o ≡ Some x
+      → behind_all (state (suc d) false) cs ≡ behind_closing d x.rest
   more_by most cs x None through is e = absurd (cc)
   more_by most cs x (Some found) through is e =
       let push : List A → List A = λ more. found.value ∷ more in
       let more = same_rest push (parts_within close read most found.rest) x e in
       part_walk cs found is ∙ (through found.rest more.found more.is ∙ ap (behind_closing d) more.there)
 
-  parts_by : (b : Bool) (most : ℕ) (cs : List ℕ) (x : Found (List A)) → Through most → begins_with close cs ≡ b → parts_from b most cs ≡ Some x → behind_all (state (suc d) false) cs ≡ behind_closing d x.rest
+  parts_by : (b : Bool) (most : ℕ) (cs : List ℕ) (x : Found (List A)) → Through most → begins_with close cs ≡ b → parts_from b most cs ≡ Some x
+      → behind_all (state (suc d) false) cs ≡ behind_closing d x.rest
   parts_by true most cs x through is e = end_by cs x is e
   parts_by false most cs x through is e = more_by most cs x (part close read cs) through refl e
 
@@ -296,14 +298,14 @@ colon_walk_by true d quoted c cs value is e =
     separated d quoted c cs (ap is_opening colon) (ap is_closing colon) others ∙ ap (λ (ds : List ℕ). behind_all (state (suc d) false) (after_gap ds)) here
 colon_walk_by false d quoted c cs value is e = absurd (cc)
 
-colon_walk : (d : ℕ) (quoted : Bool) (cs value : List ℕ) → behind_colon quoted cs ≡ Some value → behind_all (state (suc d) quoted) cs ≡ behind_all (state (suc d) false) (after_gap value)
+colon_walk : (d : ℕ) (quoted : Bool) (cs value : List ℕ) → after_flow_colon quoted cs ≡ Some value → behind_all (state (suc d) quoted) cs ≡ behind_all (state (suc d) false) (after_gap value)
 colon_walk d quoted [] value e = absurd (cc)
 colon_walk d quoted (c ∷ cs) value e = colon_walk_by (is_key_end quoted c cs) d quoted c cs value refl e
 
 abbrev row_from : (List ℕ → Option (Found Meaning)) → FlowText → Option (List ℕ) → Option (Found Row)
 row_from read key o = option_and_then (λ value. option_map (mapped (λ m. (key.text, m))) (read (after_gap value))) o
 
-value_by : (d : ℕ) (read : List ℕ → Option (Found Meaning)) (key : FlowText) (o : Option (List ℕ)) (x : Found Row) → Walks d read → behind_colon key.quoted (after_gap key.rest) ≡ o
+value_by : (d : ℕ) (read : List ℕ → Option (Found Meaning)) (key : FlowText) (o : Option (List ℕ)) (x : Found Row) → Walks d read → after_flow_colon key.quoted (after_gap key.rest) ≡ o
     → row_from read key o ≡ Some x
     → (q : Bool) × (behind_all (state (suc d) key.quoted) (after_gap key.rest) ≡ behind_all (state (suc d) q) (after_gap x.rest))
 value_by d read key None x walks is e = absurd (cc)
@@ -313,18 +315,19 @@ value_by d read key (Some value) x walks is e =
     let here = walks (after_gap value) same.found same.is in
     (here.0, colon_walk d key.quoted (after_gap key.rest) value is ∙ (here.1 ∙ ap (λ (rest : List ℕ). behind_all (state (suc d) here.0) (after_gap rest)) same.there))
 
-entry_by : (d : ℕ) (read : List ℕ → Option (Found Meaning)) (cs : List ℕ) (o : Option FlowText) (x : Found Row) → Walks d read → text_at cs ≡ o → option_and_then (row_of read) o ≡ Some x
+entry_by : (d : ℕ) (read : List ℕ → Option (Found Meaning)) (cs : List ℕ) (o : Option FlowText) (x : Found Row) → Walks d read → text_at cs ≡ o → option_and_then (flow_row_of read) o ≡ Some x
     → (q : Bool) × (behind_all (state (suc d) false) cs ≡ behind_all (state (suc d) q) (after_gap x.rest))
 entry_by d read cs None x walks is e = absurd (cc)
 entry_by d read cs (Some key) x walks is e =
-    let here = value_by d read key (behind_colon key.quoted (after_gap key.rest)) x walks refl e in (here.0, text_walk d cs key is ∙ here.1)
+    let here = value_by d read key (after_flow_colon key.quoted (after_gap key.rest)) x walks refl e in (here.0, text_walk d cs key is ∙ here.1)
 
 entry_walk : (d : ℕ) (read : List ℕ → Option (Found Meaning)) → Walks d read → Walks d (entry read)
 entry_walk d read walks = λ cs x e. entry_by d read cs (text_at cs) x walks refl e
 
 -- ---- nodes
 
-list_walk : (d : ℕ) (read : List ℕ → Option (Found Meaning)) (cs : List ℕ) (x : Found Meaning) → Walks d read → list_at read cs ≡ Some x → behind_all (state (suc d) false) (after_gap cs) ≡ behind_closing d x.rest
+list_walk : (d : ℕ) (read : List ℕ → Option (Found Meaning)) (cs : List ℕ) (x : Found Meaning) → Walks d read → list_at read cs ≡ Some x
+    → behind_all (state (suc d) false) (after_gap cs) ≡ behind_closing d x.rest
 list_walk d read cs x walks e =
     let same = same_rest (λ (ms : List Meaning). list (meanings_of ms)) (parts 93 read cs) x e in
     parts_walk d 93 refl refl read walks (length (after_gap cs)) (after_gap cs) same.found same.is ∙ ap (behind_closing d) same.there
@@ -333,13 +336,14 @@ distinct_by : (b : Bool) (found x : Found (List Row)) → cond b (Some found) No
 distinct_by true found x e = cc
 distinct_by false found x e = absurd (cc)
 
-distinct_is : (o : Option (Found (List Row))) (x : Found (List Row)) → option_and_then distinct o ≡ Some x → o ≡ Some x
+distinct_is : (o : Option (Found (List Row))) (x : Found (List Row)) → option_and_then distinct_flow_rows o ≡ Some x → o ≡ Some x
 distinct_is None x e = absurd (cc)
 distinct_is (Some found) x e = ap Some (distinct_by (keys_differ found.value) found x e)
 
-table_walk : (d : ℕ) (read : List ℕ → Option (Found Meaning)) (cs : List ℕ) (x : Found Meaning) → Walks d read → table_at read cs ≡ Some x → behind_all (state (suc d) false) (after_gap cs) ≡ behind_closing d x.rest
+table_walk : (d : ℕ) (read : List ℕ → Option (Found Meaning)) (cs : List ℕ) (x : Found Meaning) → Walks d read → table_at read cs ≡ Some x
+    → behind_all (state (suc d) false) (after_gap cs) ≡ behind_closing d x.rest
 table_walk d read cs x walks e =
-    let same = same_rest (λ (rs : List Row). table (members_of rs)) (option_and_then distinct (parts 125 (entry read) cs)) x e in
+    let same = same_rest (λ (rs : List Row). table (members_of rs)) (option_and_then distinct_flow_rows (parts 125 (entry read) cs)) x e in
     let rows = distinct_is (parts 125 (entry read) cs) same.found same.is in
     parts_walk d 125 refl refl (entry read) (entry_walk d read walks) (length (after_gap cs)) (after_gap cs) same.found rows ∙ ap (behind_closing d) same.there
 
@@ -423,16 +427,16 @@ top_walk (suc room) c cs found fits begins e =
 flow_walk : (room c : ℕ) (cs : List ℕ) (m : Meaning) → room ≤ most_nodes → flow_meaning room (c ∷ cs) ≡ Some m → Closes (c ∷ cs)
 unfolding flow_meaning
 flow_walk room c cs m fits e =
-    let begun_by = begins_by (begins_flow (c ∷ cs)) (option_and_then whole (node room (c ∷ cs))) m e in
+    let begun_by = begins_by (begins_list_or_table (c ∷ cs)) (option_and_then whole (node room (c ∷ cs))) m e in
     let read = found_whole (node room (c ∷ cs)) m begun_by.1 in record {
       rest = read.found.rest;
       closed_there = top_walk room c cs read.found fits begun_by.0 read.is;
       last_line = read.last_line;
     }
 
-flow_begins : (room : ℕ) (cs : List ℕ) (m : Meaning) → flow_meaning room cs ≡ Some m → begins_flow cs ≡ true
+flow_begins : (room : ℕ) (cs : List ℕ) (m : Meaning) → flow_meaning room cs ≡ Some m → begins_list_or_table cs ≡ true
 unfolding flow_meaning
-flow_begins room cs m e = (begins_by (begins_flow cs) (option_and_then whole (node room cs)) m e).0
+flow_begins room cs m e = (begins_by (begins_list_or_table cs) (option_and_then whole (node room cs)) m e).0
 
 -- ---- its lines
 
@@ -443,7 +447,7 @@ no_gap_by true b c cs f g h = ap (λ (x : ℕ). cond (is_of_gap false true x) (b
 no_gap_by false true c cs f g h = ap (λ (x : ℕ). cond (is_of_gap false true x) (behind_gap (in_comment false c) true cs) (c ∷ cs)) (eqb-true c 123 g)
 no_gap_by false false c cs f g h = absurd (cc)
 
-no_gap : (c : ℕ) (cs : List ℕ) → begins_flow (c ∷ cs) ≡ true → after_start (c ∷ cs) ≡ c ∷ cs
+no_gap : (c : ℕ) (cs : List ℕ) → begins_list_or_table (c ∷ cs) ≡ true → after_start (c ∷ cs) ≡ c ∷ cs
 no_gap c cs e = no_gap_by (eqb c 91) (eqb c 123) c cs refl refl e
 
 a_feed : (cs s : List ℕ) → list_any is_feed (line_before s cs) ≡ true
@@ -501,7 +505,8 @@ first_by room c cs lines more is m fits e =
     } in
     lines_walk lines outside (c ∷ cs) opens over
 
-first_line : (room : ℕ) (line : List ℕ) (lines : List (List ℕ)) (m : Meaning) → room ≤ most_nodes → flow_meaning room (join_with_byte 10 (line ∷ lines)) ≡ Some m → closes_last outside (line ∷ lines) ≡ true
+first_line : (room : ℕ) (line : List ℕ) (lines : List (List ℕ)) (m : Meaning) → room ≤ most_nodes → flow_meaning room (join_with_byte 10 (line ∷ lines)) ≡ Some m
+    → closes_last outside (line ∷ lines) ≡ true
 first_line room [] [] m fits e = absurd (nothing_read room m e)
 first_line room [] (next ∷ lines) m fits e = absurd (let begins = flow_begins room (10 ∷ join_with_byte 10 (next ∷ lines)) m e in cc)
 first_line room (c ∷ cs) [] m fits e = first_by room c cs [] cs refl m fits e

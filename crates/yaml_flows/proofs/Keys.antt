@@ -11,7 +11,7 @@ use Rattle.std.specs.Str.{bytes_eq}
 use Rattle.yaml_lines.specs.View.{member_view}
 use Rattle.yaml_lines.specs.declared.node.Node.{Node}
 use Rattle.yaml_flows.specs.Keys.{Row, keys_differ}
-use Rattle.yaml_flows.specs.Views.{few, is_among, is_seen, seen_later}
+use Rattle.yaml_flows.specs.Views.{few, is_key_among, is_seen, seen_later}
 
 abbrev pub has_key : List ℕ → List Row → Bool
 has_key k rs = list_any (λ r. bytes_eq k r.0) rs
@@ -78,7 +78,7 @@ keys_differ-push (s ∷ rs) r apart new =
 
 -- ---- the rows that are looked through, and the keys that are kept of the later ones
 
-pub is_among-rows : (rows : List (String Global × Node)) (q : List ℕ) → is_among rows q ≡ has_key q (map member_view rows)
+pub is_among-rows : (rows : List (String Global × Node)) (q : List ℕ) → is_key_among rows q ≡ has_key q (map member_view rows)
 is_among-rows [] q = refl
 is_among-rows (r ∷ rows) q = ap (λ b. bytes_eq q (string_bytes r.0) || b) (is_among-rows rows q)
 
@@ -111,24 +111,24 @@ has_key-behind : (rows : List (String Global × Node)) (r : String Global × Nod
 has_key-behind rows r q = ap (has_key q) (map-append member_view rows (r ∷ [])) ∙ has_key-push q (map member_view rows) (member_view r)
 
 seen_behind : (n : ℕ) (rows : List (String Global × Node)) (r : String Global × Node) (b c d : Bool) (q : List ℕ) → ltb (length rows) n ≡ b
-    → (is_among (take n rows) q || c) ≡ has_key q (map member_view rows)
+    → (is_key_among (take n rows) q || c) ≡ has_key q (map member_view rows)
     → d ≡ cond b c (cond (bytes_eq (string_bytes r.0) q) true c)
-    → (is_among (take n (rows ++ r ∷ [])) q || d) ≡ has_key q (map member_view (rows ++ r ∷ []))
+    → (is_key_among (take n (rows ++ r ∷ [])) q || d) ≡ has_key q (map member_view (rows ++ r ∷ []))
 seen_behind n rows r true c d q short before after =
     let few : length rows < n = ltb-true (length rows) n short in
     let one_more = length-append rows (r ∷ []) in
     let all : take n rows ≡ rows = take_all n rows (omega arith) in
     let all_more : take n (rows ++ r ∷ []) ≡ rows ++ r ∷ [] = take_all n (rows ++ r ∷ []) (omega arith) in
     let seen : (has_key q (map member_view rows) || c) ≡ has_key q (map member_view rows) =
-    ap (λ b. b || c) (sym (ap (λ rs. is_among rs q) all ∙ is_among-rows rows q)) ∙ before in
-    ap (λ b. b || d) (ap (λ rs. is_among rs q) all_more ∙ is_among-rows (rows ++ r ∷ []) q ∙ has_key-behind rows r q)
+    ap (λ b. b || c) (sym (ap (λ rs. is_key_among rs q) all ∙ is_among-rows rows q)) ∙ before in
+    ap (λ b. b || d) (ap (λ rs. is_key_among rs q) all_more ∙ is_among-rows (rows ++ r ∷ []) q ∙ has_key-behind rows r q)
     ∙ ap (λ d. (has_key q (map member_view rows) || bytes_eq (string_bytes r.0) q) || d) after
     ∙ more_rows _ _ c seen
     ∙ sym (has_key-behind rows r q)
 seen_behind n rows r false c d q long before after =
     let many : n ≤ length rows = ltb-false (length rows) n long in
-    ap (λ rs. is_among rs q || d) (take-append-le n rows (r ∷ []) many)
-    ∙ ap (λ d. is_among (take n rows) q || d) after
+    ap (λ rs. is_key_among rs q || d) (take-append-le n rows (r ∷ []) many)
+    ∙ ap (λ d. is_key_among (take n rows) q || d) after
     ∙ more_keys _ _ _ c before
     ∙ sym (has_key-behind rows r q)
 

@@ -26,7 +26,8 @@ module _ {A : Type 0} (close : ℕ) (read : List ℕ → Option (Found A)) where
   abbrev pub behind_part : ℕ → Found A → Option (Found (List A))
   behind_part most found = in_front found.value (parts_within close read most found.rest)
 
-  within_step : (most : ℕ) (cs : List ℕ) → parts_within close read (suc most) cs ≡ cond (begins_with close cs) (Some (record { value = []; rest = drop 1 cs })) (option_and_then (behind_part most) (part close read cs))
+  within_step : (most : ℕ) (cs : List ℕ) → parts_within close read (suc most) cs
+      ≡ cond (begins_with close cs) (Some (record { value = []; rest = drop 1 cs })) (option_and_then (behind_part most) (part close read cs))
   unfolding parts_within
   within_step most cs = refl
 

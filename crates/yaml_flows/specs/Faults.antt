@@ -5,6 +5,6 @@ use Rattle.yaml_flows.specs.declared.fault.FlowFault.{FlowFault}
 
 -- An answer is what the text means, seen by `see`. A fault other than want of memory comes only if the text
 -- means nothing.
-abbrev pub Gives : {A B : Type 0} → (A → B) → Result A FlowFault → Option B → Type 0
-Gives see (Ok x) meant = meant ≡ Some (see x)
-Gives see (Err fault) meant = fault.kind ≢ OutOfMemory → meant ≡ None
+abbrev pub GivesFlow : {A B : Type 0} → (A → B) → Result A FlowFault → Option B → Type 0
+GivesFlow see (Ok x) meant = meant ≡ Some (see x)
+GivesFlow see (Err fault) meant = fault.kind ≢ OutOfMemory → meant ≡ None

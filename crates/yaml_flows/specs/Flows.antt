@@ -28,14 +28,16 @@ next_part close (c ∷ cs) = if c == 44 then Some (after_gap cs) else (if c == c
 -- the first part, and what follows it from the next part or the closing bracket on
 abbrev pub part : {A : Type 0} → ℕ → (List ℕ → Option (Found A)) → List ℕ → Option (Found A)
 part close read cs =
-    option_and_then (λ found. option_map (λ rest. record { value = found.value; rest = rest }) (next_part close (after_gap found.rest))) (read cs)
+    option_and_then (λ found. option_map (λ rest. record { value = found.value; rest = rest })
+    (next_part close (after_gap found.rest))) (read cs)
 
 -- the parts up to the closing bracket; there are fewer than `most`
 unfoldable pub parts_within : {A : Type 0} → ℕ → (List ℕ → Option (Found A)) → ℕ → List ℕ → Option (Found (List A))
 parts_within close read zero cs = None
 parts_within close read (suc most) cs =
     if begins_with close cs then Some (record { value = []; rest = drop 1 cs })
-    else option_and_then (λ found. option_map (mapped (λ more. found.value ∷ more)) (parts_within close read most found.rest)) (part close read cs)
+    else option_and_then (λ found. option_map (mapped (λ more. found.value ∷ more))
+    (parts_within close read most found.rest)) (part close read cs)
 
 -- All parts after an opening bracket. Each takes a character, and so does the closing bracket, so there are
 -- fewer parts than characters.
@@ -45,22 +47,23 @@ parts close read cs = parts_within close read (length (after_gap cs)) (after_gap
 -- ---- a table's entries
 
 -- What follows a key's colon. After a plain key the colon must be one that ends it.
-abbrev pub behind_colon : Bool → List ℕ → Option (List ℕ)
-behind_colon quoted [] = None
-behind_colon quoted (c ∷ cs) = if is_key_end quoted c cs then Some cs else None
+abbrev pub after_flow_colon : Bool → List ℕ → Option (List ℕ)
+after_flow_colon quoted [] = None
+after_flow_colon quoted (c ∷ cs) = if is_key_end quoted c cs then Some cs else None
 
 -- the key with the value that follows it
-abbrev pub row_of : (List ℕ → Option (Found Meaning)) → FlowText → Option (Found Row)
-row_of node key =
-    option_and_then (λ value. option_map (mapped (λ m. (key.text, m))) (node (after_gap value))) (behind_colon key.quoted (after_gap key.rest))
+abbrev pub flow_row_of : (List ℕ → Option (Found Meaning)) → FlowText → Option (Found Row)
+flow_row_of node key =
+    option_and_then (λ value. option_map (mapped (λ m. (key.text, m))) (node (after_gap value)))
+    (after_flow_colon key.quoted (after_gap key.rest))
 
 -- a key, a colon and a value
 abbrev pub entry : (List ℕ → Option (Found Meaning)) → List ℕ → Option (Found Row)
-entry node cs = option_and_then (row_of node) (text_at cs)
+entry node cs = option_and_then (flow_row_of node) (text_at cs)
 
 -- a table's rows, if no key occurs twice
-abbrev pub distinct : Found (List Row) → Option (Found (List Row))
-distinct found = if keys_differ found.value then Some found else None
+abbrev pub distinct_flow_rows : Found (List Row) → Option (Found (List Row))
+distinct_flow_rows found = if keys_differ found.value then Some found else None
 
 -- ---- nodes
 
@@ -68,7 +71,8 @@ abbrev pub list_at : (List ℕ → Option (Found Meaning)) → List ℕ → Opti
 list_at node cs = option_map (mapped (λ ms. list (meanings_of ms))) (parts 93 node cs)
 
 abbrev pub table_at : (List ℕ → Option (Found Meaning)) → List ℕ → Option (Found Meaning)
-table_at node cs = option_map (mapped (λ rs. table (members_of rs))) (option_and_then distinct (parts 125 (entry node) cs))
+table_at node cs =
+    option_map (mapped (λ rs. table (members_of rs))) (option_and_then distinct_flow_rows (parts 125 (entry node) cs))
 
 abbrev pub text_node : FlowText → Found Meaning
 text_node t = record { value = text t.text t.quoted; rest = t.rest }
@@ -85,8 +89,8 @@ node (suc room) (c ∷ cs) =
     if c == 91 then list_at (node room) cs
     else (if c == 123 then table_at (node room) cs else text_node_at (c ∷ cs))
 
-abbrev pub begins_flow : List ℕ → Bool
-begins_flow cs = begins_with 91 cs || begins_with 123 cs
+abbrev pub begins_list_or_table : List ℕ → Bool
+begins_list_or_table cs = begins_with 91 cs || begins_with 123 cs
 
 -- after the last bracket: blanks and a comment at most, and no further line
 abbrev pub is_end : List ℕ → Bool
@@ -98,4 +102,4 @@ whole found = if is_end found.rest then Some found.value else None
 -- What the whole text of a flow means, its lines joined by line feeds, if at most `room` nodes may be
 -- nested.
 unfoldable pub flow_meaning : ℕ → List ℕ → Option Meaning
-flow_meaning room cs = if begins_flow cs then option_and_then whole (node room cs) else None
+flow_meaning room cs = if begins_list_or_table cs then option_and_then whole (node room cs) else None

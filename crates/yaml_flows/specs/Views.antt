@@ -16,12 +16,12 @@ abbrev pub few : ℕ
 few = 8
 
 -- one of the rows has this key
-abbrev pub is_among : List (String Global × Node) → List ℕ → Bool
-is_among rows key = list_any (λ row. bytes_eq key (string_bytes row.0)) rows
+abbrev pub is_key_among : List (String Global × Node) → List ℕ → Bool
+is_key_among rows key = list_any (λ row. bytes_eq key (string_bytes row.0)) rows
 
 -- one of the rows has this key; `later` has the keys of the later rows
 unfoldable pub is_seen : List (String Global × Node) → (List ℕ → Bool) → List ℕ → Bool
-is_seen rows later key = is_among (take few rows) key || later key
+is_seen rows later key = is_key_among (take few rows) key || later key
 
 -- a later row has the key `q`, once a row with this key follows `count` others
 abbrev pub seen_later : ℕ → List ℕ → (List ℕ → Bool) → List ℕ → Bool
@@ -36,6 +36,6 @@ abbrev pub text_seen : TextIn → FlowText
 text_seen t = record { text = string_bytes t.text; quoted = t.quoted; rest = t.rest.now }
 
 -- the row, unless its key was seen
-abbrev pub fresh : (List ℕ → Bool) → Option (Found Row) → Option (Found Row)
-fresh seen None = None
-fresh seen (Some r) = if seen r.value.0 then None else Some r
+abbrev pub fresh_flow_row : (List ℕ → Bool) → Option (Found Row) → Option (Found Row)
+fresh_flow_row seen None = None
+fresh_flow_row seen (Some r) = if seen r.value.0 then None else Some r

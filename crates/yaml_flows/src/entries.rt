@@ -34,7 +34,7 @@ pub(crate) fn next_part(close: char, text: &[char]) -> Option<&[char]>
 
 /// What follows a key's colon. After a plain key the colon must end it. (YAML 1.2.2, section 7.4.2.)
 pub(crate) fn behind_colon(quoted: bool, text: &[char]) -> Option<&[char]>
-    ensures { option_map (λ rest. rest.now) result ≡ flows.behind_colon quoted text.now }
+    ensures { option_map (λ rest. rest.now) result ≡ flows.after_flow_colon quoted text.now }
 {
     match text {
         [':', rest @ ..] if quoted || ends_key(rest) => Some(rest),

@@ -6,9 +6,9 @@ ghost use Rattle.std.specs.Prelude.{◌≡◌, ◌≤◌, ℕ, List, [], ◌∷�
 ghost use Rattle.std.specs.BTreeSet.{contains_text};
 ghost use Rattle.yaml_lines.specs.Meaning.{most_nodes};
 ghost use Rattle.yaml_lines.specs.View.{view, member_view};
-ghost use Rattle.yaml_flows.specs.Faults.{Gives};
+ghost use Rattle.yaml_flows.specs.Faults.{GivesFlow};
 ghost use Rattle.yaml_flows.specs.Flows as flows;
-ghost use Rattle.yaml_flows.specs.Views.{seen_by, fresh, is_seen, seen_later};
+ghost use Rattle.yaml_flows.specs.Views.{seen_by, fresh_flow_row, is_seen, seen_later};
 
 use crate::ending::end;
 use crate::entries::{behind, behind_colon, next_part, no_colon, no_next_item};
@@ -41,7 +41,7 @@ use yaml_lines::{Node, YamlKind, after_gap};
 #[tactic(auto, unfolding(crate::specs::Flows::flow_meaning))]
 pub fn read_flow(alloc: Global, text: &[char], room: usize) -> Result<Node, FlowFault>
     requires { room ≤ most_nodes }
-    ensures { Gives view result (flows.flow_meaning room text.now) }
+    ensures { GivesFlow view result (flows.flow_meaning room text.now) }
 {
     if !begins_flow(text) {
         return Err(fault_at(YamlKind::Layout, text));
@@ -54,7 +54,7 @@ pub fn read_flow(alloc: Global, text: &[char], room: usize) -> Result<Node, Flow
 }
 
 fn begins_flow(text: &[char]) -> bool
-    ensures { result ≡ flows.begins_flow text.now }
+    ensures { result ≡ flows.begins_list_or_table text.now }
 {
     matches!(text, ['[' | '{', ..])
 }
@@ -62,7 +62,7 @@ fn begins_flow(text: &[char]) -> bool
 // The node that the characters begin with.
 #[cycle(flows)]
 fn node<'a>(alloc: Global, text: &'a [char], room: usize) -> Result<Found<'a, Node>, FlowFault>
-    ensures { Gives (seen_by view) result (flows.node room text.now) }
+    ensures { GivesFlow (seen_by view) result (flows.node room text.now) }
 {
     if room == 0 {
         return Err(no_room(text));
@@ -77,7 +77,7 @@ fn node<'a>(alloc: Global, text: &'a [char], room: usize) -> Result<Found<'a, No
 }
 
 fn text_node<'a>(alloc: Global, text: &'a [char]) -> Result<Found<'a, Node>, FlowFault>
-    ensures { Gives (seen_by view) result (flows.text_node_at text.now) }
+    ensures { GivesFlow (seen_by view) result (flows.text_node_at text.now) }
 {
     let FlowText { text, quoted, rest } = text_at(alloc, text)?;
     Ok(Found {
@@ -90,7 +90,7 @@ fn text_node<'a>(alloc: Global, text: &'a [char]) -> Result<Found<'a, Node>, Flo
 // closing bracket, so one turn per character is enough.
 #[cycle(flows)]
 fn list<'a>(alloc: Global, inner: &'a [char], room: usize) -> Result<Found<'a, Node>, FlowFault>
-    ensures { Gives (seen_by view) result (flows.list_at (flows.node room) inner.now) }
+    ensures { GivesFlow (seen_by view) result (flows.list_at (flows.node room) inner.now) }
 {
     let start = after_gap(inner);
     let mut items = Vec::new(alloc);
@@ -112,7 +112,7 @@ fn list<'a>(alloc: Global, inner: &'a [char], room: usize) -> Result<Found<'a, N
 // An item, and what follows it from the next item or the closing bracket on.
 #[cycle(flows)]
 fn item<'a>(alloc: Global, text: &'a [char], room: usize) -> Result<Found<'a, Node>, FlowFault>
-    ensures { Gives (seen_by view) result (flows.part 93 (flows.node room) text.now) }
+    ensures { GivesFlow (seen_by view) result (flows.part 93 (flows.node room) text.now) }
 {
     let Found { value, rest } = node(alloc, text, room)?;
     let place = after_gap(rest);
@@ -129,7 +129,7 @@ const FIRST_ROWS: usize = 2;
 // The table whose opening brace these characters follow. One turn per character is enough here too.
 #[cycle(flows)]
 fn table<'a>(alloc: Global, inner: &'a [char], room: usize) -> Result<Found<'a, Node>, FlowFault>
-    ensures { Gives (seen_by view) result (flows.table_at (flows.node room) inner.now) }
+    ensures { GivesFlow (seen_by view) result (flows.table_at (flows.node room) inner.now) }
 {
     let start = after_gap(inner);
     let mut rows = Vec::with_capacity(alloc, FIRST_ROWS)?;
@@ -159,8 +159,9 @@ fn row<'a>(
     text: &'a [char],
     room: usize,
 ) -> Result<Found<'a, (String, Node)>, FlowFault>
-    ensures given { Gives (seen_by member_view) result
-        (fresh (is_seen rows.now (contains_text later.old)) (flows.part 125 (flows.entry (flows.node room)) text.now)) }
+    ensures given { GivesFlow (seen_by member_view) result
+        (fresh_flow_row (is_seen rows.now (contains_text later.old))
+        (flows.part 125 (flows.entry (flows.node room)) text.now)) }
     ensures later { IfOk result (λ found. (q : List ℕ) → contains_text later.new q
         ≡ seen_later (length rows.now) (string_bytes found.value.0) (contains_text later.old) q) }
 {
@@ -182,8 +183,8 @@ fn entry<'a>(
     text: &'a [char],
     room: usize,
 ) -> Result<Found<'a, (String, Node)>, FlowFault>
-    ensures given { Gives (seen_by member_view) result
-        (fresh (is_seen rows.now (contains_text later.old)) (flows.entry (flows.node room) text.now)) }
+    ensures given { GivesFlow (seen_by member_view) result
+        (fresh_flow_row (is_seen rows.now (contains_text later.old)) (flows.entry (flows.node room) text.now)) }
     ensures later { IfOk result (λ found. (q : List ℕ) → contains_text later.new q
         ≡ seen_later (length rows.now) (string_bytes found.value.0) (contains_text later.old) q) }
 {

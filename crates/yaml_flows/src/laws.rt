@@ -21,5 +21,6 @@ ghost use Rattle.yaml_lines.specs.Meaning.{Meaning, most_nodes};
 ///
 /// one bracket is open after the first line and after the second, and none after the third.
 pub fn a_flow_is_open_up_to_its_last_line()
-    ensures { (room : ℕ) (lines : List (List ℕ)) (m : Meaning) → room ≤ most_nodes → flow_meaning room (join_with_byte 10 lines) ≡ Some m → closes_last outside lines ≡ true }
+    ensures { (room : ℕ) (lines : List (List ℕ)) (m : Meaning) → room ≤ most_nodes
+        → flow_meaning room (join_with_byte 10 lines) ≡ Some m → closes_last outside lines ≡ true }
 {}

@@ -6,7 +6,7 @@ ghost use Rattle.std.specs.Prelude.{◌≡◌, ◌≢◌, ℕ, List, length, tak
 ghost use Rattle.std.specs.BTreeSet.{contains_text};
 ghost use Rattle.std.specs.Str.{bytes_eq};
 ghost use Rattle.yaml_lines.specs.declared.fault.YamlKind.TheVariants.{OutOfMemory};
-ghost use Rattle.yaml_flows.specs.Views.{few, is_among, is_seen, seen_later};
+ghost use Rattle.yaml_flows.specs.Views.{few, is_key_among, is_seen, seen_later};
 
 use crate::fault::{FlowFault, fault_at};
 use std::alloc::Global;
@@ -26,7 +26,7 @@ fn first_rows(rows: &[(String, Node)]) -> &[(String, Node)]
 
 // Whether one of the rows has this key.
 fn is_among(rows: &[(String, Node)], key: &str) -> bool
-    ensures { result ≡ is_among rows.now key.now }
+    ensures { result ≡ is_key_among rows.now key.now }
 {
     rows.iter().any(|row| row.0.as_str() == key)
 }

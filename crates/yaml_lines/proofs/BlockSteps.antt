@@ -24,10 +24,12 @@ margin_of-nil : (column : ℕ) → margin_of column [] ≡ None
 unfolding margin_of
 margin_of-nil column = refl
 
-pub margin_of-spaces : (column : ℕ) (ls : List LineText) (i : ℕ) (l : LineText) → i < length ls → l ≡ get_or ls i l → all_spaces l ≡ true → margin_of column (drop i ls) ≡ margin_of column (drop (i + 1) ls)
+pub margin_of-spaces : (column : ℕ) (ls : List LineText) (i : ℕ) (l : LineText) → i < length ls → l ≡ get_or ls i l → all_spaces l ≡ true
+    → margin_of column (drop i ls) ≡ margin_of column (drop (i + 1) ls)
 margin_of-spaces column ls i l within is h = ap (margin_of column) (line_left ls i l within is) ∙ margin_of-cons column l (drop (i + 1) ls) true h
 
-pub margin_of-deep : (column : ℕ) (ls : List LineText) (i : ℕ) (l : LineText) → i < length ls → l ≡ get_or ls i l → all_spaces l ≡ false → column < spaces l → margin_of column (drop i ls) ≡ Some (spaces l)
+pub margin_of-deep : (column : ℕ) (ls : List LineText) (i : ℕ) (l : LineText) → i < length ls → l ≡ get_or ls i l → all_spaces l ≡ false → column < spaces l
+    → margin_of column (drop i ls) ≡ Some (spaces l)
 margin_of-deep column ls i l within is h deep =
     ap (margin_of column) (line_left ls i l within is)
     ∙ (margin_of-cons column l (drop (i + 1) ls) false h ∙ ap (λ (b : Bool). cond b (Some (spaces l)) None) (lt-ltb column (spaces l) deep))
@@ -62,7 +64,8 @@ pub is_ragged-long : (m : ℕ) (ls : List LineText) (i : ℕ) (l : LineText) →
 is_ragged-long m ls i l within is h long =
     ap (is_ragged (Some m)) (line_left ls i l within is) ∙ is_ragged-cons m l (drop (i + 1) ls) true true h (lt-ltb m (length l.text) long)
 
-pub is_ragged-short : (m : ℕ) (ls : List LineText) (i : ℕ) (l : LineText) → i < length ls → l ≡ get_or ls i l → all_spaces l ≡ true → length l.text ≤ m → is_ragged (Some m) (drop i ls) ≡ is_ragged (Some m) (drop (i + 1) ls)
+pub is_ragged-short : (m : ℕ) (ls : List LineText) (i : ℕ) (l : LineText) → i < length ls → l ≡ get_or ls i l → all_spaces l ≡ true → length l.text ≤ m
+    → is_ragged (Some m) (drop i ls) ≡ is_ragged (Some m) (drop (i + 1) ls)
 is_ragged-short m ls i l within is h short =
     ap (is_ragged (Some m)) (line_left ls i l within is) ∙ is_ragged-cons m l (drop (i + 1) ls) true false h (le-ltb m (length l.text) short)
 
@@ -81,7 +84,8 @@ pub record At (ls : List LineText) (i : ℕ) (l : LineText) (m : Option ℕ) (pa
   pub behind : part ≡ behind_margin m l
   pub end : ended ≡ cond l.ended 1 0
 
-pub passed-empty : (h : Header) (m : Option ℕ) (before : Option Bool) (empties ends : ℕ) (ls : List LineText) (i : ℕ) (l : LineText) (part : List ℕ) (ended : ℕ) → At ls i l m part ended → is_nil part ≡ true
+pub passed-empty : (h : Header) (m : Option ℕ) (before : Option Bool) (empties ends : ℕ) (ls : List LineText) (i : ℕ) (l : LineText) (part : List ℕ) (ended : ℕ) → At ls i l m part ended
+    → is_nil part ≡ true
     → passed h before empties ends (without_margins m (drop i ls)) ≡ passed h before (empties + 1) (ends + ended) (without_margins m (drop (i + 1) ls))
 passed-empty h m before empties ends ls i l part ended a n =
     let left = without_margins m (drop (i + 1) ls) in
@@ -90,7 +94,8 @@ passed-empty h m before empties ends ls i l part ended a n =
     ∙ (ap (λ (k : ℕ). passed h before (suc empties) (ends + k) left) (sym a.end)
     ∙ ap (λ (k : ℕ). passed h before k (ends + ended) left) (sym (add-one empties))))
 
-pub passed-text : (h : Header) (m : Option ℕ) (before : Option Bool) (empties ends : ℕ) (ls : List LineText) (i : ℕ) (l : LineText) (part : List ℕ) (ended : ℕ) → At ls i l m part ended → is_nil part ≡ false
+pub passed-text : (h : Header) (m : Option ℕ) (before : Option Bool) (empties ends : ℕ) (ls : List LineText) (i : ℕ) (l : LineText) (part : List ℕ) (ended : ℕ) → At ls i l m part ended
+    → is_nil part ≡ false
     → passed h before empties ends (without_margins m (drop i ls))
     ≡ between h.folded before empties (begins_blank part) ++ (encode_utf8_all part ++ passed h (Some (begins_blank part)) 0 ended (without_margins m (drop (i + 1) ls)))
 passed-text h m before empties ends ls i l part ended a n =
@@ -100,7 +105,8 @@ passed-text h m before empties ends ls i l part ended a n =
     ∙ (passed-cons h before empties ends (without_margin m l) left false (ap is_nil (sym a.behind) ∙ n)
     ∙ (ap (λ (cs : List ℕ). f cs (cond l.ended 1 0)) (sym a.behind) ∙ ap (f part) (sym a.end)))
 
-pub passed-end : (h : Header) (m : Option ℕ) (before : Option Bool) (empties ends : ℕ) (ls : List LineText) (i : ℕ) → length ls ≤ i → passed h before empties ends (without_margins m (drop i ls)) ≡ behind_last h.chomping before ends
+pub passed-end : (h : Header) (m : Option ℕ) (before : Option Bool) (empties ends : ℕ) (ls : List LineText) (i : ℕ) → length ls ≤ i
+    → passed h before empties ends (without_margins m (drop i ls)) ≡ behind_last h.chomping before ends
 passed-end h m before empties ends ls i past =
     ap (λ (xs : List LineText). passed h before empties ends (without_margins m xs)) (drop_all i ls past) ∙ passed-nil h before empties ends
 
@@ -112,7 +118,8 @@ pushed all old mid new first second rest e p q =
 one_character : (c : ℕ) → encode_utf8_all (c ∷ []) ≡ encode_utf8 c
 one_character c = append-nil (encode_utf8 c)
 
-pub characters_more : (t : List ℕ) (i c : ℕ) (start old new : List ℕ) → i < length t → c ≡ get_or t i c → old ≡ start ++ encode_utf8_all (take i t) → new ≡ old ++ encode_utf8 c → new ≡ start ++ encode_utf8_all (take (i + 1) t)
+pub characters_more : (t : List ℕ) (i c : ℕ) (start old new : List ℕ) → i < length t → c ≡ get_or t i c → old ≡ start ++ encode_utf8_all (take i t) → new ≡ old ++ encode_utf8 c
+    → new ≡ start ++ encode_utf8_all (take (i + 1) t)
 characters_more t i c start old new within is e p =
     let more : take (i + 1) t ≡ take i t ++ c ∷ [] = take_more t i c within ∙ ap (λ (x : ℕ). take i t ++ x ∷ []) (sym is) in
     p ∙ (ap (λ (xs : List ℕ). xs ++ encode_utf8 c) e ∙ (append_assoc start (encode_utf8_all (take i t)) (encode_utf8 c)

@@ -53,7 +53,8 @@ no_sides : (t : List ℕ) (o : Option ℕ) → AtColon t o → is_some o ≡ fal
 no_sides t None h none = h
 no_sides t (Some at) h none = cc
 
-pub plain_of-plain : (t bare trimmed : List ℕ) (o : Option ℕ) → begins_plain t ≡ true → AtColon t o → is_some o ≡ false → bare ≡ uncommented true t → trimmed ≡ trim_end bare → plain_of t ≡ Some (encode_utf8_all trimmed)
+pub plain_of-plain : (t bare trimmed : List ℕ) (o : Option ℕ) → begins_plain t ≡ true → AtColon t o → is_some o ≡ false → bare ≡ uncommented true t → trimmed ≡ trim_end bare
+    → plain_of t ≡ Some (encode_utf8_all trimmed)
 unfolding plain_of
 plain_of-plain t bare trimmed o plain h none u e =
     let all : List ℕ = encode_utf8_all (trim_end (uncommented true t)) in

@@ -17,7 +17,8 @@ gap_step : (comment free : Bool) (c : ℕ) (cs : List ℕ) (b : Bool) → is_of_
 unfolding behind_gap
 gap_step comment free c cs b h = ap (λ (b : Bool). cond b (behind_gap (in_comment comment c) true cs) (c ∷ cs)) h
 
-pub gap_from_inside : (t : List ℕ) (comment free : Bool) (i c : ℕ) → i < length t → c ≡ get_or t i c → is_of_gap comment free c ≡ true → gap_from t comment free i ≡ gap_from t (in_comment comment c) true (i + 1)
+pub gap_from_inside : (t : List ℕ) (comment free : Bool) (i c : ℕ) → i < length t → c ≡ get_or t i c → is_of_gap comment free c ≡ true
+    → gap_from t comment free i ≡ gap_from t (in_comment comment c) true (i + 1)
 gap_from_inside t comment free i c l e h = ap (behind_gap comment free) (left t i c l e) ∙ gap_step comment free c (drop (i + 1) t) true h
 
 pub gap_from_behind : (t : List ℕ) (comment free : Bool) (i c : ℕ) → i < length t → c ≡ get_or t i c → is_of_gap comment free c ≡ false → gap_from t comment free i ≡ drop i t

@@ -193,7 +193,8 @@ token_fits st c cs = token_fits_by st cs (text_at (c ∷ cs)) (is_opening c) (is
 
 -- ---- all tokens
 
-fuel_by : (m n : ℕ) (closed : Bool) (next : Behind) → behind_tokens m next.state (after_gap next.rest) ≡ behind_tokens n next.state (after_gap next.rest) → then_tokens m closed next ≡ then_tokens n closed next
+fuel_by : (m n : ℕ) (closed : Bool) (next : Behind) → behind_tokens m next.state (after_gap next.rest) ≡ behind_tokens n next.state (after_gap next.rest)
+    → then_tokens m closed next ≡ then_tokens n closed next
 fuel_by m n true next e = refl
 fuel_by m n false next e = e
 

@@ -41,7 +41,8 @@ text_is cs = text_by (begins_quoted cs) cs
 abbrev rest_of : Option FlowText → Option (List ℕ)
 rest_of o = option_map (λ t. t.rest) o
 
-some_by : (depth : ℕ) (quoted : Bool) (others rest : List ℕ) (o : Option FlowText) → Is quoted o → Some rest ≡ rest_of o → behind_text depth others o ≡ record { state = state depth quoted; rest = rest }
+some_by : (depth : ℕ) (quoted : Bool) (others rest : List ℕ) (o : Option FlowText) → Is quoted o → Some rest ≡ rest_of o
+    → behind_text depth others o ≡ record { state = state depth quoted; rest = rest }
 some_by depth quoted others rest None is e = absurd (cc)
 some_by depth quoted others rest (Some t) is e =
     let same : rest ≡ t.rest = cc in

@@ -4,11 +4,11 @@ use Rattle.std.specs.List.{prefix_len, list_all, list_any}
 use Rattle.std.specs.Char.{encode_utf8}
 use Rattle.yaml_lines.specs.BlockTexts.{LineText, spaces}
 use Rattle.yaml_lines.specs.Characters.{is_blank, blank_or_end, comment_or_end, trim_start}
-use Rattle.yaml_lines.specs.Entries.{KeyAndValue, value_behind, plain_entry, behind_colon, quoted_entry, entry_of}
+use Rattle.yaml_lines.specs.Entries.{KeyAndValue, value_behind, plain_entry, behind_colon, quoted_entry, entry_of_line}
 use Rattle.yaml_lines.specs.LineLaws.{is_block, begins_text, holds_no_bar}
 use Rattle.yaml_lines.specs.Lines.{ColumnValue, value_at, last_value}
 use Rattle.yaml_lines.specs.Plain.{begins_plain, Sides, before_side, sides_of}
-use Rattle.yaml_lines.specs.Quoted.{Step, Quoted, is_quote, behind, after_quote, single_step, coded, pair_of, two_digits, four_digits, named, escaped, double_step, step_of, quoted_within, quoted_of}
+use Rattle.yaml_lines.specs.Quoted.{QuotedStep, Quoted, is_quote, behind, after_quote, single_step, coded, pair_of, two_digits, four_digits, named, escaped, double_step, step_of, quoted_within, quoted_of}
 
 both : (a b : Bool) → (a && b) ≡ true → (a ≡ true) × (b ≡ true)
 both true b e = (refl, e)
@@ -34,7 +34,7 @@ module _ (p : ℕ → Bool) where
 
   -- ---- a quoted text
 
-  abbrev OfStep : Option Step → Type 0
+  abbrev OfStep : Option QuotedStep → Type 0
   OfStep o = Each (λ step. step.rest) o
 
   abbrev OfQuoted : Option Quoted → Type 0
@@ -127,7 +127,8 @@ module _ (p : ℕ → Bool) where
   behind_held read rest None more h = h
   behind_held read rest (Some c) more h = front_held c (read rest) (more rest h)
 
-  steps_held : (read : List ℕ → Option Quoted) (o : Option Step) → ((cs : List ℕ) → Held cs → OfQuoted (read cs)) → OfStep o → OfQuoted (option_and_then (λ step. behind read step.rest step.character) o)
+  steps_held : (read : List ℕ → Option Quoted) (o : Option QuotedStep) → ((cs : List ℕ) → Held cs → OfQuoted (read cs)) → OfStep o
+      → OfQuoted (option_and_then (λ step. behind read step.rest step.character) o)
   steps_held read None more h = tt
   steps_held read (Some step) more h = behind_held read step.rest step.character more h
 
@@ -188,8 +189,8 @@ module _ (p : ℕ → Bool) where
   entry_by false true o q h k = plain_held q k
   entry_by false false o q h k = tt
 
-  entry_held : (c : ℕ) (cs : List ℕ) → Held (c ∷ cs) → OfEntry (entry_of (c ∷ cs))
-  unfolding entry_of quoted_of
+  entry_held : (c : ℕ) (cs : List ℕ) → Held (c ∷ cs) → OfEntry (entry_of_line (c ∷ cs))
+  unfolding entry_of_line quoted_of
   entry_held c cs h =
       entry_by (is_quote c) (begins_plain (c ∷ cs)) (cond (is_quote c) (quoted_within c (length cs) cs) None) (sides_of true (c ∷ cs)) (quoted_by (is_quote c) c cs (held_behind c cs h))
       (sides_held true (c ∷ cs) h)
@@ -214,8 +215,8 @@ module _ (p : ℕ → Bool) where
   last_held at dash [] h = tt
   last_held at dash (c ∷ cs) h =
       let behind = held_behind c cs h in
-      last_by (is_blank c) (eqb c 45 && blank_or_end cs) (last_value (at + 1) dash cs) (last_value (at + 1) (Some at) cs) (value_at at dash (c ∷ cs) (entry_of (c ∷ cs)))
-      (last_held (at + 1) dash cs behind) (last_held (at + 1) (Some at) cs behind) (at_held at dash (c ∷ cs) (entry_of (c ∷ cs)) h (entry_held c cs h))
+      last_by (is_blank c) (eqb c 45 && blank_or_end cs) (last_value (at + 1) dash cs) (last_value (at + 1) (Some at) cs) (value_at at dash (c ∷ cs) (entry_of_line (c ∷ cs)))
+      (last_held (at + 1) dash cs behind) (last_held (at + 1) (Some at) cs behind) (at_held at dash (c ∷ cs) (entry_of_line (c ∷ cs)) h (entry_held c cs h))
 
 -- ---- no block text
 

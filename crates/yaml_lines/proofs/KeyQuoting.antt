@@ -3,7 +3,7 @@ use Rattle.std.proofs.Common.{◌≡◌, ℕ, Bool, true, false, cond, not, ◌&
 use Rattle.std.specs.List.{list_all, flat_map}
 use Rattle.std.specs.Str.{encode_utf8_all}
 use Rattle.yaml_lines.specs.Characters.{is_blank, blank_or_end}
-use Rattle.yaml_lines.specs.Entries.{KeyAndValue, value_behind, plain_entry, behind_colon, quoted_entry, entry_of}
+use Rattle.yaml_lines.specs.Entries.{KeyAndValue, value_behind, plain_entry, behind_colon, quoted_entry, entry_of_line}
 use Rattle.yaml_lines.specs.Plain.{is_indicator, is_mark_character, begins_plain, plain_of, Sides, before_side, sides_of, trim_end, uncommented}
 use Rattle.yaml_lines.specs.Quoted.{is_quote, single_step, double_step, step_of, quoted_of}
 use Rattle.yaml_lines.specs.QuotingLaws.{IsPlainAlone, in_quotes, fits_single, fits_double}
@@ -67,8 +67,8 @@ key_begins c [] behind e = begins_by (is_indicator c) (is_mark_character c) e
 key_begins c (d ∷ ds) behind e = e
 
 plain_key_by : (key behind : List ℕ) → begins_plain key ≡ true → uncommented true key ≡ key → sides_of true key ≡ None → blank_or_end behind ≡ true
-    → entry_of (key ++ 58 ∷ behind) ≡ Some (record { key = encode_utf8_all (trim_end key); value = value_behind behind })
-unfolding entry_of begins_plain
+    → entry_of_line (key ++ 58 ∷ behind) ≡ Some (record { key = encode_utf8_all (trim_end key); value = value_behind behind })
+unfolding entry_of_line begins_plain
 plain_key_by [] behind begins kept none blank = absurd (cc)
 plain_key_by (c ∷ cs) behind begins kept none blank =
     let t : List ℕ = c ∷ (cs ++ 58 ∷ behind) in
@@ -79,7 +79,7 @@ plain_key_by (c ∷ cs) behind begins kept none blank =
 abbrev entry : List ℕ → List ℕ → Option KeyAndValue
 entry key behind = Some (record { key = key; value = value_behind behind })
 
-pub plain_key : (key bytes behind : List ℕ) → IsPlainAlone key bytes → blank_or_end behind ≡ true → entry_of (key ++ 58 ∷ behind) ≡ Some (record { key = bytes; value = value_behind behind })
+pub plain_key : (key bytes behind : List ℕ) → IsPlainAlone key bytes → blank_or_end behind ≡ true → entry_of_line (key ++ 58 ∷ behind) ≡ Some (record { key = bytes; value = value_behind behind })
 plain_key key bytes behind is blank =
     plain_key_by key behind (plain_parts key bytes is.plain).0 is.without_comment (no_sides key bytes is.plain) blank
     ∙ ap (λ (cs : List ℕ). entry cs behind) (ap encode_utf8_all is.without_blanks ∙ bytes_of key bytes is)
@@ -95,25 +95,25 @@ colon_behind behind blank = ap (λ (b : Bool). cond b (Some behind) None) blank
 
 quoted_key : (mark : ℕ) (stands : ℕ → Bool) (key bytes behind : List ℕ) → is_quote mark ≡ true → ((c : ℕ) (rest : List ℕ) → stands c ≡ true → step_of mark (c ∷ rest) ≡ reads c rest)
     → step_of mark (mark ∷ 58 ∷ behind) ≡ Some (record { character = None; rest = 58 ∷ behind }) → list_all stands key ≡ true → encode_utf8_all key ≡ bytes → blank_or_end behind ≡ true
-    → entry_of (in_quotes mark key ++ 58 ∷ behind) ≡ Some (record { key = bytes; value = value_behind behind })
-unfolding entry_of
+    → entry_of_line (in_quotes mark key ++ 58 ∷ behind) ≡ Some (record { key = bytes; value = value_behind behind })
+unfolding entry_of_line
 quoted_key mark stands key bytes behind quote one last all e blank =
     let t : List ℕ = key ++ mark ∷ 58 ∷ behind in
     let plain : Option KeyAndValue = cond (begins_plain (mark ∷ t)) (option_map plain_entry (sides_of true (mark ∷ t))) None in
     let found : quoted_of (mark ∷ t) ≡ Some (record { text = encode_utf8_all key; rest = 58 ∷ behind }) =
     ap (λ (cs : List ℕ). quoted_of (mark ∷ (cs ++ mark ∷ 58 ∷ behind))) (sym (itself key))
     ∙ written_quoted mark (λ c. c ∷ []) stands (λ c. omega arith) one (58 ∷ behind) last key quote all in
-    ap (λ (cs : List ℕ). entry_of (mark ∷ cs)) (append_assoc key (mark ∷ []) (58 ∷ behind))
+    ap (λ (cs : List ℕ). entry_of_line (mark ∷ cs)) (append_assoc key (mark ∷ []) (58 ∷ behind))
     ∙ (ap (λ (b : Bool). cond b (option_and_then quoted_entry (quoted_of (mark ∷ t))) plain) quote
     ∙ (ap (option_and_then quoted_entry) found
     ∙ (ap (λ (o : Option (List ℕ)). option_map (λ cs. record { key = encode_utf8_all key; value = value_behind cs }) o) (colon_behind behind blank) ∙ ap (λ (cs : List ℕ). entry cs behind) e)))
 
 pub single_key : (key bytes behind : List ℕ) → IsPlainAlone key bytes → fits_single key ≡ true → blank_or_end behind ≡ true
-    → entry_of (in_quotes 39 key ++ 58 ∷ behind) ≡ Some (record { key = bytes; value = value_behind behind })
+    → entry_of_line (in_quotes 39 key ++ 58 ∷ behind) ≡ Some (record { key = bytes; value = value_behind behind })
 unfolding single_step
 single_key key bytes behind is fits blank = quoted_key 39 (λ c. not (eqb c 39 || eqb c 10)) key bytes behind refl single_one refl fits (bytes_of key bytes is) blank
 
 pub double_key : (key bytes behind : List ℕ) → IsPlainAlone key bytes → fits_double key ≡ true → blank_or_end behind ≡ true
-    → entry_of (in_quotes 34 key ++ 58 ∷ behind) ≡ Some (record { key = bytes; value = value_behind behind })
+    → entry_of_line (in_quotes 34 key ++ 58 ∷ behind) ≡ Some (record { key = bytes; value = value_behind behind })
 unfolding double_step
 double_key key bytes behind is fits blank = quoted_key 34 (λ c. not (eqb c 34 || eqb c 92 || eqb c 10)) key bytes behind refl double_one refl fits (bytes_of key bytes is) blank

@@ -3,7 +3,7 @@ use Rattle.std.proofs.Common.{◌≡◌, ℕ, suc, ◌+◌, Bool, true, false, c
 use Rattle.std.proofs.lemmas.Bool.{eqb-true}
 use Rattle.std.specs.List.{prefix_len, list_all}
 use Rattle.yaml_lines.specs.Characters.{is_blank, is_space, blank_or_end, comment_or_end}
-use Rattle.yaml_lines.specs.Entries.{ContentLine, KeyAndValue, is_item, rest_of, item_of, entry_of}
+use Rattle.yaml_lines.specs.Entries.{ContentLine, KeyAndValue, is_item, rest_of, item_of, entry_of_line}
 use Rattle.yaml_lines.specs.Lines.{ColumnValue, value_at, last_value}
 use Rattle.yaml_lines.specs.Plain.{begins_plain}
 use Rattle.yaml_lines.proofs.Left.{last_value-tests, last_value-nil}
@@ -24,7 +24,8 @@ one_more at n = omega arith
 next : (n : ℕ) → suc n ≡ 1 + n
 next n = omega arith
 
-skip_by : (blank : Bool) (at : ℕ) (dash : Option ℕ) (c : ℕ) (cs : List ℕ) (n : ℕ) → is_blank c ≡ blank → last_value (at + 1) dash cs ≡ moved (at + 1) dash n cs → last_value at dash (c ∷ cs) ≡ moved at dash (passed blank n) (c ∷ cs)
+skip_by : (blank : Bool) (at : ℕ) (dash : Option ℕ) (c : ℕ) (cs : List ℕ) (n : ℕ) → is_blank c ≡ blank → last_value (at + 1) dash cs ≡ moved (at + 1) dash n cs
+    → last_value at dash (c ∷ cs) ≡ moved at dash (passed blank n) (c ∷ cs)
 skip_by true at dash c cs n e h =
     last_value-tests at dash c cs true (eqb c 45 && blank_or_end cs) e refl
     ∙ (h ∙ (ap (λ (k : ℕ). last_value k dash (drop n cs)) (one_more at n) ∙ ap (λ (k : ℕ). last_value (at + (1 + n)) dash (drop k (c ∷ cs))) (next n)))
@@ -49,7 +50,8 @@ behind_dash : (at : ℕ) (dash : Option ℕ) (c : ℕ) (cs : List ℕ) → (eqb 
 behind_dash at dash c cs e =
     last_value-tests at dash c cs false true (blank_by c (eqb-true c 45 (both (eqb c 45) (blank_or_end cs) e).0)) e ∙ skip_blanks (at + 1) (Some at) cs
 
-rest_is : (over spaces : Bool) (at : ℕ) (block : Option (List ℕ)) (cs : List ℕ) (rest : ContentLine) → cond over (Some []) (cond spaces (Some (record { indent = at; content = cs; block = block } ∷ [])) None) ≡ Some (rest ∷ []) → (rest.indent ≡ at) × (rest.content ≡ cs)
+rest_is : (over spaces : Bool) (at : ℕ) (block : Option (List ℕ)) (cs : List ℕ) (rest : ContentLine)
+    → cond over (Some []) (cond spaces (Some (record { indent = at; content = cs; block = block } ∷ [])) None) ≡ Some (rest ∷ []) → (rest.indent ≡ at) × (rest.content ≡ cs)
 rest_is true spaces at block cs rest e = cc
 rest_is false false at block cs rest e = cc
 rest_is false true at block cs rest e =
@@ -71,7 +73,8 @@ of_item at dash (c ∷ cs) block rest e h =
     behind_dash at dash c cs e
     ∙ (ap (λ (k : ℕ). last_value k (Some at) (drop n cs)) (sym is.0) ∙ ap (last_value rest.indent (Some at)) (sym is.1))
 
-pub item_value : (p rest : ContentLine) (dash : Option ℕ) → is_item p.content ≡ true → item_of p ≡ Some (rest ∷ []) → last_value p.indent dash p.content ≡ last_value rest.indent (Some p.indent) rest.content
+pub item_value : (p rest : ContentLine) (dash : Option ℕ) → is_item p.content ≡ true → item_of p ≡ Some (rest ∷ [])
+    → last_value p.indent dash p.content ≡ last_value rest.indent (Some p.indent) rest.content
 unfolding item_of
 item_value p rest dash e h = of_item p.indent dash p.content p.block rest e h
 
@@ -84,8 +87,8 @@ value_is_comment : (at : ℕ) (dash : ℕ) (cs : List ℕ) (o : Option KeyAndVal
 value_is_comment at dash cs None e none = e
 value_is_comment at dash cs (Some entry) e none = cc
 
-no_entry : (cs : List ℕ) → entry_of (35 ∷ cs) ≡ None
-unfolding entry_of begins_plain
+no_entry : (cs : List ℕ) → entry_of_line (35 ∷ cs) ≡ None
+unfolding entry_of_line begins_plain
 no_entry cs = refl
 
 hash_blank : (c : ℕ) → c ≡ 35 → is_blank c ≡ false
@@ -99,7 +102,7 @@ comment_value at dash [] e = rw (last_value-nil at (Some dash)) tt
 comment_value at dash (c ∷ cs) e =
     let hash : c ≡ 35 = eqb-true c 35 e in
     rw (last_value-tests at (Some dash) c cs false false (hash_blank c hash) (hash_dash c cs hash))
-    (value_is_comment at dash (c ∷ cs) (entry_of (c ∷ cs)) e (ap (λ (x : ℕ). entry_of (x ∷ cs)) hash ∙ no_entry cs))
+    (value_is_comment at dash (c ∷ cs) (entry_of_line (c ∷ cs)) e (ap (λ (x : ℕ). entry_of_line (x ∷ cs)) hash ∙ no_entry cs))
 
 of_empty : (at : ℕ) (dash : Option ℕ) (content : List ℕ) (block : Option (List ℕ)) → is_item content ≡ true → rest_of at block (drop 1 content) ≡ Some [] → IsComment (last_value at dash content)
 unfolding is_item rest_of
@@ -115,10 +118,11 @@ empty_item_value p dash e h = of_empty p.indent dash p.content p.block e h
 
 -- ---- no item
 
-of_other : (at : ℕ) (dash : Option ℕ) (content : List ℕ) → blank_or_end content ≡ false → is_item content ≡ false → last_value at dash content ≡ value_at at dash content (entry_of content)
+of_other : (at : ℕ) (dash : Option ℕ) (content : List ℕ) → blank_or_end content ≡ false → is_item content ≡ false → last_value at dash content ≡ value_at at dash content (entry_of_line content)
 unfolding is_item
 of_other at dash [] some e = cc
 of_other at dash (c ∷ cs) some e = last_value-tests at dash c cs false false some e
 
-pub other_value : (p : ContentLine) (dash : Option ℕ) (entry : Option KeyAndValue) → blank_or_end p.content ≡ false → is_item p.content ≡ false → entry_of p.content ≡ entry → last_value p.indent dash p.content ≡ value_at p.indent dash p.content entry
+pub other_value : (p : ContentLine) (dash : Option ℕ) (entry : Option KeyAndValue) → blank_or_end p.content ≡ false → is_item p.content ≡ false → entry_of_line p.content ≡ entry
+    → last_value p.indent dash p.content ≡ value_at p.indent dash p.content entry
 other_value p dash entry some e h = of_other p.indent dash p.content some e ∙ ap (value_at p.indent dash p.content) h

@@ -5,7 +5,7 @@ use Rattle.std.proofs.lemmas.List.{drop_more, drop_all}
 use Rattle.std.specs.List.{prefix_len, list_all}
 use Rattle.yaml_lines.specs.BlockTexts.{LineText}
 use Rattle.yaml_lines.specs.Characters.{is_allowed, is_blank, is_space, begins_with, blank_or_end, comment_or_end, trim_start}
-use Rattle.yaml_lines.specs.Entries.{entry_of}
+use Rattle.yaml_lines.specs.Entries.{entry_of_line}
 use Rattle.yaml_lines.specs.Faults.{Gives, GivesSurely}
 use Rattle.yaml_lines.specs.Lines.{ColumnValue, Left, standing, value_at, last_value, with_flow, left_of}
 use Rattle.yaml_lines.specs.declared.flow_state.FlowState.{FlowState}
@@ -51,10 +51,10 @@ left_of-some flow text content later n tab i t =
 
 -- the walk over dashes
 pub last_value-tests : (at : ℕ) (dash : Option ℕ) (c : ℕ) (cs : List ℕ) (a b : Bool) → is_blank c ≡ a → (eqb c 45 && blank_or_end cs) ≡ b
-    → last_value at dash (c ∷ cs) ≡ cond a (last_value (at + 1) dash cs) (cond b (last_value (at + 1) (Some at) cs) (value_at at dash (c ∷ cs) (entry_of (c ∷ cs))))
+    → last_value at dash (c ∷ cs) ≡ cond a (last_value (at + 1) dash cs) (cond b (last_value (at + 1) (Some at) cs) (value_at at dash (c ∷ cs) (entry_of_line (c ∷ cs))))
 unfolding last_value
 last_value-tests at dash c cs a b h k =
-    let f : Bool → Bool → Option ColumnValue = λ a b. cond a (last_value (at + 1) dash cs) (cond b (last_value (at + 1) (Some at) cs) (value_at at dash (c ∷ cs) (entry_of (c ∷ cs)))) in
+    let f : Bool → Bool → Option ColumnValue = λ a b. cond a (last_value (at + 1) dash cs) (cond b (last_value (at + 1) (Some at) cs) (value_at at dash (c ∷ cs) (entry_of_line (c ∷ cs)))) in
     ap (λ (x : Bool). f x (eqb c 45 && blank_or_end cs)) h ∙ ap (λ (x : Bool). f a x) k
 
 pub last_value-nil : (at : ℕ) (dash : Option ℕ) → last_value at dash [] ≡ None
@@ -72,7 +72,8 @@ left t i c o = drop_more t i c o.within ∙ ap (λ (x : ℕ). x ∷ drop (i + 1)
 next_column : (indent i : ℕ) → indent + i + 1 ≡ indent + (i + 1)
 next_column indent i = omega arith
 
-pub last_value-blank : (indent : ℕ) (dash : Option ℕ) (t : List ℕ) (i c : ℕ) → OnLine t i c → is_blank c ≡ true → last_value (indent + i) dash (drop i t) ≡ last_value (indent + (i + 1)) dash (drop (i + 1) t)
+pub last_value-blank : (indent : ℕ) (dash : Option ℕ) (t : List ℕ) (i c : ℕ) → OnLine t i c → is_blank c ≡ true
+    → last_value (indent + i) dash (drop i t) ≡ last_value (indent + (i + 1)) dash (drop (i + 1) t)
 last_value-blank indent dash t i c o h =
     ap (last_value (indent + i) dash) (left t i c o)
     ∙ (last_value-tests (indent + i) dash c (drop (i + 1) t) true (eqb c 45 && blank_or_end (drop (i + 1) t)) h refl
@@ -89,11 +90,11 @@ last_value-dash indent dash t i c o e h =
     ∙ ap (λ (n : ℕ). last_value n (Some (indent + i)) (drop (i + 1) t)) (next_column indent i))
 
 pub last_value-value : (indent : ℕ) (dash : Option ℕ) (t : List ℕ) (i c : ℕ) → OnLine t i c → is_blank c ≡ false → (eqb c 45 && blank_or_end (drop (i + 1) t)) ≡ false
-    → last_value (indent + i) dash (drop i t) ≡ value_at (indent + i) dash (drop i t) (entry_of (drop i t))
+    → last_value (indent + i) dash (drop i t) ≡ value_at (indent + i) dash (drop i t) (entry_of_line (drop i t))
 last_value-value indent dash t i c o h k =
     ap (last_value (indent + i) dash) (left t i c o)
     ∙ (last_value-tests (indent + i) dash c (drop (i + 1) t) false false h k
-    ∙ ap (λ (cs : List ℕ). value_at (indent + i) dash cs (entry_of cs)) (sym (left t i c o)))
+    ∙ ap (λ (cs : List ℕ). value_at (indent + i) dash cs (entry_of_line cs)) (sym (left t i c o)))
 
 pub last_value-end : (indent : ℕ) (dash : Option ℕ) (t : List ℕ) (i : ℕ) → length t ≤ i → last_value (indent + i) dash (drop i t) ≡ None
 last_value-end indent dash t i past = ap (last_value (indent + i) dash) (drop_all i t past) ∙ last_value-nil (indent + i) dash

@@ -3,13 +3,13 @@ use Rattle.std.proofs.Common.{◌≡◌, ℕ, zero, suc, ◌+◌, ◌*◌, ◌�
 use Rattle.std.proofs.lemmas.List.{length-append}
 use Rattle.std.specs.Char.{encode_utf8, digit_value}
 use Rattle.std.specs.Prelude.{nat_lt}
-use Rattle.yaml_lines.specs.Quoted.{Step, Quoted, is_quote, behind, after_quote, single_step, coded, pair_of, two_digits, four_digits, named, escaped, double_step, step_of, quoted_within, quoted_of}
+use Rattle.yaml_lines.specs.Quoted.{QuotedStep, Quoted, is_quote, behind, after_quote, single_step, coded, pair_of, two_digits, four_digits, named, escaped, double_step, step_of, quoted_within, quoted_of}
 
 -- a line with a line feed and these characters behind it
 abbrev pub line_before : List ℕ → List ℕ → List ℕ
 line_before s cs = cs ++ 10 ∷ s
 
-abbrev longer : List ℕ → Step → Step
+abbrev longer : List ℕ → QuotedStep → QuotedStep
 longer s step = record { character = step.character; rest = line_before s step.rest }
 
 abbrev pub longer_quoted : List ℕ → Quoted → Quoted
@@ -18,7 +18,7 @@ longer_quoted s q = record { text = q.text; rest = line_before s q.rest }
 -- ---- single quotes
 
 after_by : (b : Bool) (c : ℕ) (cs s : List ℕ)
-    → ◌≡◌ {A = Step} (cond b (record { character = Some 39; rest = line_before s cs }) (record { character = None; rest = c ∷ line_before s cs }))
+    → ◌≡◌ {A = QuotedStep} (cond b (record { character = Some 39; rest = line_before s cs }) (record { character = None; rest = c ∷ line_before s cs }))
     (longer s (cond b (record { character = Some 39; rest = cs }) (record { character = None; rest = c ∷ cs })))
 after_by true c cs s = refl
 after_by false c cs s = refl
@@ -71,7 +71,7 @@ two_seam [] (b ∷ s) = ap (option_and_then (coded s)) (no_first_digit b)
 two_seam (a ∷ []) s = ap (option_and_then (coded s)) (no_second_digit a)
 two_seam (a ∷ b ∷ rest) s = two_by (pair_of a b) rest s
 
-abbrev four_of : List ℕ → Option ℕ → Option ℕ → Option Step
+abbrev four_of : List ℕ → Option ℕ → Option ℕ → Option QuotedStep
 four_of rest o p = option_and_then (λ high. option_and_then (λ low. coded rest (high * 256 + low)) p) o
 
 four_by : (o p : Option ℕ) (rest s : List ℕ) → four_of (line_before s rest) o p ≡ option_map (longer s) (four_of rest o p)
@@ -141,10 +141,10 @@ abbrev pub Within : {A : Type 0} → (A → List ℕ) → ℕ → Option A → T
 Within rest n None = Unit {0}
 Within rest n (Some x) = length (rest x) ≤ n
 
-abbrev StepWithin : ℕ → Option Step → Type 0
+abbrev StepWithin : ℕ → Option QuotedStep → Type 0
 StepWithin n o = Within (λ step. step.rest) n o
 
-more_within : (o : Option Step) (m n : ℕ) → m ≤ n → StepWithin m o → StepWithin n o
+more_within : (o : Option QuotedStep) (m n : ℕ) → m ≤ n → StepWithin m o → StepWithin n o
 more_within None m n fits h = tt
 more_within (Some step) m n fits h = omega arith
 
@@ -196,7 +196,8 @@ named_within : (o : Option ℕ) (cs : List ℕ) → StepWithin (length cs) (opti
 named_within None cs = tt
 named_within (Some d) cs = omega arith
 
-escaped_within_by : (a b : Bool) (c : ℕ) (cs : List ℕ) → StepWithin (length cs) (cond a (two_digits cs) (cond b (four_digits cs) (option_map (λ d. record { character = Some d; rest = cs }) (named c))))
+escaped_within_by : (a b : Bool) (c : ℕ) (cs : List ℕ) → StepWithin (length cs)
+    (cond a (two_digits cs) (cond b (four_digits cs) (option_map (λ d. record { character = Some d; rest = cs }) (named c))))
 escaped_within_by true b c cs = two_within cs
 escaped_within_by false true c cs = four_within cs
 escaped_within_by false false c cs = named_within (named c) cs
@@ -205,7 +206,7 @@ escaped_within : (cs : List ℕ) → StepWithin (length cs) (escaped cs)
 unfolding escaped
 escaped_within [] = tt
 escaped_within (c ∷ cs) =
-    let o : Option Step = cond (eqb c 120) (two_digits cs) (cond (eqb c 117) (four_digits cs) (option_map (λ d. record { character = Some d; rest = cs }) (named c))) in
+    let o : Option QuotedStep = cond (eqb c 120) (two_digits cs) (cond (eqb c 117) (four_digits cs) (option_map (λ d. record { character = Some d; rest = cs }) (named c))) in
     more_within o (length cs) (length (c ∷ cs)) (omega arith) (escaped_within_by (eqb c 120) (eqb c 117) c cs)
 
 double_within : (a b d : Bool) (c : ℕ) (cs : List ℕ)
@@ -240,7 +241,7 @@ front_seam : (c : ℕ) (s : List ℕ) (o : Option Quoted) → in_front c (option
 front_seam c s None = refl
 front_seam c s (Some q) = refl
 
-abbrev first_step : (List ℕ → Option Quoted) → Option Step → Option Quoted
+abbrev first_step : (List ℕ → Option Quoted) → Option QuotedStep → Option Quoted
 first_step read o = option_and_then (λ step. behind read step.rest step.character) o
 
 -- a reading of at most n characters, and one that gives the same in front of the line feed
@@ -252,7 +253,7 @@ behind_seam : (s : List ℕ) (n : ℕ) (read more : List ℕ → Option Quoted) 
 behind_seam s n read more rest None alike fits = refl
 behind_seam s n read more rest (Some c) alike fits = ap (in_front c) (alike rest fits) ∙ front_seam c s (read rest)
 
-first_seam : (s : List ℕ) (n : ℕ) (read more : List ℕ → Option Quoted) (o : Option Step) → ReadsAlike s n read more → StepWithin n o
+first_seam : (s : List ℕ) (n : ℕ) (read more : List ℕ → Option Quoted) (o : Option QuotedStep) → ReadsAlike s n read more → StepWithin n o
     → first_step more (option_map (longer s) o) ≡ option_map (longer_quoted s) (first_step read o)
 first_seam s n read more None alike fits = refl
 first_seam s n read more (Some step) alike fits = behind_seam s n read more step.rest step.character alike fits
@@ -274,7 +275,7 @@ no_more mark zero s = within_none mark (10 ∷ s)
 no_more mark (suc n) s =
     within_step mark n (10 ∷ s)
     ∙ (ap (first_step (quoted_within mark n)) (step_seam mark [] s)
-    ∙ ap (λ (o : Option Step). first_step (quoted_within mark n) (option_map (longer s) o)) (no_step mark))
+    ∙ ap (λ (o : Option QuotedStep). first_step (quoted_within mark n) (option_map (longer s) o)) (no_step mark))
 
 within_seam : (mark m n : ℕ) (s cs : List ℕ) → length cs ≤ m → length cs ≤ n → quoted_within mark n (line_before s cs) ≡ option_map (longer_quoted s) (quoted_within mark m cs)
 within_seam mark m n s [] f g = no_more mark n s ∙ ap (option_map (longer_quoted s)) (sym (nothing_within mark m))
@@ -287,7 +288,8 @@ within_seam mark (suc m) (suc n) s (c ∷ cs) f g =
     ∙ (first_seam s (length cs) (quoted_within mark m) (quoted_within mark n) (step_of mark (c ∷ cs)) alike (step_within mark c cs)
     ∙ ap (option_map (longer_quoted s)) (sym (within_step mark m (c ∷ cs)))))
 
-quoted_by : (b : Bool) (c : ℕ) (cs s : List ℕ) → cond b (quoted_within c (length (line_before s cs)) (line_before s cs)) None ≡ option_map (longer_quoted s) (cond b (quoted_within c (length cs) cs) None)
+quoted_by : (b : Bool) (c : ℕ) (cs s : List ℕ) → cond b (quoted_within c (length (line_before s cs)) (line_before s cs)) None
+    ≡ option_map (longer_quoted s) (cond b (quoted_within c (length cs) cs) None)
 quoted_by true c cs s =
     let fits : length cs ≤ length (line_before s cs) = omega (arith, length-append cs (10 ∷ s)) in within_seam c (length cs) (length (line_before s cs)) s cs (omega arith) fits
 quoted_by false c cs s = refl
@@ -306,7 +308,8 @@ front_within : (c n : ℕ) (o : Option Quoted) → QuotedWithin n o → QuotedWi
 front_within c n None h = tt
 front_within c n (Some q) h = h
 
-behind_within : (n : ℕ) (read : List ℕ → Option Quoted) (rest : List ℕ) (character : Option ℕ) → ((cs : List ℕ) → QuotedWithin (length cs) (read cs)) → length rest ≤ n → QuotedWithin n (behind read rest character)
+behind_within : (n : ℕ) (read : List ℕ → Option Quoted) (rest : List ℕ) (character : Option ℕ) → ((cs : List ℕ) → QuotedWithin (length cs) (read cs)) → length rest ≤ n
+    → QuotedWithin n (behind read rest character)
 behind_within n read rest None more fits = fits
 behind_within n read rest (Some c) more fits = front_within c n (read rest) (weaker (read rest) (length rest) n fits (more rest))
   where
@@ -314,7 +317,7 @@ behind_within n read rest (Some c) more fits = front_within c n (read rest) (wea
     weaker None m n fits h = tt
     weaker (Some q) m n fits h = omega arith
 
-first_within : (n : ℕ) (read : List ℕ → Option Quoted) (o : Option Step) → ((cs : List ℕ) → QuotedWithin (length cs) (read cs)) → StepWithin n o → QuotedWithin n (first_step read o)
+first_within : (n : ℕ) (read : List ℕ → Option Quoted) (o : Option QuotedStep) → ((cs : List ℕ) → QuotedWithin (length cs) (read cs)) → StepWithin n o → QuotedWithin n (first_step read o)
 first_within n read None more h = tt
 first_within n read (Some step) more h = behind_within n read step.rest step.character more h
 
@@ -323,11 +326,12 @@ unfolding quoted_within
 steps_within mark zero cs = tt
 steps_within mark (suc m) [] = first_within (length {A = ℕ} []) (quoted_within mark m) (step_of mark []) (steps_within mark m) (nothing (step_of mark []) (no_step mark))
   where
-    nothing : (o : Option Step) → o ≡ None → StepWithin 0 o
+    nothing : (o : Option QuotedStep) → o ≡ None → StepWithin 0 o
     nothing None e = tt
     nothing (Some step) e = absurd (cc)
 steps_within mark (suc m) (c ∷ cs) =
-    first_within (length (c ∷ cs)) (quoted_within mark m) (step_of mark (c ∷ cs)) (steps_within mark m) (more_within (step_of mark (c ∷ cs)) (length cs) (length (c ∷ cs)) (omega arith) (step_within mark c cs))
+    first_within (length (c ∷ cs)) (quoted_within mark m) (step_of mark (c ∷ cs)) (steps_within mark m)
+    (more_within (step_of mark (c ∷ cs)) (length cs) (length (c ∷ cs)) (omega arith) (step_within mark c cs))
 
 quoted_within_by : (b : Bool) (c : ℕ) (cs : List ℕ) → QuotedWithin (length cs) (cond b (quoted_within c (length cs) cs) None)
 quoted_within_by true c cs = steps_within c (length cs) cs

@@ -7,7 +7,7 @@ use Rattle.std.specs.Str.{encode_utf8_all}
 use Rattle.yaml_lines.specs.Meaning.{Meaning, text}
 use Rattle.yaml_lines.specs.Plain.{is_indicator, is_mark_character, begins_plain, plain_of, sides_of, trim_end, uncommented}
 use Rattle.yaml_lines.specs.Characters.{blank_or_end}
-use Rattle.yaml_lines.specs.Quoted.{Step, Quoted, behind, is_quote, begins_quoted, after_quote, escaped, single_step, double_step, step_of, quoted_within, quoted_of}
+use Rattle.yaml_lines.specs.Quoted.{QuotedStep, Quoted, behind, is_quote, begins_quoted, after_quote, escaped, single_step, double_step, step_of, quoted_within, quoted_of}
 use Rattle.yaml_lines.specs.QuotingLaws.{IsPlainAlone, in_quotes, fits_single, fits_double}
 use Rattle.yaml_lines.specs.Scalars.{alone, scalar_meaning}
 
@@ -83,7 +83,7 @@ unfolding double_step
 double_one c rest e =
     let it = neither (eqb c 34 || eqb c 92) (eqb c 10) e in
     let its = neither (eqb c 34) (eqb c 92) (ap not it.0) in
-    let last : Option Step = Some (record { character = Some c; rest = rest }) in
+    let last : Option QuotedStep = Some (record { character = Some c; rest = rest }) in
     ap (λ (b : Bool). cond b (Some (record { character = None; rest = rest })) (cond (eqb c 92) (escaped rest) (cond (eqb c 10) None last))) its.0
     ∙ (ap (λ (b : Bool). cond b (escaped rest) (cond (eqb c 10) None last)) its.1 ∙ ap (λ (b : Bool). cond b None last) it.1)
 
@@ -102,12 +102,12 @@ module _ (mark : ℕ) (stands : ℕ → Bool) (one : (c : ℕ) (rest : List ℕ)
       → quoted_within mark (suc most) (c ∷ rest) ≡ Some (record { text = encode_utf8 c ++ q.text; rest = q.rest })
   unfolding quoted_within
   one_more c rest most q it more =
-      ap (λ (o : Option Step). option_and_then (λ step. behind (quoted_within mark most) step.rest step.character) o) (one c rest it)
+      ap (λ (o : Option QuotedStep). option_and_then (λ step. behind (quoted_within mark most) step.rest step.character) o) (one c rest it)
       ∙ ap (λ (o : Option Quoted). option_map (λ q. record { text = encode_utf8 c ++ q.text; rest = q.rest }) o) more
 
   no_more : quoted_within mark (suc zero) (mark ∷ []) ≡ Some (record { text = []; rest = [] })
   unfolding quoted_within
-  no_more = ap (λ (o : Option Step). option_and_then (λ step. behind (quoted_within mark zero) step.rest step.character) o) last
+  no_more = ap (λ (o : Option QuotedStep). option_and_then (λ step. behind (quoted_within mark zero) step.rest step.character) o) last
 
   all_within : (cs : List ℕ) → list_all stands cs ≡ true → quoted_within mark (length (cs ++ mark ∷ [])) (cs ++ mark ∷ []) ≡ Some (record { text = encode_utf8_all cs; rest = [] })
   all_within [] all = no_more

@@ -31,7 +31,8 @@ and_false : (b : Bool) → (b && false) ≡ false
 and_false true = refl
 and_false false = refl
 
-feed_line : (b : Bool) (c : ℕ) (ls : List LineText) → cond (b && true) (record { text = []; ended = true } ∷ ls) (record { text = c ∷ []; ended = true } ∷ ls) ≡ record { text = cond (b && true) [] (c ∷ []); ended = true } ∷ ls
+feed_line : (b : Bool) (c : ℕ) (ls : List LineText) → cond (b && true) (record { text = []; ended = true } ∷ ls) (record { text = c ∷ []; ended = true } ∷ ls)
+    ≡ record { text = cond (b && true) [] (c ∷ []); ended = true } ∷ ls
 feed_line true c ls = refl
 feed_line false c ls = refl
 

@@ -6,7 +6,7 @@ use Rattle.yaml_lines.specs.Characters.{is_space, is_allowed, begins_with, comme
 use Rattle.yaml_lines.specs.Entries.{ContentLine}
 use Rattle.yaml_lines.specs.FlowLines.{outside, is_closed, skim, state_behind}
 use Rattle.yaml_lines.specs.LineLaws.{says_nothing, saying, is_block, begins_text}
-use Rattle.yaml_lines.specs.Lines.{ColumnValue, last_value, Left, standing, bare, with_text, with_value, with_flow, left_of, left_at, before_content_lines, all_content_lines, document, content_lines_from}
+use Rattle.yaml_lines.specs.Lines.{ColumnValue, last_value, Left, standing, bare, with_text, with_value, with_flow, left_of, left_at_line, before_content_lines, all_content_lines, document, content_lines_from}
 use Rattle.yaml_lines.specs.declared.flow_state.FlowState.{FlowState}
 use Rattle.yaml_lines.proofs.Left.{left_of-nothing}
 
@@ -89,8 +89,9 @@ unplaced None = refl
 unplaced (Some ps) = refl
 
 places_step : (flow : FlowState) (line : LineText) (lines : List LineText)
-    → all_content_lines (standing 0 flow) (line ∷ lines) ≡ option_and_then (λ left. option_map (before_content_lines left.content_line) (all_content_lines left.next lines)) (left_of flow line.text lines)
-unfolding all_content_lines left_at
+    → all_content_lines (standing 0 flow) (line ∷ lines) ≡ option_and_then (λ left. option_map (before_content_lines left.content_line) (all_content_lines left.next lines))
+    (left_of flow line.text lines)
+unfolding all_content_lines left_at_line
 places_step flow line lines = refl
 
 -- the content lines of these lines are those of the others, whatever flow is open
@@ -116,9 +117,11 @@ no_line line lines others e same flow =
     same flow
     ∙ (sym (unplaced (all_content_lines (standing 0 flow) others))
     ∙ sym (places_step flow line others
-    ∙ ap (λ (o : Option Left). option_and_then (λ left. option_map (before_content_lines left.content_line) (all_content_lines left.next others)) o) (left_of-nothing flow line.text others parts.0 parts.1)))
+    ∙ ap (λ (o : Option Left). option_and_then (λ left. option_map (before_content_lines left.content_line) (all_content_lines left.next others)) o)
+    (left_of-nothing flow line.text others parts.0 parts.1)))
 
-by_line : (b : Bool) (line : LineText) (lines others : List LineText) → says_nothing line ≡ b → begins_text line ≡ false → AreAlike lines others → AreAlike (cond (not b) (line ∷ lines) lines) (line ∷ others)
+by_line : (b : Bool) (line : LineText) (lines others : List LineText) → says_nothing line ≡ b → begins_text line ≡ false → AreAlike lines others
+    → AreAlike (cond (not b) (line ∷ lines) lines) (line ∷ others)
 by_line true line lines others e none_begins same = no_line line lines others e same
 by_line false line lines others e none_begins same = one_line line lines others none_begins same
 

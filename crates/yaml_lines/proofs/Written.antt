@@ -8,7 +8,7 @@ use Rattle.std.specs.Str.{encode_utf8_all}
 use Rattle.yaml_lines.specs.Characters.{is_over}
 use Rattle.yaml_lines.specs.Meaning.{text}
 use Rattle.yaml_lines.specs.Plain.{plain_of}
-use Rattle.yaml_lines.specs.Quoted.{Step, Quoted, behind, is_quote, after_quote, single_step, named, escaped, double_step, step_of, quoted_within, quoted_of}
+use Rattle.yaml_lines.specs.Quoted.{QuotedStep, Quoted, behind, is_quote, after_quote, single_step, named, escaped, double_step, step_of, quoted_within, quoted_of}
 use Rattle.yaml_lines.specs.QuotingLaws.{in_quotes, doubled, escaped as escape, holds_no_feed}
 use Rattle.yaml_lines.specs.Scalars.{alone, scalar_meaning}
 
@@ -17,7 +17,7 @@ both true b e = (refl, e)
 both false b e = absurd (cc)
 
 -- the step that reads this character, with these characters behind it
-abbrev pub reads : ℕ → List ℕ → Option Step
+abbrev pub reads : ℕ → List ℕ → Option QuotedStep
 reads c rest = Some (record { character = Some c; rest = rest })
 
 -- Each character that passes the test is read from what is written for it, and the mark in front of the tail ends the
@@ -25,7 +25,7 @@ reads c rest = Some (record { character = Some c; rest = rest })
 module _ (mark : ℕ) (write : ℕ → List ℕ) (fits : ℕ → Bool) (some : (c : ℕ) → 1 ≤ length (write c))
     (one : (c : ℕ) (rest : List ℕ) → fits c ≡ true → step_of mark (write c ++ rest) ≡ reads c rest)
     (tail : List ℕ) (last : step_of mark (mark ∷ tail) ≡ Some (record { character = None; rest = tail })) where
-  abbrev first_step : ℕ → Option Step → Option Quoted
+  abbrev first_step : ℕ → Option QuotedStep → Option Quoted
   first_step most o = option_and_then (λ step. behind (quoted_within mark most) step.rest step.character) o
 
   one_more : (c : ℕ) (rest : List ℕ) (most : ℕ) (q : Quoted) → fits c ≡ true → quoted_within mark most rest ≡ Some q
@@ -38,7 +38,8 @@ module _ (mark : ℕ) (write : ℕ → List ℕ) (fits : ℕ → Bool) (some : (
   unfolding quoted_within
   no_more most = ap (first_step most) last
 
-  written_within : (cs : List ℕ) (most : ℕ) → list_all fits cs ≡ true → length cs < most → quoted_within mark most (flat_map write cs ++ mark ∷ tail) ≡ Some (record { text = encode_utf8_all cs; rest = tail })
+  written_within : (cs : List ℕ) (most : ℕ) → list_all fits cs ≡ true → length cs < most
+      → quoted_within mark most (flat_map write cs ++ mark ∷ tail) ≡ Some (record { text = encode_utf8_all cs; rest = tail })
   written_within cs zero all room = absurd (omega arith)
   written_within [] (suc most) all room = no_more most
   written_within (c ∷ cs) (suc most) all room =
@@ -60,7 +61,8 @@ module _ (mark : ℕ) (write : ℕ → List ℕ) (fits : ℕ → Bool) (some : (
       let t : List ℕ = flat_map write cs ++ mark ∷ tail in
       ap (λ (b : Bool). cond b (quoted_within mark (length t) t) None) quote ∙ written_within cs (length t) all (long_enough cs)
 
-  written_meaning : (cs : List ℕ) → is_quote mark ≡ true → list_all fits cs ≡ true → is_over tail ≡ true → scalar_meaning (mark ∷ (flat_map write cs ++ mark ∷ tail)) ≡ Some (text (encode_utf8_all cs) true)
+  written_meaning : (cs : List ℕ) → is_quote mark ≡ true → list_all fits cs ≡ true → is_over tail ≡ true
+      → scalar_meaning (mark ∷ (flat_map write cs ++ mark ∷ tail)) ≡ Some (text (encode_utf8_all cs) true)
   unfolding scalar_meaning
   written_meaning cs quote all over =
       let t : List ℕ = mark ∷ (flat_map write cs ++ mark ∷ tail) in
@@ -121,4 +123,5 @@ all_pass (c ∷ cs) = all_pass cs
 pub double_written : (cs : List ℕ) → scalar_meaning (in_quotes 34 (flat_map escape cs)) ≡ Some (text (encode_utf8_all cs) true)
 unfolding double_step
 double_written cs =
-    written_meaning 34 escape (λ c. true) (λ c. escape_some (eqb c 34 || eqb c 92) (eqb c 10) c) (λ c rest fits. double_by (eqb c 34 || eqb c 92) (eqb c 10) c rest refl refl) [] refl cs refl (all_pass cs) refl
+    written_meaning 34 escape (λ c. true) (λ c. escape_some (eqb c 34 || eqb c 92) (eqb c 10) c) (λ c rest fits. double_by (eqb c 34 || eqb c 92) (eqb c 10) c rest refl refl) [] refl cs refl
+    (all_pass cs) refl

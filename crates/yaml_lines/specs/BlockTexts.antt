@@ -110,7 +110,8 @@ unfoldable pub joined : Header → List LineText → List ℕ
 joined header [] = []
 joined header (line ∷ later) =
     encode_utf8_all line.text
-    ++ (if has_text later then line_end header.folded line later ++ joined header later else last_ends header.chomping line later)
+    ++ (if has_text later then line_end header.folded line later ++ joined header later else last_ends header.chomping
+    line later)
 
 -- the text of a block text with this header and margin, from the lines that belong to it
 abbrev pub block_text : Header → Option ℕ → List LineText → List ℕ

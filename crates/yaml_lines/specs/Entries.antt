@@ -55,11 +55,12 @@ behind_colon [] = None
 behind_colon (c ∷ cs) = if c == 58 && blank_or_end cs then Some cs else None
 
 abbrev pub quoted_entry : Quoted → Option KeyAndValue
-quoted_entry quoted = option_map (λ cs. record { key = quoted.text; value = value_behind cs }) (behind_colon (trim_start quoted.rest))
+quoted_entry quoted =
+    option_map (λ cs. record { key = quoted.text; value = value_behind cs }) (behind_colon (trim_start quoted.rest))
 
 -- The entry that the content is: a plain or quoted text as its key, a colon before a blank or the end, and
 -- the value. None if the content begins in another way.
-unfoldable pub entry_of : List ℕ → Option KeyAndValue
-entry_of content =
+unfoldable pub entry_of_line : List ℕ → Option KeyAndValue
+entry_of_line content =
     if begins_quoted content then option_and_then quoted_entry (quoted_of content)
     else (if begins_plain content then option_map plain_entry (sides_of true content) else None)

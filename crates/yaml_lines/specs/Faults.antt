@@ -8,16 +8,16 @@ use Rattle.yaml_lines.specs.declared.fault.YamlKind.{YamlKind}
 use Rattle.yaml_lines.specs.declared.fault.YamlKind.TheVariants.{NotUtf8, TabIndent, Unsupported, Layout, Quote, DoubledKey, TooDeep, TooLarge, OutOfMemory}
 
 -- a refusal's number
-abbrev pub number_of : YamlKind → ℕ
-number_of NotUtf8 = 1
-number_of TabIndent = 2
-number_of Unsupported = 3
-number_of Layout = 4
-number_of Quote = 5
-number_of DoubledKey = 6
-number_of TooDeep = 7
-number_of TooLarge = 8
-number_of OutOfMemory = 9
+abbrev pub yaml_fault_number : YamlKind → ℕ
+yaml_fault_number NotUtf8 = 1
+yaml_fault_number TabIndent = 2
+yaml_fault_number Unsupported = 3
+yaml_fault_number Layout = 4
+yaml_fault_number Quote = 5
+yaml_fault_number DoubledKey = 6
+yaml_fault_number TooDeep = 7
+yaml_fault_number TooLarge = 8
+yaml_fault_number OutOfMemory = 9
 
 -- An answer is what the text means, seen by `see`. A fault other than want of memory comes only if the text
 -- means nothing.
@@ -45,12 +45,12 @@ is_memory OutOfMemory = true
 is_memory _ = false
 
 -- the line that a fault of this kind names if it was found in `line`
-abbrev pub line_at : YamlKind → ℕ → ℕ
-line_at kind line = if is_memory kind then 0 else line
+abbrev pub line_of_fault : YamlKind → ℕ → ℕ
+line_of_fault kind line = if is_memory kind then 0 else line
 
 -- the fault names this line; want of memory names line 0
 abbrev pub StandsAt : ℕ → YamlFault → Type 0
-StandsAt line fault = fault.line ≡ line_at fault.kind line
+StandsAt line fault = fault.line ≡ line_of_fault fault.kind line
 
 -- the line, from 1, of a byte that follows these
 abbrev pub line_behind : List ℕ → ℕ
@@ -61,7 +61,8 @@ line_behind bytes = count_by (λ byte. byte == 10) bytes + 1
 abbrev pub fault_of_bytes : List ℕ → Option YamlFault
 fault_of_bytes bytes =
     if nat_lt most_bytes (length bytes) then Some (record { kind = TooLarge; line = 1 })
-    else (if is_utf8 bytes then None else Some (record { kind = NotUtf8; line = line_behind (take (utf8_valid_len bytes) bytes) }))
+    else (if is_utf8 bytes then None else Some
+    (record { kind = NotUtf8; line = line_behind (take (utf8_valid_len bytes) bytes) }))
 
 -- there are more bytes than a text may have
 abbrev pub too_large : YamlFault

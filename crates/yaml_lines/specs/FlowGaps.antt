@@ -24,7 +24,8 @@ in_comment comment c = (comment || c == 35) && not (is_feed c)
 -- what follows a gap
 unfoldable pub behind_gap : Bool → Bool → List ℕ → List ℕ
 behind_gap comment free [] = []
-behind_gap comment free (c ∷ cs) = if is_of_gap comment free c then behind_gap (in_comment comment c) true cs else c ∷ cs
+behind_gap comment free (c ∷ cs) =
+    if is_of_gap comment free c then behind_gap (in_comment comment c) true cs else c ∷ cs
 
 -- what follows the gap after a bracket, a comma, a colon or a text
 abbrev pub after_gap : List ℕ → List ℕ

@@ -7,8 +7,8 @@ use Rattle.yaml_lines.specs.BlockTexts.{LineText, header_of, begins_block, margi
 use Rattle.yaml_lines.specs.Characters.{characters_of, is_space, is_blank, is_allowed, is_nil, is_over, begins_with, blank_or_end, comment_or_end, trim_start}
 use Rattle.yaml_lines.specs.declared.header.Header.{Header}
 use Rattle.yaml_lines.specs.declared.flow_state.FlowState.{FlowState}
-use Rattle.yaml_lines.specs.declared.standing.Standing.{Standing}
-use Rattle.yaml_lines.specs.Entries.{ContentLine, KeyAndValue, entry_of}
+use Rattle.yaml_lines.specs.declared.line_state.LineState.{LineState}
+use Rattle.yaml_lines.specs.Entries.{ContentLine, KeyAndValue, entry_of_line}
 use Rattle.yaml_lines.specs.FlowLines.{outside, is_closed, skim, state_behind}
 
 -- one character more before the first line
@@ -45,19 +45,20 @@ last_value at dash [] = None
 last_value at dash (c ∷ cs) =
     if is_blank c then last_value (at + 1) dash cs
     else (if c == 45 && blank_or_end cs then last_value (at + 1) (Some at) cs
-    else value_at at dash (c ∷ cs) (entry_of (c ∷ cs)))
+    else value_at at dash (c ∷ cs) (entry_of_line (c ∷ cs)))
 
 -- what a line leaves: where the next line is, and a content line unless it holds only blanks or a comment
 pub record Left : Type 0 where
   pub content_line : Option ContentLine
-  pub next : Standing
+  pub next : LineState
 
-abbrev pub standing : ℕ → FlowState → Standing
+abbrev pub standing : ℕ → FlowState → LineState
 standing taken flow = record { taken = taken; flow = flow }
 
 -- a content line without a block text, after which this flow is open
 abbrev pub bare : ℕ → List ℕ → FlowState → Left
-bare indent content flow = record { content_line = Some (record { indent = indent; content = content; block = None }); next = standing 0 flow }
+bare indent content flow =
+    record { content_line = Some (record { indent = indent; content = content; block = None }); next = standing 0 flow }
 
 -- a content line whose last value is a block text with this header and margin; none if a line before its
 -- text is ragged
@@ -65,7 +66,13 @@ unfoldable pub with_text : ℕ → List ℕ → List LineText → Option ℕ →
 with_text indent content later margin header =
     if is_ragged margin later then None
     else Some (record {
-      content_line = Some (record { indent = indent; content = content; block = Some (block_text header margin (take (extent margin later) later)) });
+      content_line =
+          Some (record {
+            indent = indent;
+            content = content;
+            block = Some
+                (block_text header margin (take (extent margin later) later));
+          });
       next = standing (extent margin later) outside;
     })
 
@@ -101,18 +108,19 @@ left_by (suc taken) flow text later =
     if list_all is_allowed text then Some (record { content_line = None; next = standing taken flow }) else None
 
 -- what a line leaves at its place
-unfoldable pub left_at : Standing → List ℕ → List LineText → Option Left
-left_at at text later = left_by at.taken at.flow text later
+unfoldable pub left_at_line : LineState → List ℕ → List LineText → Option Left
+left_at_line at text later = left_by at.taken at.flow text later
 
 abbrev pub before_content_lines : Option ContentLine → List ContentLine → List ContentLine
 before_content_lines None later = later
 before_content_lines (Some p) later = p ∷ later
 
 -- the content lines of all lines, the first of which is at this place
-unfoldable pub all_content_lines : Standing → List LineText → Option (List ContentLine)
+unfoldable pub all_content_lines : LineState → List LineText → Option (List ContentLine)
 all_content_lines at [] = Some []
 all_content_lines at (l ∷ ls) =
-    option_and_then (λ left. option_map (before_content_lines left.content_line) (all_content_lines left.next ls)) (left_at at l.text ls)
+    option_and_then (λ left. option_map (before_content_lines left.content_line) (all_content_lines left.next ls))
+    (left_at_line at l.text ls)
 
 -- the first three characters are `m`
 abbrev pub three : ℕ → List ℕ → Bool
@@ -124,7 +132,8 @@ three m _ = false
 abbrev pub is_mark : ContentLine → Bool
 is_mark p =
     p.indent == 0
-    && ((three 45 p.content && blank_or_end (drop 3 p.content)) || (three 46 p.content && blank_or_end (drop 3 p.content)) || begins_with 37 p.content)
+    && ((three 45 p.content && blank_or_end (drop 3 p.content)) ||
+    (three 46 p.content && blank_or_end (drop 3 p.content)) || begins_with 37 p.content)
 
 -- `---`, with at most a comment after it (section 9.1.4 "Explicit Documents")
 abbrev pub is_start : ContentLine → Bool

@@ -36,6 +36,6 @@ nodes no_meanings = []
 nodes (meaning m ms) = m ∷ nodes ms
 
 -- the keys of a table with their values, in the order of the text
-abbrev pub rows : Members → List (List ℕ × Meaning)
-rows no_members = []
-rows (member key value ms) = (key, value) ∷ rows ms
+abbrev pub rows_of_members : Members → List (List ℕ × Meaning)
+rows_of_members no_members = []
+rows_of_members (member key value ms) = (key, value) ∷ rows_of_members ms

@@ -6,15 +6,15 @@ ghost use Rattle.std.specs.Prelude.{◌≡◌, ◌+◌, ◌^◌, ◌<◌, ◌≤
 ghost use Rattle.yaml_lines.specs.Characters.{most_bytes};
 ghost use Rattle.yaml_lines.specs.Entries.{ContentLine};
 ghost use Rattle.yaml_lines.specs.Faults.{Gives, GivesSurely, GivesUpTo, IsInLines, StandsWithin};
-ghost use Rattle.yaml_lines.specs.Lines.{bare, is_mark, is_start, last_value, left_at, left_by, left_of, content_lines_from, with_flow, with_text, with_value};
+ghost use Rattle.yaml_lines.specs.Lines.{bare, is_mark, is_start, last_value, left_at_line, left_by, left_of, content_lines_from, with_flow, with_text, with_value};
 
 use crate::block_lines::{begins_block, extent, header_of, margin_of, ragged_at};
 use crate::flow_state::{FlowState, skim, state_behind};
 use crate::last_value::{LastValue, last_value};
+use crate::line_state::LineState;
 use crate::scan::{
     after_blanks, all_allowed, begins_with_tab, blank_or_end, comment_or_end, is_over, skip, spaces,
 };
-use crate::standing::Standing;
 use crate::{BlockText, Header, Line, RawLine, YamlFault, YamlKind};
 use std::alloc::{AllocError, Global};
 use std::marker::Model;
@@ -33,7 +33,7 @@ pub struct Lines<'a, 'b> {
 #[derive(Drop)]
 struct LeftLine<'a, 'b> {
     line: Option<Line<'a, 'b>>,
-    next: Standing,
+    next: LineState,
 }
 
 impl<'a, 'b> Model for LeftLine<'a, 'b> {
@@ -56,7 +56,7 @@ fn bare<'a, 'b>(
 {
     LeftLine {
         line: Some(Line::new(number, indent, content, None)),
-        next: Standing { taken: 0, flow },
+        next: LineState { taken: 0, flow },
     }
 }
 
@@ -85,7 +85,7 @@ fn with_text<'a, 'b>(
     let block = BlockText::new(header, margin, &later[..taken]);
     Ok(LeftLine {
         line: Some(Line::new(number, indent, content, Some(block))),
-        next: Standing {
+        next: LineState {
             taken,
             flow: FlowState::outside(),
         },
@@ -169,7 +169,7 @@ fn left_of<'a, 'b>(
     if comment_or_end(after_blanks(text)) {
         return Ok(LeftLine {
             line: None,
-            next: Standing { taken: 0, flow },
+            next: LineState { taken: 0, flow },
         });
     }
     let indent = spaces(text);
@@ -184,17 +184,17 @@ fn left_of<'a, 'b>(
 }
 
 // What the line leaves at this place. A line of a block text leaves nothing.
-#[tactic(auto, unfolding(crate::specs::Lines::left_at))]
+#[tactic(auto, unfolding(crate::specs::Lines::left_at_line))]
 fn left_at<'a, 'b>(
     alloc: Global,
-    at: Standing,
+    at: LineState,
     number: usize,
     text: &'b [char],
     later: &'a [RawLine<'b>],
 ) -> Result<LeftLine<'a, 'b>, YamlFault>
     requires content { length text.now ≤ most_bytes }
     requires numbers { number + length later.now < 2 ^ 64 }
-    ensures meant { Gives (λ left. left) result (left_at at text.now later.now) }
+    ensures meant { Gives (λ left. left) result (left_at_line at text.now later.now) }
     ensures place { IfErr result (StandsWithin number (number + length later.now)) }
 {
     if at.taken == 0 {
@@ -208,7 +208,7 @@ fn left_at<'a, 'b>(
     }
     Ok(LeftLine {
         line: None,
-        next: Standing {
+        next: LineState {
             taken: at.taken - 1,
             flow: at.flow,
         },
@@ -260,7 +260,7 @@ pub fn read_lines<'a, 'b>(
 {
     let mut lines = Vec::new(alloc);
     let mut fresh = true;
-    let mut at = Standing {
+    let mut at = LineState {
         taken: 0,
         flow: FlowState::outside(),
     };

@@ -3,7 +3,7 @@
 //! The contracts cite `specs/Entries.antt`.
 
 ghost use Rattle.std.specs.Prelude.{◌≡◌, true, IfOk, option_and_then, option_copied, option_map, string_bytes};
-ghost use Rattle.yaml_lines.specs.Entries.{behind_colon, entry_of, plain_entry, quoted_entry, value_behind};
+ghost use Rattle.yaml_lines.specs.Entries.{behind_colon, entry_of_line, plain_entry, quoted_entry, value_behind};
 ghost use Rattle.yaml_lines.specs.Plain.{sides_of};
 ghost use Rattle.yaml_lines.specs.Quoted.{quoted_of};
 
@@ -112,9 +112,9 @@ fn quoted_entry<'a>(alloc: Global, content: &'a [char]) -> Result<Option<Entry<'
 
 /// The entry that a content is. Its key is a plain or quoted text, then comes a `:` before a blank or the
 /// end, then a value. None if the content begins in another way.
-#[tactic(auto, unfolding(crate::specs::Entries::entry_of))]
+#[tactic(auto, unfolding(crate::specs::Entries::entry_of_line))]
 pub fn read_entry<'a>(alloc: Global, content: &'a [char]) -> Result<Option<Entry<'a>>, AllocError>
-    ensures { IfOk result (λ entry. entry ≡ entry_of content.now) }
+    ensures { IfOk result (λ entry. entry ≡ entry_of_line content.now) }
 {
     if begins_quoted(content) {
         quoted_entry(alloc, content)

@@ -40,11 +40,11 @@ pub enum YamlKind {
 }
 
 impl YamlKind {
-    ghost use Rattle.yaml_lines.specs.Faults.{number_of};
+    ghost use Rattle.yaml_lines.specs.Faults.{yaml_fault_number};
 
     /// The refusal's number, from 1 to 9.
     pub fn number(&self) -> u8
-        ensures { result ≡ number_of self.now }
+        ensures { result ≡ yaml_fault_number self.now }
     {
         match *self {
             YamlKind::NotUtf8 => 1,

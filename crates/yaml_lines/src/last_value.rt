@@ -4,7 +4,7 @@
 
 ghost use Rattle.std.specs.Prelude.{◌≡◌, ◌+◌, ◌≤◌, IfOk, None, length};
 ghost use Rattle.yaml_lines.specs.Characters.{most_bytes};
-ghost use Rattle.yaml_lines.specs.Entries.{entry_of};
+ghost use Rattle.yaml_lines.specs.Entries.{entry_of_line};
 ghost use Rattle.yaml_lines.specs.Lines.{last_value, value_at};
 
 use crate::read_entry;
@@ -49,7 +49,7 @@ fn value_at<'a>(
     dash: Option<usize>,
     content: &'a [char],
 ) -> Result<Option<LastValue<'a>>, AllocError>
-    ensures { IfOk result (λ value. value ≡ value_at at dash content.now (entry_of content.now)) }
+    ensures { IfOk result (λ value. value ≡ value_at at dash content.now (entry_of_line content.now)) }
 {
     if let Some(entry) = read_entry(alloc, content)? {
         return Ok(Some(LastValue {

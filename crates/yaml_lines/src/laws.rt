@@ -6,7 +6,7 @@ ghost use Rattle.std.specs.List.{list_all, list_any};
 ghost use Rattle.yaml_lines.specs.BlockLaws.{literal, all_indented, text_of_lines, begins_bare, ends_full};
 ghost use Rattle.yaml_lines.specs.BlockTexts.{LineText, margin_of, extent, is_ragged, block_text};
 ghost use Rattle.yaml_lines.specs.Characters.{blank_or_end, comment_or_end, is_over, most_bytes};
-ghost use Rattle.yaml_lines.specs.Entries.{ContentLine, KeyAndValue, entry_of, is_item, item_of, value_behind};
+ghost use Rattle.yaml_lines.specs.Entries.{ContentLine, KeyAndValue, entry_of_line, is_item, item_of, value_behind};
 ghost use Rattle.yaml_lines.specs.LineLaws.{saying, begins_text, holds_no_bar, ended};
 ghost use Rattle.yaml_lines.specs.Lines.{standing, all_content_lines, last_value, content_lines_from};
 ghost use Rattle.yaml_lines.specs.declared.header.Chomping.TheVariants.{Clip, Keep};
@@ -25,7 +25,8 @@ use crate::MOST_BYTES;
 /// `8080` have the same characters. A reader that separates texts from numbers sees by the mark which of
 /// them may be a number.
 pub fn quoting_keeps_the_text()
-    ensures bare { (content bytes : List ℕ) → IsPlainAlone content bytes → scalar_meaning content ≡ Some (text bytes false) }
+    ensures bare { (content bytes : List ℕ) → IsPlainAlone content bytes
+        → scalar_meaning content ≡ Some (text bytes false) }
     ensures single { (content bytes : List ℕ) → IsPlainAlone content bytes → fits_single content ≡ true
         → scalar_meaning (in_quotes 39 content) ≡ Some (text bytes true) }
     ensures double { (content bytes : List ℕ) → IsPlainAlone content bytes → fits_double content ≡ true
@@ -37,11 +38,13 @@ pub fn quoting_keeps_the_text()
 /// true as texts.
 pub fn quoting_a_key_changes_nothing()
     ensures bare { (key bytes behind : List ℕ) → IsPlainAlone key bytes → blank_or_end behind ≡ true
-        → entry_of (key ++ 58 ∷ behind) ≡ Some (record { key = bytes; value = value_behind behind }) }
-    ensures single { (key bytes behind : List ℕ) → IsPlainAlone key bytes → fits_single key ≡ true → blank_or_end behind ≡ true
-        → entry_of (in_quotes 39 key ++ 58 ∷ behind) ≡ Some (record { key = bytes; value = value_behind behind }) }
-    ensures double { (key bytes behind : List ℕ) → IsPlainAlone key bytes → fits_double key ≡ true → blank_or_end behind ≡ true
-        → entry_of (in_quotes 34 key ++ 58 ∷ behind) ≡ Some (record { key = bytes; value = value_behind behind }) }
+        → entry_of_line (key ++ 58 ∷ behind) ≡ Some (record { key = bytes; value = value_behind behind }) }
+    ensures single { (key bytes behind : List ℕ) → IsPlainAlone key bytes → fits_single key ≡ true
+        → blank_or_end behind ≡ true
+        → entry_of_line (in_quotes 39 key ++ 58 ∷ behind) ≡ Some (record { key = bytes; value = value_behind behind }) }
+    ensures double { (key bytes behind : List ℕ) → IsPlainAlone key bytes → fits_double key ≡ true
+        → blank_or_end behind ≡ true
+        → entry_of_line (in_quotes 34 key ++ 58 ∷ behind) ≡ Some (record { key = bytes; value = value_behind behind }) }
 {}
 
 /// Every text can be written in quotes. Single quotes need each `'` twice, and a text without a line feed.
@@ -50,7 +53,8 @@ pub fn quoting_a_key_changes_nothing()
 pub fn every_text_can_be_quoted()
     ensures single { (characters : List ℕ) → holds_no_feed characters ≡ true
         → scalar_meaning (in_quotes 39 (written doubled characters)) ≡ Some (text (encode_utf8_all characters) true) }
-    ensures double { (characters : List ℕ) → scalar_meaning (in_quotes 34 (written escaped characters)) ≡ Some (text (encode_utf8_all characters) true) }
+    ensures double { (characters : List ℕ)
+        → scalar_meaning (in_quotes 34 (written escaped characters)) ≡ Some (text (encode_utf8_all characters) true) }
 {}
 
 /// Comments and empty lines say nothing. Without the lines that hold only blanks, or blanks and a comment,
@@ -71,15 +75,18 @@ pub fn every_text_can_be_quoted()
 pub fn comments_and_empty_lines_say_nothing()
     ensures lines { (flow : FlowState) (lines : List LineText) → list_any begins_text lines ≡ false
         → all_content_lines (standing 0 flow) (saying lines) ≡ all_content_lines (standing 0 flow) lines }
-    ensures text { (lines : List LineText) → list_any begins_text lines ≡ false → content_lines_from (saying lines) ≡ content_lines_from lines }
-    ensures without_bars { (lines : List LineText) → list_all holds_no_bar lines ≡ true → content_lines_from (saying lines) ≡ content_lines_from lines }
+    ensures text { (lines : List LineText) → list_any begins_text lines ≡ false
+        → content_lines_from (saying lines) ≡ content_lines_from lines }
+    ensures without_bars { (lines : List LineText) → list_all holds_no_bar lines ≡ true
+        → content_lines_from (saying lines) ≡ content_lines_from lines }
 {}
 
 /// A comment after a text says nothing: `make # the default` and `'make'   # the default` are the texts
 /// `make` and `'make'`. If a content is a text, plain or quoted, it is the same text with blanks after it,
 /// and with blanks and a comment after it.
 pub fn a_comment_behind_a_text_says_nothing()
-    ensures { (content behind : List ℕ) (m : Meaning) → is_over behind ≡ true → scalar_meaning content ≡ Some m → scalar_meaning (content ++ behind) ≡ Some m }
+    ensures { (content behind : List ℕ) (m : Meaning) → is_over behind ≡ true → scalar_meaning content ≡ Some m
+        → scalar_meaning (content ++ behind) ≡ Some m }
 {}
 
 /// The last value on a line, and its column, are what the readers of items and entries find there:
@@ -95,11 +102,14 @@ pub fn a_last_value_is_that_of_the_item_or_the_entry()
         → last_value p.indent dash p.content ≡ last_value rest.indent (Some p.indent) rest.content }
     ensures empty_item { (p : ContentLine) (dash : Option ℕ) → is_item p.content ≡ true → item_of p ≡ Some []
         → IfSome (last_value p.indent dash p.content) (λ value. comment_or_end value.content ≡ true) }
-    ensures entry { (p : ContentLine) (dash : Option ℕ) (entry : KeyAndValue) → blank_or_end p.content ≡ false → is_item p.content ≡ false → entry_of p.content ≡ Some entry
+    ensures entry { (p : ContentLine) (dash : Option ℕ) (entry : KeyAndValue) → blank_or_end p.content ≡ false
+        → is_item p.content ≡ false → entry_of_line p.content ≡ Some entry
         → last_value p.indent dash p.content ≡ Some (record { column = p.indent; content = entry.value }) }
-    ensures value { (p : ContentLine) (column : ℕ) → blank_or_end p.content ≡ false → is_item p.content ≡ false → entry_of p.content ≡ None
+    ensures value { (p : ContentLine) (column : ℕ) → blank_or_end p.content ≡ false → is_item p.content ≡ false
+        → entry_of_line p.content ≡ None
         → last_value p.indent (Some column) p.content ≡ Some (record { column = column; content = p.content }) }
-    ensures text { (p : ContentLine) → blank_or_end p.content ≡ false → is_item p.content ≡ false → entry_of p.content ≡ None
+    ensures text { (p : ContentLine) → blank_or_end p.content ≡ false → is_item p.content ≡ false
+        → entry_of_line p.content ≡ None
         → last_value p.indent None p.content ≡ None }
 {}
 
@@ -113,11 +123,16 @@ pub fn a_last_value_is_that_of_the_item_or_the_entry()
 /// `margin` says which indentation is found, `belong` that each line belongs to the text, `even` that none
 /// is refused.
 pub fn a_text_in_lines_of_a_literal_block_text_is_that_text()
-    ensures margin { (column margin : ℕ) (lines : List (List ℕ)) → column < margin → begins_bare lines ≡ true → margin_of column (all_indented margin lines) ≡ Some margin }
-    ensures belong { (margin : ℕ) (lines : List (List ℕ)) → extent (Some margin) (all_indented margin lines) ≡ length lines }
-    ensures even { (margin : ℕ) (lines : List (List ℕ)) → begins_bare lines ≡ true → is_ragged (Some margin) (all_indented margin lines) ≡ false }
-    ensures clipped { (margin : ℕ) (lines : List (List ℕ)) → ends_full lines ≡ true → block_text (literal Clip) (Some margin) (all_indented margin lines) ≡ text_of_lines lines }
-    ensures kept { (margin : ℕ) (lines : List (List ℕ)) → block_text (literal Keep) (Some margin) (all_indented margin lines) ≡ text_of_lines lines }
+    ensures margin { (column margin : ℕ) (lines : List (List ℕ)) → column < margin → begins_bare lines ≡ true
+        → margin_of column (all_indented margin lines) ≡ Some margin }
+    ensures belong { (margin : ℕ) (lines : List (List ℕ))
+        → extent (Some margin) (all_indented margin lines) ≡ length lines }
+    ensures even { (margin : ℕ) (lines : List (List ℕ)) → begins_bare lines ≡ true
+        → is_ragged (Some margin) (all_indented margin lines) ≡ false }
+    ensures clipped { (margin : ℕ) (lines : List (List ℕ)) → ends_full lines ≡ true
+        → block_text (literal Clip) (Some margin) (all_indented margin lines) ≡ text_of_lines lines }
+    ensures kept { (margin : ℕ) (lines : List (List ℕ))
+        → block_text (literal Keep) (Some margin) (all_indented margin lines) ≡ text_of_lines lines }
 {}
 
 /// The laws on quotes, on keys and on comments need each of their conditions:
@@ -128,13 +143,17 @@ pub fn a_text_in_lines_of_a_literal_block_text_is_that_text()
 /// - `a:b` is no entry;
 /// - below `a: |` a comment's line is a line of the block text.
 pub fn the_laws_ask_for_what_they_need()
-    ensures single { IsPlainAlone (codes "it's") (codes "it's") × (scalar_meaning (in_quotes 39 (codes "it's")) ≡ None) }
-    ensures double { let content = 97 ∷ 34 ∷ 98 ∷ [] in IsPlainAlone content content × (scalar_meaning (in_quotes 34 content) ≡ None) }
-    ensures backslash { let content = 97 ∷ 92 ∷ 98 ∷ [] in IsPlainAlone content content × (scalar_meaning (in_quotes 34 content) ≡ None) }
+    ensures single { IsPlainAlone (codes "it's") (codes "it's")
+        × (scalar_meaning (in_quotes 39 (codes "it's")) ≡ None) }
+    ensures double { let content = 97 ∷ 34 ∷ 98 ∷ [] in IsPlainAlone content content
+        × (scalar_meaning (in_quotes 34 content) ≡ None) }
+    ensures backslash { let content = 97 ∷ 92 ∷ 98 ∷ [] in IsPlainAlone content content
+        × (scalar_meaning (in_quotes 34 content) ≡ None) }
     ensures feed { scalar_meaning (in_quotes 39 (97 ∷ 10 ∷ 98 ∷ [])) ≡ None }
-    ensures key { entry_of (in_quotes 39 (codes "it's") ++ codes ": a") ≡ None }
-    ensures colon { IsPlainAlone (codes "a") (codes "a") × (entry_of (codes "a" ++ codes ":b") ≡ None) }
-    ensures behind { (scalar_meaning (codes "'a'") ≡ Some (text (codes "a") true)) × (scalar_meaning (codes "'a'b") ≡ None) }
+    ensures key { entry_of_line (in_quotes 39 (codes "it's") ++ codes ": a") ≡ None }
+    ensures colon { IsPlainAlone (codes "a") (codes "a") × (entry_of_line (codes "a" ++ codes ":b") ≡ None) }
+    ensures behind { (scalar_meaning (codes "'a'") ≡ Some (text (codes "a") true))
+        × (scalar_meaning (codes "'a'b") ≡ None) }
     ensures hash { scalar_meaning (codes "a#b") ≡ Some (text (codes "a#b") false) }
     ensures block_line { content_lines_from (ended (codes "a: |") ∷ ended (codes " #") ∷ [])
         ≡ Some (record { indent = 0; content = codes "a: |"; block = Some (35 ∷ 10 ∷ []) } ∷ []) }

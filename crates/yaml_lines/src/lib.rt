@@ -28,12 +28,12 @@ mod item;
 mod last_value;
 pub mod laws;
 mod line;
+mod line_state;
 mod node;
 mod plain_text;
 mod quoted_text;
 mod raw_line;
 mod scan;
-mod standing;
 mod text_scalar;
 
 pub use block_lines::begins_block;

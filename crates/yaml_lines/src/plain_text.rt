@@ -56,7 +56,8 @@ pub(crate) fn begins_plain(content: &[char]) -> bool
 // Index of the first `:` outside of comments that a blank or the end follows.
 pub(crate) fn colon(content: &[char]) -> Option<usize>
     ensures { MatchOption result (sides_of true content.now ≡ None) (λ at. (at < length content.now)
-        × (sides_of true content.now ≡ Some (record { before = take at content.now; behind = drop (at + 1) content.now }))) }
+        × (sides_of true content.now ≡ Some (record
+        { before = take at content.now; behind = drop (at + 1) content.now }))) }
 {
     let mut free = true;
     for (i, c) in content.iter().enumerate() {

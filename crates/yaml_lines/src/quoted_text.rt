@@ -52,9 +52,9 @@ pub(crate) struct QuoteStep<'a> {
 }
 
 impl<'a> Model for QuoteStep<'a> {
-    ghost use Rattle.yaml_lines.specs.Quoted.{Step};
+    ghost use Rattle.yaml_lines.specs.Quoted.{QuotedStep};
 
-    ghost Value = { Step };
+    ghost Value = { QuotedStep };
 
     ghost view = { λ step. record { character = step.character; rest = step.rest.now } };
 }

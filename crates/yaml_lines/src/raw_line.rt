@@ -47,7 +47,7 @@ impl<'a> RawLine<'a> {
 }
 
 // The first line of a text, and what follows it.
-struct Cut<'a> {
+struct LineCut<'a> {
     line: RawLine<'a>,
     rest: &'a [char],
 }
@@ -64,21 +64,21 @@ fn without_return(text: &[char]) -> &[char]
 }
 
 // The first line of a text that isn't empty.
-fn next_line<'a>(text: &'a [char]) -> Cut<'a>
+fn next_line<'a>(text: &'a [char]) -> LineCut<'a>
     requires some { 0 < length text.now }
     requires few { length text.now ≤ most_bytes }
     ensures first { line_texts text.now ≡ result.line ∷ line_texts result.rest.now }
     ensures shorter { length result.rest.now < length text.now }
 {
     match feed(text) {
-        Some(at) => Cut {
+        Some(at) => LineCut {
             line: RawLine {
                 text: without_return(front(text, at)),
                 ended: true,
             },
             rest: skip(text, at + 1),
         },
-        None => Cut {
+        None => LineCut {
             line: RawLine { text, ended: false },
             rest: skip(text, text.len()),
         },
@@ -94,7 +94,7 @@ pub fn raw_lines<'a>(alloc: Global, text: &'a [char]) -> Result<Vec<RawLine<'a>>
     let mut lines = Vec::new(alloc);
     let mut rest = text;
     while !rest.is_empty() {
-        let Cut { line, rest: others } = next_line(rest);
+        let LineCut { line, rest: others } = next_line(rest);
         lines.push(line)?;
         rest = others;
     }

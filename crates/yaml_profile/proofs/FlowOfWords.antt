@@ -6,7 +6,7 @@ use Rattle.std.specs.Str.{encode_utf8_all}
 use Rattle.yaml_lines.specs.Characters.{is_blank, begins_with}
 use Rattle.yaml_lines.specs.Meaning.{Meaning, text, list, table, meanings_of, members_of}
 use Rattle.yaml_lines.specs.Plain.{is_indicator, is_mark_character, trim_end}
-use Rattle.yaml_flows.specs.Flows.{Found, mapped, next_part, parts, parts_within, list_at, table_at, entry, row_of, distinct, text_node, text_node_at, node, whole, flow_meaning}
+use Rattle.yaml_flows.specs.Flows.{Found, mapped, next_part, parts, parts_within, list_at, table_at, entry, flow_row_of, distinct_flow_rows, text_node, text_node_at, node, whole, flow_meaning}
 use Rattle.yaml_lines.specs.FlowGaps.{blank_or_line_end, behind_gap, after_gap}
 use Rattle.yaml_flows.specs.Keys.{Row, keys_differ}
 use Rattle.yaml_lines.specs.FlowTexts.{is_flow_indicator, ends_key, begins_plain, ends_plain, plain_extent, FlowText, plain_text, plain_at, quoted_at, text_at}
@@ -165,7 +165,7 @@ key_at [] more e = absurd (cc)
 key_at (c ∷ cs) more e = word_text c cs 58 (32 ∷ more) (first_of_word c cs e) (colon_ends more)
 
 colon_behind : (node : List ℕ → Option (Found Meaning)) (key more : List ℕ)
-    → row_of node (record { text = key; quoted = false; rest = 58 ∷ 32 ∷ more }) ≡ option_map (mapped (λ m. (key, m))) (node (after_gap (32 ∷ more)))
+    → flow_row_of node (record { text = key; quoted = false; rest = 58 ∷ 32 ∷ more }) ≡ option_map (mapped (λ m. (key, m))) (node (after_gap (32 ∷ more)))
 unfolding behind_gap
 colon_behind node key more = refl
 
@@ -176,7 +176,7 @@ entry_at room e stop more good ends =
     let value : List ℕ = e.value ++ stop ∷ more in
     let keyed : Option (Found Meaning) → Option (Found Row) = λ o. option_map (mapped (λ m. (encode_utf8_all e.key, m))) o in
     ap (entry (node (suc room))) (append_assoc e.key (58 ∷ 32 ∷ e.value) (stop ∷ more))
-    ∙ (ap (option_and_then (row_of (node (suc room)))) (key_at e.key value parts.0)
+    ∙ (ap (option_and_then (flow_row_of (node (suc room)))) (key_at e.key value parts.0)
     ∙ (colon_behind (node (suc room)) (encode_utf8_all e.key) value
     ∙ ap keyed (ap (node (suc room)) (behind_space e.value (stop ∷ more) (word_begins e.value parts.1)) ∙ item_at room e.value stop more parts.1 ends)))
 
@@ -214,7 +214,7 @@ table_by : (room : ℕ) (es : List WordEntry) → 1 ≤ length es → list_all i
 table_by room [] some all = absurd (omega arith)
 table_by room (e ∷ es) some all =
     let parts = both (is_word_entry e) (list_all is_word_entry es) all in
-    let made : Option (Found (List Row)) → Option Meaning = λ o. option_and_then whole (option_map (mapped (λ rs. table (members_of rs))) (option_and_then distinct o)) in
+    let made : Option (Found (List Row)) → Option Meaning = λ o. option_and_then whole (option_map (mapped (λ rs. table (members_of rs))) (option_and_then distinct_flow_rows o)) in
     table_step (suc room) (join_with_byte 44 (map entry_text (e ∷ es)) ++ 125 ∷ [])
     ∙ (ap (λ (cs : List ℕ). option_and_then whole (table_at (node (suc room)) cs)) (entries_joined e es)
     ∙ (ap made (entries_within room e es parts.0 parts.1) ∙ table_closed (map word_row (e ∷ es)) (keys_differ (map word_row (e ∷ es)))))

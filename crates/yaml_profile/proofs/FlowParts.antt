@@ -80,7 +80,8 @@ module _ {X A : Type 0} (close : ℕ) (read : List ℕ → Option (Found A)) (te
   no_part : (most : ℕ) → parts_within close read (suc most) (close ∷ []) ≡ Some (record { value = []; rest = [] })
   unfolding parts_within
   no_part most =
-      ap (λ (b : Bool). cond b (Some (record { value = []; rest = [] })) (option_and_then (λ found. in_front found.value (parts_within close read most found.rest)) (part close read (close ∷ [])))) (eq-eqb close close refl)
+      ap (λ (b : Bool). cond b (Some (record { value = []; rest = [] })) (option_and_then (λ found. in_front found.value (parts_within close read most found.rest)) (part close read (close ∷ []))))
+      (eq-eqb close close refl)
 
   within : (most : ℕ) (x : X) (xs : List X) → good x ≡ true → list_all good xs ≡ true → length xs + 2 ≤ most
       → parts_within close read most (text x ++ behind close text xs) ≡ Some (record { value = map value (x ∷ xs); rest = [] })

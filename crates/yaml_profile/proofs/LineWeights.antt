@@ -9,7 +9,7 @@ use Rattle.yaml_lines.specs.BlockTexts.{LineText, header_of, margin_of, begins_b
 use Rattle.yaml_lines.specs.Characters.{characters_of, most_bytes, without_mark, is_space, is_allowed, begins_with, comment_or_end, trim_start, is_nil}
 use Rattle.yaml_lines.specs.Entries.{ContentLine}
 use Rattle.yaml_lines.specs.FlowLines.{Open, outside, is_closed, skim, state_behind}
-use Rattle.yaml_lines.specs.Lines.{before_lines, line_texts, last_value, ColumnValue, Left, standing, bare, with_text, with_value, with_flow, left_of, left_by, left_at, before_content_lines, all_content_lines, is_mark, is_start, unmarked, document, content_lines_from, content_lines_of, content_lines_of_bytes}
+use Rattle.yaml_lines.specs.Lines.{before_lines, line_texts, last_value, ColumnValue, Left, standing, bare, with_text, with_value, with_flow, left_of, left_by, left_at_line, before_content_lines, all_content_lines, is_mark, is_start, unmarked, document, content_lines_from, content_lines_of, content_lines_of_bytes}
 use Rattle.yaml_lines.specs.declared.header.Chomping.{Chomping}
 use Rattle.yaml_lines.specs.declared.header.Chomping.TheVariants.{Strip, Clip, Keep}
 use Rattle.yaml_lines.specs.declared.header.Header.{Header}
@@ -228,8 +228,8 @@ left_by_within : (n taken : ℕ) (flow : Open) (text : List ℕ) (later : List L
 left_by_within n zero flow text later few = left_of_within n flow text later few
 left_by_within n (suc taken) flow text later few = if_true (LeftWithin n (weight text)) (list_all is_allowed text) _ (λ _. tt)
 
-left_at_within : (n : ℕ) (text : List ℕ) (later : List LineText) → bytes_of later ≤ n → HoldsOfAny (LeftWithin n (weight text)) (λ at. left_at at text later)
-unfolding left_at
+left_at_within : (n : ℕ) (text : List ℕ) (later : List LineText) → bytes_of later ≤ n → HoldsOfAny (LeftWithin n (weight text)) (λ at. left_at_line at text later)
+unfolding left_at_line
 left_at_within n text later few at = left_by_within n at.taken at.flow text later few
 
 -- a content line for each line, in place of the line's end
@@ -253,7 +253,7 @@ lines_within n (l ∷ ls) few at =
     then_to (LeftWithin n (weight l.text)) (Fit n (room (l ∷ ls))) _
     (λ left h. map_to (Fit n (room ls)) (Fit n (room (l ∷ ls))) (before_content_lines left.content_line)
     (λ ps k. put_first n (weight l.text) (room ls) left.content_line ps h k) (all_content_lines left.next ls) (lines_within n ls (omega arith) left.next))
-    (left_at at l.text ls) (left_at_within n l.text ls (omega arith) at)
+    (left_at_line at l.text ls) (left_at_within n l.text ls (omega arith) at)
 
 unmarked_within : (n m : ℕ) (ps : List ContentLine) → Fit n m ps → Holds (Fit n m) (unmarked ps)
 unmarked_within n m ps h = either (Fit n m) (list_any is_mark ps) None (Some ps) tt h

@@ -4,12 +4,12 @@ use Rattle.std.proofs.lemmas.Bool.{eq-eqb, le-ltb}
 use Rattle.std.specs.List.{prefix_len, list_all}
 use Rattle.std.specs.Str.{encode_utf8_all}
 use Rattle.yaml_lines.specs.Characters.{is_blank, blank_or_end, comment_or_end, trim_start}
-use Rattle.yaml_lines.specs.Entries.{ContentLine, KeyAndValue, is_item, entry_of, value_behind, plain_entry, quoted_entry}
+use Rattle.yaml_lines.specs.Entries.{ContentLine, KeyAndValue, is_item, entry_of_line, value_behind, plain_entry, quoted_entry}
 use Rattle.yaml_lines.specs.Meaning.{Meaning, text, table, members_of}
 use Rattle.yaml_lines.specs.Plain.{is_indicator, begins_plain, Sides, before_side, sides_of}
 use Rattle.yaml_lines.specs.Quoted.{quoted_of}
 use Rattle.yaml_flows.specs.Keys.{Row, keys_differ}
-use Rattle.yaml_profile.specs.Blocks.{Part, Cut, put, cut, parts, begins_closing, is_below_key, all_of, line_node, row, entry, distinct, rows, block, table_of, node}
+use Rattle.yaml_profile.specs.Blocks.{BlockPart, Cut, put, cut, parts, begins_closing, is_below_key, all_of, line_node, row, entry, distinct, rows, block, table_meaning, node}
 use Rattle.yaml_profile.specs.Words.{is_word_character, is_word, WordEntry, is_word_entry, AreWordEntries, entry_line, word_row, table_of_entries}
 use Rattle.yaml_profile.proofs.LinesOfWords.{line_at, word_line}
 use Rattle.yaml_profile.proofs.Words.{both, or_none, and_none, apart, ordinary, no_blank, no_hash, no_colon, no_dash, no_quote, word_trimmed, word_begins, IsFirst, first_of_word}
@@ -40,8 +40,8 @@ value_is d ds w =
 abbrev keyed : List ℕ → List ℕ → Option KeyAndValue
 keyed key value = Some (record { key = encode_utf8_all key; value = value })
 
-pub key_entry : (c : ℕ) (cs : List ℕ) (d : ℕ) (ds : List ℕ) → IsFirst c cs → IsFirst d ds → entry_of (c ∷ (cs ++ 58 ∷ 32 ∷ d ∷ ds)) ≡ keyed (c ∷ cs) (d ∷ ds)
-unfolding entry_of
+pub key_entry : (c : ℕ) (cs : List ℕ) (d : ℕ) (ds : List ℕ) → IsFirst c cs → IsFirst d ds → entry_of_line (c ∷ (cs ++ 58 ∷ 32 ∷ d ∷ ds)) ≡ keyed (c ∷ cs) (d ∷ ds)
+unfolding entry_of_line
 key_entry c cs d ds k w =
     let rest : List ℕ = cs ++ 58 ∷ 32 ∷ d ∷ ds in
     let plain : Option KeyAndValue = option_map plain_entry (sides_of true (c ∷ rest)) in
@@ -51,7 +51,7 @@ key_entry c cs d ds k w =
 
 -- ---- the lines, one entry each
 
-abbrev entry_part : ℕ → WordEntry → Part
+abbrev entry_part : ℕ → WordEntry → BlockPart
 entry_part indent e = record { head = entry_line indent e; below = [] }
 
 no_item : (c : ℕ) (cs key : List ℕ) → IsFirst c key → is_item (c ∷ cs) ≡ false
@@ -70,7 +70,8 @@ begins_entry indent (c ∷ cs) behind e =
     or_none _ _ (le-ltb indent indent (omega arith))
     (and_none (eqb indent indent) (is_item content || begins_closing content) (or_none (is_item content) (begins_closing content) (no_item c (cs ++ behind) cs w) (no_closing c (cs ++ behind) cs w)))
 
-entries_cut : (indent : ℕ) (es : List WordEntry) → list_all is_word_entry es ≡ true → cut (is_below_key indent) (map (entry_line indent) es) ≡ record { before = []; parts = map (entry_part indent) es }
+entries_cut : (indent : ℕ) (es : List WordEntry) → list_all is_word_entry es ≡ true
+    → cut (is_below_key indent) (map (entry_line indent) es) ≡ record { before = []; parts = map (entry_part indent) es }
 unfolding cut
 entries_cut indent [] all = refl
 entries_cut indent (e ∷ es) all =
@@ -82,7 +83,7 @@ entries_cut indent (e ∷ es) all =
 entry_parts : (indent : ℕ) (e : WordEntry) (es : List WordEntry) → list_all is_word_entry es ≡ true
     → parts (is_below_key indent) (entry_line indent e ∷ map (entry_line indent) es) ≡ map (entry_part indent) (e ∷ es)
 entry_parts indent e es all =
-    let f : Cut → List Part = λ rest. record { head = entry_line indent e; below = rest.before } ∷ rest.parts in ap f (entries_cut indent es all)
+    let f : Cut → List BlockPart = λ rest. record { head = entry_line indent e; below = rest.before } ∷ rest.parts in ap f (entries_cut indent es all)
 
 -- ---- one entry
 
@@ -93,10 +94,10 @@ entry_by room indent (c ∷ cs) [] e f = absurd (cc)
 entry_by room indent (c ∷ cs) (d ∷ ds) e f =
     let w = first_of_word d ds f in
     let content : List ℕ = c ∷ (cs ++ 58 ∷ 32 ∷ d ∷ ds) in
-    let part : Part = record { head = line_at indent content; below = [] } in
+    let part : BlockPart = record { head = line_at indent content; below = [] } in
     let inner : Option KeyAndValue → Option Row = λ o. option_and_then (row (node (suc room)) (line_node (suc room)) part) o in
     let behind_key : Option Meaning → Option Row = λ o. option_map (λ v. (encode_utf8_all (c ∷ cs), v)) o in
-    ap (λ (b : Bool). cond b (inner (entry_of content)) None) (eq-eqb indent indent refl)
+    ap (λ (b : Bool). cond b (inner (entry_of_line content)) None) (eq-eqb indent indent refl)
     ∙ (ap inner (key_entry c cs d ds (first_of_word c cs e) w) ∙ ap behind_key (word_line room indent d ds w))
 
 entries_meaning : (room indent : ℕ) (es : List WordEntry) → list_all is_word_entry es ≡ true
@@ -112,12 +113,12 @@ entries_meaning room indent (e ∷ es) all =
 
 -- ---- the table
 
-table_is : (rs : List Row) (b : Bool) → table_of (cond b (Some rs) None) ≡ cond b (Some (table (members_of rs))) None
+table_is : (rs : List Row) (b : Bool) → table_meaning (cond b (Some rs) None) ≡ cond b (Some (table (members_of rs))) None
 table_is rs true = refl
 table_is rs false = refl
 
 is_table : (room indent : ℕ) (key value : List ℕ) (later : List ContentLine) → is_word key ≡ true → is_word value ≡ true
-    → node (suc room) (line_at indent (key ++ 58 ∷ 32 ∷ value) ∷ later) ≡ table_of (rows (node room) (line_node room) (line_at indent (key ++ 58 ∷ 32 ∷ value)) later)
+    → node (suc room) (line_at indent (key ++ 58 ∷ 32 ∷ value) ∷ later) ≡ table_meaning (rows (node room) (line_node room) (line_at indent (key ++ 58 ∷ 32 ∷ value)) later)
 unfolding node
 is_table room indent [] value later e f = absurd (cc)
 is_table room indent (c ∷ cs) [] later e f = absurd (cc)
@@ -125,7 +126,7 @@ is_table room indent (c ∷ cs) (d ∷ ds) later e f =
     let k = first_of_word c cs e in
     let rest : List ℕ = cs ++ 58 ∷ 32 ∷ d ∷ ds in
     let first : ContentLine = line_at indent (c ∷ rest) in
-    let found : is_some (entry_of (c ∷ rest)) ≡ true = ap (λ (o : Option KeyAndValue). is_some o) (key_entry c cs d ds k (first_of_word d ds f)) in
+    let found : is_some (entry_of_line (c ∷ rest)) ≡ true = ap (λ (o : Option KeyAndValue). is_some o) (key_entry c cs d ds k (first_of_word d ds f)) in
     ap₂ (λ (a b : Bool). block (node room) (line_node room) (line_node (suc room) first later) a b first later) (no_item c rest cs k) found
 
 lines_by : (room indent : ℕ) (es : List WordEntry) → 1 ≤ length es → list_all is_word_entry es ≡ true → node (suc (suc room)) (map (entry_line indent) es) ≡ table_of_entries es
@@ -133,9 +134,9 @@ lines_by room indent [] some all = absurd (omega arith)
 lines_by room indent (e ∷ es) some all =
     let good = both (is_word_entry e) (list_all is_word_entry es) all in
     let words = both (is_word e.key) (is_word e.value) good.0 in
-    let read : Option (List Row) → Option Meaning = λ o. table_of (option_and_then distinct o) in
+    let read : Option (List Row) → Option Meaning = λ o. table_meaning (option_and_then distinct o) in
     is_table (suc room) indent e.key e.value (map (entry_line indent) es) words.0 words.1
-    ∙ (ap (λ (ps : List Part). read (all_of (entry (node (suc room)) (line_node (suc room)) indent) ps)) (entry_parts indent e es good.1)
+    ∙ (ap (λ (ps : List BlockPart). read (all_of (entry (node (suc room)) (line_node (suc room)) indent) ps)) (entry_parts indent e es good.1)
     ∙ (ap read (entries_meaning room indent (e ∷ es) all) ∙ table_is (map word_row (e ∷ es)) (keys_differ (map word_row (e ∷ es)))))
 
 pub line_entries : (room indent : ℕ) (es : List WordEntry) → 2 ≤ room → AreWordEntries es → node room (map (entry_line indent) es) ≡ table_of_entries es

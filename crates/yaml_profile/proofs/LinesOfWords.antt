@@ -4,17 +4,17 @@ use Rattle.std.proofs.lemmas.Bool.{eq-eqb, le-ltb}
 use Rattle.std.specs.List.{prefix_len, list_all}
 use Rattle.std.specs.Str.{encode_utf8_all}
 use Rattle.yaml_lines.specs.Characters.{is_blank, is_space}
-use Rattle.yaml_lines.specs.Entries.{ContentLine, KeyAndValue, is_item, rest_behind, rest_of, item_of, entry_of}
+use Rattle.yaml_lines.specs.Entries.{ContentLine, KeyAndValue, is_item, rest_behind, rest_of, item_of, entry_of_line}
 use Rattle.yaml_lines.specs.Meaning.{Meaning, text}
 use Rattle.yaml_lines.specs.Plain.{is_indicator}
 use Rattle.yaml_lines.specs.Scalars.{scalar_meaning}
-use Rattle.yaml_profile.specs.Blocks.{Part, Cut, put, cut, parts, is_deeper, all_of, item, lone, text_of, flow, line_node, block, items, list_of, node}
+use Rattle.yaml_profile.specs.Blocks.{BlockPart, Cut, put, cut, parts, is_deeper, all_of, item, lone, text_meaning, flow, line_node, block, items, list_meaning, node}
 use Rattle.yaml_profile.specs.Words.{is_word, AreWords, list_of_words, item_line}
 use Rattle.yaml_profile.proofs.Words.{both, or_none, apart, no_blank, no_hash, IsFirst, first_of_word, word_no_item, word_no_entry, word_meaning}
 
 -- ---- the lines, one item each
 
-abbrev item_part : ℕ → List ℕ → Part
+abbrev item_part : ℕ → List ℕ → BlockPart
 item_part indent word = record { head = item_line indent word; below = [] }
 
 items_cut : (indent : ℕ) (words : List (List ℕ)) → cut (is_deeper indent) (map (item_line indent) words) ≡ record { before = []; parts = map (item_part indent) words }
@@ -26,7 +26,7 @@ items_cut indent (word ∷ words) =
 
 item_parts : (indent : ℕ) (word : List ℕ) (words : List (List ℕ)) → parts (is_deeper indent) (item_line indent word ∷ map (item_line indent) words) ≡ map (item_part indent) (word ∷ words)
 item_parts indent word words =
-    let f : Cut → List Part = λ rest. record { head = item_line indent word; below = rest.before } ∷ rest.parts in ap f (items_cut indent words)
+    let f : Cut → List BlockPart = λ rest. record { head = item_line indent word; below = rest.before } ∷ rest.parts in ap f (items_cut indent words)
 
 -- ---- one item
 
@@ -50,7 +50,7 @@ pub word_line : (room indent c : ℕ) (cs : List ℕ) → IsFirst c cs → line_
 word_line room indent c cs w =
     let place : ContentLine = line_at indent (c ∷ cs) in
     let far : (k : ℕ) → is_indicator k ≡ true → eqb c k ≡ false = λ k e. apart c k is_indicator w.first.no_indicator e in
-    ap (λ (b : Bool). cond b (flow (suc room) (c ∷ cs) []) (lone (text_of place) [])) (or_none (eqb c 91) (eqb c 123) (far 91 refl) (far 123 refl))
+    ap (λ (b : Bool). cond b (flow (suc room) (c ∷ cs) []) (lone (text_meaning place) [])) (or_none (eqb c 91) (eqb c 123) (far 91 refl) (far 123 refl))
     ∙ (ap (λ (b : Bool). cond b None (scalar_meaning (c ∷ cs))) (or_none (eqb c 124) (eqb c 62) (far 124 refl) (far 62 refl)) ∙ word_meaning c cs w)
 
 own_node : (room indent c : ℕ) (cs : List ℕ) → IsFirst c cs → node (suc room) (own_line indent (c ∷ cs) ∷ []) ≡ Some (text (encode_utf8_all (c ∷ cs)) false)
@@ -58,7 +58,7 @@ unfolding node
 own_node room indent c cs w =
     let place : ContentLine = own_line indent (c ∷ cs) in
     let f : Bool → Bool → Option Meaning = λ a b. block (node room) (line_node room) (line_node (suc room) place []) a b place [] in
-    ap (λ (b : Bool). f b (is_some (entry_of (c ∷ cs)))) (word_no_item c cs w)
+    ap (λ (b : Bool). f b (is_some (entry_of_line (c ∷ cs)))) (word_no_item c cs w)
     ∙ (ap (λ (o : Option KeyAndValue). f false (is_some o)) (word_no_entry c cs w) ∙ word_line room (indent + 1 + 1) c cs w)
 
 item_meaning : (room indent c : ℕ) (cs : List ℕ) → IsFirst c cs → item (node (suc room)) indent (item_part indent (c ∷ cs)) ≡ Some (text (encode_utf8_all (c ∷ cs)) false)
@@ -82,7 +82,7 @@ items_meaning room indent ((c ∷ cs) ∷ words) all =
     ap (λ (o : Option Meaning). option_and_then (λ y. option_map (λ ys. y ∷ ys) later) o) (item_meaning room indent c cs (first_of_word c cs split.0))
     ∙ ap (λ (o : Option (List Meaning)). option_map (λ ys. value ∷ ys) o) (items_meaning room indent words split.1)
 
-list_step : (room indent : ℕ) (word : List ℕ) (later : List ContentLine) → node (suc room) (item_line indent word ∷ later) ≡ list_of (items (node room) (item_line indent word) later)
+list_step : (room indent : ℕ) (word : List ℕ) (later : List ContentLine) → node (suc room) (item_line indent word ∷ later) ≡ list_meaning (items (node room) (item_line indent word) later)
 unfolding node is_item
 list_step room indent word later = refl
 
@@ -90,7 +90,7 @@ lines_by : (room indent : ℕ) (words : List (List ℕ)) → 1 ≤ length words 
 lines_by room indent [] some all = absurd (omega arith)
 lines_by room indent (word ∷ words) some all =
     list_step (suc room) indent word (map (item_line indent) words)
-    ∙ (ap (λ (ps : List Part). list_of (all_of (item (node (suc room)) indent) ps)) (item_parts indent word words) ∙ ap list_of (items_meaning room indent (word ∷ words) all))
+    ∙ (ap (λ (ps : List BlockPart). list_meaning (all_of (item (node (suc room)) indent) ps)) (item_parts indent word words) ∙ ap list_meaning (items_meaning room indent (word ∷ words) all))
 
 -- ---- where there is room for one node alone
 
@@ -100,17 +100,17 @@ no_inner true None below = refl
 no_inner true (Some front) below = refl
 no_inner false o below = refl
 
-no_items : (indent : ℕ) (p : Part) (ps : List Part) → list_of (all_of (item (node 0) indent) (p ∷ ps)) ≡ None
+no_items : (indent : ℕ) (p : BlockPart) (ps : List BlockPart) → list_meaning (all_of (item (node 0) indent) (p ∷ ps)) ≡ None
 unfolding all_of
 no_items indent p ps =
-    ap (λ (o : Option Meaning). list_of (option_and_then (λ y. option_map (λ ys. y ∷ ys) (all_of (item (node 0) indent) ps)) o))
+    ap (λ (o : Option Meaning). list_meaning (option_and_then (λ y. option_map (λ ys. y ∷ ys) (all_of (item (node 0) indent) ps)) o))
     (no_inner (eqb p.head.indent indent && is_item p.head.content) (item_of p.head) p.below)
 
 too_deep_by : (indent : ℕ) (words : List (List ℕ)) → 1 ≤ length words → node 1 (map (item_line indent) words) ≡ None
 too_deep_by indent [] some = absurd (omega arith)
 too_deep_by indent (word ∷ words) some =
     list_step 0 indent word (map (item_line indent) words)
-    ∙ (ap (λ (ps : List Part). list_of (all_of (item (node 0) indent) ps)) (item_parts indent word words) ∙ no_items indent (item_part indent word) (map (item_part indent) words))
+    ∙ (ap (λ (ps : List BlockPart). list_meaning (all_of (item (node 0) indent) ps)) (item_parts indent word words) ∙ no_items indent (item_part indent word) (map (item_part indent) words))
 
 pub lines_too_deep : (indent : ℕ) (words : List (List ℕ)) → AreWords words → node 1 (map (item_line indent) words) ≡ None
 lines_too_deep indent words are = too_deep_by indent words are.some

@@ -5,12 +5,12 @@ use Rattle.std.proofs.lemmas.List.{map-append}
 use Rattle.std.specs.List.{prefix_len, list_all}
 use Rattle.yaml_lines.specs.BlockTexts.{begins_block}
 use Rattle.yaml_lines.specs.Characters.{is_blank, is_space, is_nil, comment_or_end}
-use Rattle.yaml_lines.specs.Entries.{ContentLine, KeyAndValue, is_item, rest_behind, rest_of, item_of, entry_of}
+use Rattle.yaml_lines.specs.Entries.{ContentLine, KeyAndValue, is_item, rest_behind, rest_of, item_of, entry_of_line}
 use Rattle.yaml_lines.specs.FlowLines.{begins_flow}
 use Rattle.yaml_lines.specs.Meaning.{Meaning}
 use Rattle.yaml_flows.specs.Flows.{flow_meaning}
 use Rattle.yaml_flows.specs.Keys.{Row}
-use Rattle.yaml_profile.specs.Blocks.{Part, Cut, put, cut, parts, is_deeper, begins_closing, is_below_key, is_in_flow, all_of, item, lone, text_of, further, flow, line_node, value, value_place, row, entry, distinct, items, rows, list_of, table_of, block, node, whole}
+use Rattle.yaml_profile.specs.Blocks.{BlockPart, Cut, put, cut, parts, is_deeper, begins_closing, is_below_key, is_in_flow, all_of, item, lone, text_meaning, further, flow, line_node, value, value_place, row, entry, distinct, items, rows, list_meaning, table_meaning, block, node, whole_text}
 use Rattle.yaml_profile.specs.Moved.{moved}
 
 -- ---- tests of an indentation
@@ -42,7 +42,7 @@ below_key_moved n indent p =
 
 -- ---- parts
 
-moved_part : ℕ → Part → Part
+moved_part : ℕ → BlockPart → BlockPart
 moved_part n part = record { head = moved n part.head; below = map (moved n) part.below }
 
 moved_cut : ℕ → Cut → Cut
@@ -62,13 +62,13 @@ module _ (n : ℕ) (test other : ContentLine → Bool) (same : (p : ContentLine)
   parts_moved : (first : ContentLine) (later : List ContentLine) → parts test (moved n first ∷ map (moved n) later) ≡ map (moved_part n) (parts other (first ∷ later))
   unfolding moved_cut moved_part
   parts_moved first later =
-      let f : Cut → List Part = λ c. record { head = moved n first; below = c.before } ∷ c.parts in ap f (cut_moved later)
+      let f : Cut → List BlockPart = λ c. record { head = moved n first; below = c.before } ∷ c.parts in ap f (cut_moved later)
 
   all_moved : (ps : List ContentLine) → list_all test (map (moved n) ps) ≡ list_all other ps
   all_moved [] = refl
   all_moved (p ∷ ps) = ap₂ (λ (a b : Bool). a && b) (same p) (all_moved ps)
 
-all_of_moved : {B : Type 0} (n : ℕ) (f g : Part → Option B) → ((part : Part) → f (moved_part n part) ≡ g part) → (ps : List Part) → all_of f (map (moved_part n) ps) ≡ all_of g ps
+all_of_moved : {B : Type 0} (n : ℕ) (f g : BlockPart → Option B) → ((part : BlockPart) → f (moved_part n part) ≡ g part) → (ps : List BlockPart) → all_of f (map (moved_part n) ps) ≡ all_of g ps
 unfolding all_of
 all_of_moved n f g same [] = refl
 all_of_moved {B} n f g same (p ∷ ps) =
@@ -114,7 +114,7 @@ line_moved n zero p below = refl
 line_moved n (suc room) p below =
     ap₂ (λ (a b : Option Meaning). cond (begins_flow p.content) a b)
     (ap₂ (λ (b : Bool) (o : Option Meaning). cond b o None) (all_moved n (is_in_flow (p.indent + n)) (is_in_flow p.indent) (in_flow_moved n p.indent) below) (flow_moved n (suc room) p.content below))
-    (lone_moved n (text_of p) below)
+    (lone_moved n (text_meaning p) below)
 
 -- ---- items and entries
 
@@ -126,7 +126,7 @@ module _ (n : ℕ) (node : List ContentLine → Option Meaning) (line : ContentL
   inner_moved None below = refl
   inner_moved (Some front) below = ap node (sym (map-append (moved n) front below)) ∙ same_node (front ++ below)
 
-  item_same : (indent : ℕ) (part : Part) → item node (indent + n) (moved_part n part) ≡ item node indent part
+  item_same : (indent : ℕ) (part : BlockPart) → item node (indent + n) (moved_part n part) ≡ item node indent part
   unfolding moved_part
   item_same indent part =
       let head : ContentLine = part.head in
@@ -137,15 +137,15 @@ module _ (n : ℕ) (node : List ContentLine → Option Meaning) (line : ContentL
   value_same : (p : ContentLine) (below : List ContentLine) → value node line (moved n p) (map (moved n) below) ≡ value node line p below
   value_same p below = ap₂ (λ (a b : Option Meaning). cond (is_nil p.content) a b) (same_node below) (same_line p below)
 
-  row_same : (part : Part) (o : Option KeyAndValue) → option_and_then (row node line (moved_part n part)) o ≡ option_and_then (row node line part) o
+  row_same : (part : BlockPart) (o : Option KeyAndValue) → option_and_then (row node line (moved_part n part)) o ≡ option_and_then (row node line part) o
   unfolding moved_part
   row_same part None = refl
   row_same part (Some found) = ap (λ (o : Option Meaning). option_map (λ v. (found.key, v)) o) (value_same (value_place part.head found) part.below)
 
-  entry_same : (indent : ℕ) (part : Part) → entry node line (indent + n) (moved_part n part) ≡ entry node line indent part
+  entry_same : (indent : ℕ) (part : BlockPart) → entry node line (indent + n) (moved_part n part) ≡ entry node line indent part
   unfolding moved_part
   entry_same indent part =
-      ap₂ (λ (b : Bool) (o : Option Row). cond b o None) (same_moved part.head.indent indent n) (row_same part (entry_of part.head.content))
+      ap₂ (λ (b : Bool) (o : Option Row). cond b o None) (same_moved part.head.indent indent n) (row_same part (entry_of_line part.head.content))
 
   items_same : (first : ContentLine) (later : List ContentLine) → items node (moved n first) (map (moved n) later) ≡ items node first later
   items_same first later =
@@ -160,8 +160,8 @@ module _ (n : ℕ) (node : List ContentLine → Option Meaning) (line : ContentL
 
   block_same : (own other : Option Meaning) (listed keyed : Bool) (first : ContentLine) (later : List ContentLine) → own ≡ other
       → block node line own listed keyed (moved n first) (map (moved n) later) ≡ block node line other listed keyed first later
-  block_same own other true keyed first later e = ap list_of (items_same first later)
-  block_same own other false true first later e = ap table_of (rows_same first later)
+  block_same own other true keyed first later e = ap list_meaning (items_same first later)
+  block_same own other false true first later e = ap table_meaning (rows_same first later)
   block_same own other false false first later e = e
 
 -- ---- nodes
@@ -172,10 +172,10 @@ node_moved zero n ps = refl
 node_moved (suc room) n [] = refl
 node_moved (suc room) n (first ∷ later) =
     block_same n (node room) (line_node room) (node_moved room n) (line_moved n room) (line_node (suc room) (moved n first) (map (moved n) later)) (line_node (suc room) first later)
-    (is_item first.content) (is_some (entry_of first.content)) first later (line_moved n (suc room) first later)
+    (is_item first.content) (is_some (entry_of_line first.content)) first later (line_moved n (suc room) first later)
 
-pub whole_moved : (room n : ℕ) (ps : List ContentLine) → whole room (map (moved n) ps) ≡ whole room ps
-unfolding whole
+pub whole_moved : (room n : ℕ) (ps : List ContentLine) → whole_text room (map (moved n) ps) ≡ whole_text room ps
+unfolding whole_text
 whole_moved room n [] = node_moved room n []
 whole_moved room n (first ∷ later) =
     ap₂ (λ (a b : Option Meaning). cond (begins_block first.content) None (cond (begins_flow first.content) a b)) (flow_moved n room first.content later) (node_moved room n (first ∷ later))

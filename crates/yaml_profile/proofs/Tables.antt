@@ -143,7 +143,8 @@ module _ {A : Type 0} (f : A → Option Row) where
   pub row_read : (rs : List Row) (a : A) (rest : List A) (r : Row) → f a ≡ Some r → rows_with f rs (a ∷ rest) ≡ rows_with f (rs ++ r ∷ []) rest
   row_read rs a rest r e = ap (option_and_then distinct) (one_more f rs a rest r e)
 
-  refused_by : (seen : List ℕ → Bool) (rs : List Row) (a : A) (rest : List A) (o : Option Row) → f a ≡ o → ((q : List ℕ) → seen q ≡ has_key q rs) → fresh seen o ≡ None → rows_with f rs (a ∷ rest) ≡ None
+  refused_by : (seen : List ℕ → Bool) (rs : List Row) (a : A) (rest : List A) (o : Option Row) → f a ≡ o → ((q : List ℕ) → seen q ≡ has_key q rs) → fresh seen o ≡ None
+      → rows_with f rs (a ∷ rest) ≡ None
   unfolding all_of
   refused_by seen rs a rest None e same none = ap (option_and_then distinct) (refused f rs a rest e)
   refused_by seen rs a rest (Some r) e same none =

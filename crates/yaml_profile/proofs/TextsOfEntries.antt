@@ -1,16 +1,16 @@
--- What the whole texts of a table of words mean.
+-- What the whole_text texts of a table of words mean.
 use Rattle.std.proofs.Common.{◌≡◌, ℕ, ◌+◌, Bool, true, false, cond, not, ◌&&◌, ◌||◌, eqb, List, [], ◌∷◌, ◌++◌, map, drop, Option, Some, None, option_map, option_and_then, refl, ap, ap₂, ◌∙◌, arith}
 use Rattle.std.proofs.lemmas.List.{append-nil}
 use Rattle.std.proofs.lemmas.List.Folds.{list_all-append}
 use Rattle.std.specs.List.{prefix_len, list_all, list_any, join_with_byte}
 use Rattle.yaml_lines.specs.BlockTexts.{LineText}
 use Rattle.yaml_lines.specs.Characters.{characters_of, is_allowed, is_space, is_blank, begins_with, blank_or_end, comment_or_end, is_over}
-use Rattle.yaml_lines.specs.Entries.{ContentLine, entry_of}
+use Rattle.yaml_lines.specs.Entries.{ContentLine, entry_of_line}
 use Rattle.yaml_lines.specs.FlowLines.{outside, state_behind}
-use Rattle.yaml_lines.specs.Lines.{line_texts, ColumnValue, value_at, last_value, Left, standing, bare, with_value, with_flow, left_of, left_at, before_content_lines, all_content_lines, three, is_mark, is_start, unmarked, document, content_lines_from, content_lines_of}
+use Rattle.yaml_lines.specs.Lines.{line_texts, ColumnValue, value_at, last_value, Left, standing, bare, with_value, with_flow, left_of, left_at_line, before_content_lines, all_content_lines, three, is_mark, is_start, unmarked, document, content_lines_from, content_lines_of}
 use Rattle.yaml_lines.specs.Meaning.{Meaning, most_nodes}
 use Rattle.yaml_lines.specs.Plain.{is_indicator, begins_plain}
-use Rattle.yaml_profile.specs.Blocks.{further, flow, node, whole}
+use Rattle.yaml_profile.specs.Blocks.{further, flow, node, whole_text}
 use Rattle.yaml_flows.specs.Flows.{flow_meaning}
 use Rattle.yaml_profile.specs.Words.{is_word_character, is_word, WordEntry, is_word_entry, AreWordEntries, entry_text, entry_line, flow_of_entries, lines_of_entries, table_of_entries}
 use Rattle.yaml_profile.specs.Text.{meaning_of}
@@ -50,7 +50,7 @@ module _ (c : ℕ) (cs : List ℕ) (d : ℕ) (ds : List ℕ) (k : IsFirst c cs) 
   unfolding last_value
   own_value =
       let rest : List ℕ = cs ++ 58 ∷ 32 ∷ d ∷ ds in
-      let here : Option ColumnValue = value_at 0 None content (entry_of content) in
+      let here : Option ColumnValue = value_at 0 None content (entry_of_line content) in
       ap (λ (b : Bool). cond b (last_value 1 None rest) (cond (eqb c 45 && blank_or_end rest) (last_value 1 (Some 0) rest) here)) (no_blank c k.first)
       ∙ (ap (λ (b : Bool). cond (b && blank_or_end rest) (last_value 1 (Some 0) rest) here) (no_dash c k.first)
       ∙ ap (value_at 0 None content) (key_entry c cs d ds k w))
@@ -69,8 +69,8 @@ module _ (c : ℕ) (cs : List ℕ) (d : ℕ) (ds : List ℕ) (k : IsFirst c cs) 
       both_none true b e = absurd (cc)
       both_none false b e = e
 
-  own_left : (later : List LineText) → list_all is_allowed content ≡ true → left_at (standing 0 outside) content later ≡ Some (bare 0 content outside)
-  unfolding left_at left_of with_flow
+  own_left : (later : List LineText) → list_all is_allowed content ≡ true → left_at_line (standing 0 outside) content later ≡ Some (bare 0 content outside)
+  unfolding left_at_line left_of with_flow
   own_left later allowed =
       let rest : List ℕ = cs ++ 58 ∷ 32 ∷ d ∷ ds in
       let blank : Option Left = Some (record { content_line = None; next = standing 0 outside }) in
@@ -83,7 +83,7 @@ module _ (c : ℕ) (cs : List ℕ) (d : ℕ) (ds : List ℕ) (k : IsFirst c cs) 
       ∙ (ap (with_value 0 content later) own_value ∙ word_with content d ds later w))))
 
 entry_left : (key value : List ℕ) (later : List LineText) → is_word key ≡ true → is_word value ≡ true → list_all is_allowed (key ++ 58 ∷ 32 ∷ value) ≡ true
-    → left_at (standing 0 outside) (key ++ 58 ∷ 32 ∷ value) later ≡ Some (bare 0 (key ++ 58 ∷ 32 ∷ value) outside)
+    → left_at_line (standing 0 outside) (key ++ 58 ∷ 32 ∷ value) later ≡ Some (bare 0 (key ++ 58 ∷ 32 ∷ value) outside)
 entry_left [] value later e f allowed = absurd (cc)
 entry_left (c ∷ cs) [] later e f allowed = absurd (cc)
 entry_left (c ∷ cs) (d ∷ ds) later e f allowed = own_left c cs d ds (first_of_word c cs e) (first_of_word d ds f) later allowed
@@ -150,8 +150,8 @@ own_document (e ∷ es) all =
 -- ---- the text of the lines
 
 whole_by : (room : ℕ) (key value : List ℕ) (later : List ContentLine) → is_word key ≡ true
-    → whole room (line_at 0 (key ++ 58 ∷ 32 ∷ value) ∷ later) ≡ node room (line_at 0 (key ++ 58 ∷ 32 ∷ value) ∷ later)
-unfolding whole
+    → whole_text room (line_at 0 (key ++ 58 ∷ 32 ∷ value) ∷ later) ≡ node room (line_at 0 (key ++ 58 ∷ 32 ∷ value) ∷ later)
+unfolding whole_text
 whole_by room [] value later e = absurd (cc)
 whole_by room (c ∷ cs) value later e =
     let w = first_of_word c cs e in
@@ -161,19 +161,19 @@ whole_by room (c ∷ cs) value later e =
     ap (λ (b : Bool). cond b None (cond (eqb c 91 || eqb c 123) (flow room content later) (node room lines))) (or_none (eqb c 124) (eqb c 62) (far 124 refl) (far 62 refl))
     ∙ ap (λ (b : Bool). cond b (flow room content later) (node room lines)) (or_none (eqb c 91) (eqb c 123) (far 91 refl) (far 123 refl))
 
-own_whole : (room : ℕ) (es : List WordEntry) → list_all is_word_entry es ≡ true → whole room (map (entry_line 0) es) ≡ node room (map (entry_line 0) es)
-unfolding whole
+own_whole : (room : ℕ) (es : List WordEntry) → list_all is_word_entry es ≡ true → whole_text room (map (entry_line 0) es) ≡ node room (map (entry_line 0) es)
+unfolding whole_text
 own_whole room [] all = refl
 own_whole room (e ∷ es) all =
     let good = (both (is_word_entry e) (list_all is_word_entry es) all).0 in whole_by room e.key e.value (map (entry_line 0) es) (both (is_word e.key) (is_word e.value) good).0
 
-lines_text : (es : List WordEntry) → AreWordEntries es → option_and_then (whole most_nodes) (content_lines_of (lines_of_entries es)) ≡ table_of_entries es
+lines_text : (es : List WordEntry) → AreWordEntries es → option_and_then (whole_text most_nodes) (content_lines_of (lines_of_entries es)) ≡ table_of_entries es
 unfolding content_lines_of content_lines_from
 lines_text es are =
-    let read : Option (List ContentLine) → Option Meaning = λ o. option_and_then (whole most_nodes) (option_and_then document o) in
+    let read : Option (List ContentLine) → Option Meaning = λ o. option_and_then (whole_text most_nodes) (option_and_then document o) in
     ap (λ (ls : List LineText). read (all_content_lines (standing 0 outside) ls)) (own_lines es are.all)
     ∙ (ap read (own_places es are.all)
-    ∙ (ap (option_and_then (whole most_nodes)) (own_document es are.all)
+    ∙ (ap (option_and_then (whole_text most_nodes)) (own_document es are.all)
     ∙ (own_whole most_nodes es are.all ∙ line_entries most_nodes 0 es (omega arith) are)))
 
 -- ---- the text of the flow
@@ -190,8 +190,8 @@ flow_stays : (es : List WordEntry) → list_all is_word_entry es ≡ true → li
 unfolding stays
 flow_stays es all = list_all-append stays (join_with_byte 44 (map entry_text es)) (125 ∷ []) ∙ ap (λ (b : Bool). b && true) (entries_stay es all)
 
-flow_left : (cs : List ℕ) → list_all is_allowed (123 ∷ cs) ≡ true → left_at (standing 0 outside) (123 ∷ cs) [] ≡ Some (bare 0 (123 ∷ cs) (state_behind (123 ∷ cs)))
-unfolding left_at left_of with_flow with_value last_value entry_of begins_plain
+flow_left : (cs : List ℕ) → list_all is_allowed (123 ∷ cs) ≡ true → left_at_line (standing 0 outside) (123 ∷ cs) [] ≡ Some (bare 0 (123 ∷ cs) (state_behind (123 ∷ cs)))
+unfolding left_at_line left_of with_flow with_value last_value entry_of_line begins_plain
 flow_left cs all = ap (λ (b : Bool). cond (not b) None (Some (bare 0 (123 ∷ cs) (state_behind (123 ∷ cs))))) all
 
 flow_places : (cs : List ℕ) → list_all is_allowed (123 ∷ cs) ≡ true → all_content_lines (standing 0 outside) (record { text = 123 ∷ cs; ended = true } ∷ []) ≡ Some (line_at 0 (123 ∷ cs) ∷ [])
@@ -204,19 +204,19 @@ flow_document [] = refl
 flow_document (a ∷ []) = refl
 flow_document (a ∷ b ∷ cs) = refl
 
-flow_whole : (room : ℕ) (cs : List ℕ) → whole room (line_at 0 (123 ∷ cs) ∷ []) ≡ flow_meaning room (123 ∷ cs)
-unfolding whole further
+flow_whole : (room : ℕ) (cs : List ℕ) → whole_text room (line_at 0 (123 ∷ cs) ∷ []) ≡ flow_meaning room (123 ∷ cs)
+unfolding whole_text further
 flow_whole room cs = ap (λ (ds : List ℕ). flow_meaning room (123 ∷ ds)) (append-nil cs)
 
-flow_text : (es : List WordEntry) → AreWordEntries es → option_and_then (whole most_nodes) (content_lines_of (flow_of_entries es ++ 10 ∷ [])) ≡ table_of_entries es
+flow_text : (es : List WordEntry) → AreWordEntries es → option_and_then (whole_text most_nodes) (content_lines_of (flow_of_entries es ++ 10 ∷ [])) ≡ table_of_entries es
 unfolding content_lines_of content_lines_from
 flow_text es are =
     let inner : List ℕ = join_with_byte 44 (map entry_text es) ++ 125 ∷ [] in
     let keep = flow_stays es are.all in
-    let read : Option (List ContentLine) → Option Meaning = λ o. option_and_then (whole most_nodes) (option_and_then document o) in
+    let read : Option (List ContentLine) → Option Meaning = λ o. option_and_then (whole_text most_nodes) (option_and_then document o) in
     ap (λ (ls : List LineText). read (all_content_lines (standing 0 outside) ls)) (one_line (123 ∷ inner) [] keep ∙ no_line_behind (123 ∷ inner))
     ∙ (ap read (flow_places inner (weaker stays is_allowed stays_allowed (123 ∷ inner) keep))
-    ∙ (ap (option_and_then (whole most_nodes)) (flow_document inner)
+    ∙ (ap (option_and_then (whole_text most_nodes)) (flow_document inner)
     ∙ (flow_whole most_nodes inner ∙ flow_entries most_nodes es (omega arith) are)))
 
 -- ---- the bytes

@@ -1,16 +1,16 @@
--- What the whole texts of a list of words mean.
+-- What the whole_text texts of a list of words mean.
 use Rattle.std.proofs.Common.{◌≡◌, ℕ, Bool, true, false, cond, not, ◌&&◌, ◌||◌, eqb, List, [], ◌∷◌, ◌++◌, map, Option, Some, None, option_map, option_and_then, refl, ap, ap₂, ◌∙◌, arith}
 use Rattle.std.proofs.lemmas.List.{append-nil}
 use Rattle.std.proofs.lemmas.List.Folds.{list_all-append}
 use Rattle.std.specs.List.{list_all, list_any, join_with_byte}
 use Rattle.yaml_lines.specs.BlockTexts.{LineText, margin_of, header_of}
 use Rattle.yaml_lines.specs.Characters.{characters_of, is_allowed, begins_with, blank_or_end}
-use Rattle.yaml_lines.specs.Entries.{ContentLine, entry_of}
+use Rattle.yaml_lines.specs.Entries.{ContentLine, entry_of_line}
 use Rattle.yaml_lines.specs.FlowLines.{outside, state_behind, skim}
-use Rattle.yaml_lines.specs.Lines.{before_lines, line_texts, ColumnValue, value_at, last_value, Left, standing, bare, with_text, with_value, with_flow, left_of, left_at, before_content_lines, all_content_lines, is_mark, document, content_lines_from, content_lines_of}
+use Rattle.yaml_lines.specs.Lines.{before_lines, line_texts, ColumnValue, value_at, last_value, Left, standing, bare, with_text, with_value, with_flow, left_of, left_at_line, before_content_lines, all_content_lines, is_mark, document, content_lines_from, content_lines_of}
 use Rattle.yaml_lines.specs.Meaning.{Meaning, most_nodes}
 use Rattle.yaml_lines.specs.Plain.{is_indicator, begins_plain}
-use Rattle.yaml_profile.specs.Blocks.{further, node, whole}
+use Rattle.yaml_profile.specs.Blocks.{further, node, whole_text}
 use Rattle.yaml_flows.specs.Flows.{flow_meaning}
 use Rattle.yaml_profile.specs.Words.{is_word_character, is_word, AreWords, list_of_words, item_line, flow_of_words, lines_of_words}
 use Rattle.yaml_profile.specs.Text.{meaning_of}
@@ -78,20 +78,22 @@ dashed_lines ((c ∷ cs) ∷ words) all =
 dashed_value : (c : ℕ) (cs : List ℕ) → IsFirst c cs → last_value 0 None (45 ∷ 32 ∷ c ∷ cs) ≡ Some (record { column = 0; content = c ∷ cs })
 unfolding last_value
 dashed_value c cs w =
-    let here : Option ColumnValue = value_at 2 (Some 0) (c ∷ cs) (entry_of (c ∷ cs)) in
+    let here : Option ColumnValue = value_at 2 (Some 0) (c ∷ cs) (entry_of_line (c ∷ cs)) in
     ap (λ (b : Bool). cond b (last_value 3 (Some 0) cs) (cond (eqb c 45 && blank_or_end cs) (last_value 3 (Some 2) cs) here)) (no_blank c w.first)
     ∙ (ap (λ (b : Bool). cond (b && blank_or_end cs) (last_value 3 (Some 2) cs) here) (no_dash c w.first)
     ∙ ap (value_at 2 (Some 0) (c ∷ cs)) (word_no_entry c cs w))
 
-pub word_with : (content : List ℕ) (c : ℕ) (cs : List ℕ) (later : List LineText) → IsFirst c cs → with_value 0 content later (Some (record { column = 0; content = c ∷ cs })) ≡ Some (bare 0 content outside)
+pub word_with : (content : List ℕ) (c : ℕ) (cs : List ℕ) (later : List LineText) → IsFirst c cs
+    → with_value 0 content later (Some (record { column = 0; content = c ∷ cs })) ≡ Some (bare 0 content outside)
 unfolding with_value
 word_with content c cs later w =
     let far : (k : ℕ) → is_indicator k ≡ true → eqb c k ≡ false = λ k e. apart c k is_indicator w.first.no_indicator e in
-    ap (λ (b : Bool). cond b (option_and_then (with_text 0 content later (margin_of 0 later)) (header_of (c ∷ cs))) (Some (bare 0 content (state_behind (c ∷ cs))))) (or_none (eqb c 124) (eqb c 62) (far 124 refl) (far 62 refl))
+    ap (λ (b : Bool). cond b (option_and_then (with_text 0 content later (margin_of 0 later)) (header_of (c ∷ cs))) (Some (bare 0 content (state_behind (c ∷ cs)))))
+    (or_none (eqb c 124) (eqb c 62) (far 124 refl) (far 62 refl))
     ∙ ap (λ (b : Bool). Some (bare 0 content (cond b (skim outside (c ∷ cs)) outside))) (or_none (eqb c 91) (eqb c 123) (far 91 refl) (far 123 refl))
 
-dashed_left : (c : ℕ) (cs : List ℕ) (later : List LineText) → IsFirst c cs → left_at (standing 0 outside) (45 ∷ 32 ∷ c ∷ cs) later ≡ Some (bare 0 (45 ∷ 32 ∷ c ∷ cs) outside)
-unfolding left_at left_of with_flow
+dashed_left : (c : ℕ) (cs : List ℕ) (later : List LineText) → IsFirst c cs → left_at_line (standing 0 outside) (45 ∷ 32 ∷ c ∷ cs) later ≡ Some (bare 0 (45 ∷ 32 ∷ c ∷ cs) outside)
+unfolding left_at_line left_of with_flow
 dashed_left c cs later w =
     let content : List ℕ = 45 ∷ 32 ∷ c ∷ cs in
     let value : Option Left = with_value 0 content later (last_value 0 None content) in
@@ -120,18 +122,18 @@ dashed_document ([] ∷ words) all = absurd (cc)
 dashed_document ((c ∷ cs) ∷ words) all =
     let ps : List ContentLine = map (item_line 0) ((c ∷ cs) ∷ words) in ap (λ (b : Bool). cond b None (Some ps)) (no_marks ((c ∷ cs) ∷ words) all)
 
-item_whole : (room : ℕ) (words : List (List ℕ)) → list_all is_word words ≡ true → whole room (map (item_line 0) words) ≡ node room (map (item_line 0) words)
-unfolding whole
+item_whole : (room : ℕ) (words : List (List ℕ)) → list_all is_word words ≡ true → whole_text room (map (item_line 0) words) ≡ node room (map (item_line 0) words)
+unfolding whole_text
 item_whole room [] all = refl
 item_whole room (word ∷ words) all = refl
 
-lines_text : (words : List (List ℕ)) → AreWords words → option_and_then (whole most_nodes) (content_lines_of (lines_of_words words)) ≡ Some (list_of_words words)
+lines_text : (words : List (List ℕ)) → AreWords words → option_and_then (whole_text most_nodes) (content_lines_of (lines_of_words words)) ≡ Some (list_of_words words)
 unfolding content_lines_of content_lines_from
 lines_text words are =
-    let read : Option (List ContentLine) → Option Meaning = λ o. option_and_then (whole most_nodes) (option_and_then document o) in
+    let read : Option (List ContentLine) → Option Meaning = λ o. option_and_then (whole_text most_nodes) (option_and_then document o) in
     ap (λ (ls : List LineText). read (all_content_lines (standing 0 outside) ls)) (dashed_lines words are.all)
     ∙ (ap read (dashed_places words are.all)
-    ∙ (ap (option_and_then (whole most_nodes)) (dashed_document words are.all)
+    ∙ (ap (option_and_then (whole_text most_nodes)) (dashed_document words are.all)
     ∙ (item_whole most_nodes words are.all ∙ line_words most_nodes 0 words (omega arith) are)))
 
 -- ---- the line of a flow
@@ -153,8 +155,8 @@ flow_stays : (words : List (List ℕ)) → list_all is_word words ≡ true → l
 unfolding stays
 flow_stays words all = list_all-append stays (join_with_byte 44 words) (93 ∷ []) ∙ ap (λ (b : Bool). b && true) (words_stay words all)
 
-flow_left : (cs : List ℕ) → list_all is_allowed (91 ∷ cs) ≡ true → left_at (standing 0 outside) (91 ∷ cs) [] ≡ Some (bare 0 (91 ∷ cs) (state_behind (91 ∷ cs)))
-unfolding left_at left_of with_flow with_value last_value entry_of begins_plain
+flow_left : (cs : List ℕ) → list_all is_allowed (91 ∷ cs) ≡ true → left_at_line (standing 0 outside) (91 ∷ cs) [] ≡ Some (bare 0 (91 ∷ cs) (state_behind (91 ∷ cs)))
+unfolding left_at_line left_of with_flow with_value last_value entry_of_line begins_plain
 flow_left cs all = ap (λ (b : Bool). cond (not b) None (Some (bare 0 (91 ∷ cs) (state_behind (91 ∷ cs))))) all
 
 abbrev flow_line : List ℕ → ContentLine
@@ -170,23 +172,23 @@ flow_document [] = refl
 flow_document (a ∷ []) = refl
 flow_document (a ∷ b ∷ cs) = refl
 
-flow_whole : (room : ℕ) (cs : List ℕ) → whole room (flow_line cs ∷ []) ≡ flow_meaning room (91 ∷ cs)
-unfolding whole further
+flow_whole : (room : ℕ) (cs : List ℕ) → whole_text room (flow_line cs ∷ []) ≡ flow_meaning room (91 ∷ cs)
+unfolding whole_text further
 flow_whole room cs = ap (λ (ds : List ℕ). flow_meaning room (91 ∷ ds)) (append-nil cs)
 
 pub no_line_behind : (cs : List ℕ) → ◌≡◌ {A = List LineText} (record { text = cs; ended = true } ∷ line_texts []) (record { text = cs; ended = true } ∷ [])
 unfolding line_texts
 no_line_behind cs = refl
 
-flow_text : (words : List (List ℕ)) → AreWords words → option_and_then (whole most_nodes) (content_lines_of (flow_of_words words ++ 10 ∷ [])) ≡ Some (list_of_words words)
+flow_text : (words : List (List ℕ)) → AreWords words → option_and_then (whole_text most_nodes) (content_lines_of (flow_of_words words ++ 10 ∷ [])) ≡ Some (list_of_words words)
 unfolding content_lines_of content_lines_from
 flow_text words are =
     let inner : List ℕ = join_with_byte 44 words ++ 93 ∷ [] in
     let keep = flow_stays words are.all in
-    let read : Option (List ContentLine) → Option Meaning = λ o. option_and_then (whole most_nodes) (option_and_then document o) in
+    let read : Option (List ContentLine) → Option Meaning = λ o. option_and_then (whole_text most_nodes) (option_and_then document o) in
     ap (λ (ls : List LineText). read (all_content_lines (standing 0 outside) ls)) (one_line (91 ∷ inner) [] keep ∙ no_line_behind (91 ∷ inner))
     ∙ (ap read (flow_places inner (weaker stays is_allowed stays_allowed (91 ∷ inner) keep))
-    ∙ (ap (option_and_then (whole most_nodes)) (flow_document inner)
+    ∙ (ap (option_and_then (whole_text most_nodes)) (flow_document inner)
     ∙ (flow_whole most_nodes inner ∙ flow_words most_nodes words (omega arith) are)))
 
 -- ---- the bytes

@@ -8,7 +8,7 @@ use Rattle.std.proofs.lemmas.List.{length-append}
 use Rattle.std.proofs.lemmas.Str.{encodes-append}
 use Rattle.yaml_lines.specs.BlockTexts.{begins_block}
 use Rattle.yaml_lines.specs.Characters.{most_bytes, characters_of, is_blank, is_nil, is_over, begins_with, comment_or_end, without_mark}
-use Rattle.yaml_lines.specs.Entries.{ContentLine, is_item, item_of, rest_of, rest_behind, entry_of}
+use Rattle.yaml_lines.specs.Entries.{ContentLine, is_item, item_of, rest_of, rest_behind, entry_of_line}
 use Rattle.yaml_lines.specs.FlowLines.{begins_flow as begins_flow_line}
 use Rattle.yaml_lines.specs.FlowGaps.{after_gap}
 use Rattle.yaml_lines.specs.FlowTexts.{is_key_end, text_at}
@@ -18,10 +18,10 @@ use Rattle.yaml_lines.specs.Quoted.{begins_quoted, quoted_of}
 use Rattle.yaml_lines.specs.Plain.{plain_of}
 use Rattle.yaml_lines.specs.Scalars.{alone, scalar_meaning}
 use Rattle.yaml_flows.specs.Flows as flows
-use Rattle.yaml_flows.specs.Flows.{Found, mapped, next_part, part, parts_within, list_at, table_at, text_node, begins_flow, is_end, flow_meaning}
+use Rattle.yaml_flows.specs.Flows.{Found, mapped, next_part, part, parts_within, list_at, table_at, text_node, begins_list_or_table, is_end, flow_meaning}
 use Rattle.yaml_flows.specs.Keys.{Row, keys_differ}
 use Rattle.yaml_profile.specs.Blocks as blocks
-use Rattle.yaml_profile.specs.Blocks.{Part, Cut, put, cut, further, block, node, line_node, whole}
+use Rattle.yaml_profile.specs.Blocks.{BlockPart, Cut, put, cut, further, block, node, line_node, whole_text}
 use Rattle.yaml_profile.specs.Text.{meaning_of}
 use Rattle.yaml_profile.specs.TextsWithin.{HasTextsWithin, ItemsHaveTextsWithin, RowsHaveTextsWithin}
 use Rattle.yaml_profile.proofs.Holds.{Holds, map_to, then_to, either, if_true, weaker, all_hold}
@@ -77,10 +77,11 @@ parts_found P n close read h zero cs few = tt
 parts_found P n close read h (suc most) cs few =
     either (FoundWithin (AllByRecursion P) n) (begins_with close cs) _ _ (tt, drop_takes n cs few)
     (then_to (FoundWithin P n) (FoundWithin (AllByRecursion P) n) _
-    (λ found p. map_to (FoundWithin (AllByRecursion P) n) (FoundWithin (AllByRecursion P) n) _ (λ others q. ((p.0, q.0), q.1)) _ (parts_found P n close read h most found.rest p.1)) (part close read cs)
+    (λ found p. map_to (FoundWithin (AllByRecursion P) n) (FoundWithin (AllByRecursion P) n) _ (λ others q. ((p.0, q.0), q.1)) _ (parts_found P n close read h most found.rest p.1))
+    (part close read cs)
     (part_found P n close read h cs few))
 
-colon_takes : (n : ℕ) (quoted : Bool) (cs : List ℕ) → weight cs ≤ n → Holds (Takes n) (flows.behind_colon quoted cs)
+colon_takes : (n : ℕ) (quoted : Bool) (cs : List ℕ) → weight cs ≤ n → Holds (Takes n) (flows.after_flow_colon quoted cs)
 colon_takes n quoted [] h = tt
 colon_takes n quoted (c ∷ cs) h = if_true (Takes n) (is_key_end quoted c cs) cs (λ _. tail_takes n c cs h)
 
@@ -90,11 +91,11 @@ text_found n cs few =
 
 entry_found : (n : ℕ) (read : List ℕ → Option (Found Meaning)) → Reads (HasTextsWithin n) n read → Reads (RowWithin n) n (flows.entry read)
 entry_found n read h cs few =
-    then_to (TextWithin n) (FoundWithin (RowWithin n) n) (flows.row_of read)
+    then_to (TextWithin n) (FoundWithin (RowWithin n) n) (flows.flow_row_of read)
     (λ key k. then_to (Takes n) (FoundWithin (RowWithin n) n) (λ value. option_map (mapped (λ m. (key.text, m))) (read (after_gap value)))
     (λ value v. map_to (FoundWithin (HasTextsWithin n) n) (FoundWithin (RowWithin n) n) (mapped (λ m. (key.text, m))) (λ found p. ((k.0, p.0), p.1)) (read (after_gap value))
     (h (after_gap value) (gap_takes n value v)))
-    (flows.behind_colon key.quoted (after_gap key.rest)) (colon_takes n key.quoted (after_gap key.rest) (gap_takes n key.rest k.1)))
+    (flows.after_flow_colon key.quoted (after_gap key.rest)) (colon_takes n key.quoted (after_gap key.rest) (gap_takes n key.rest k.1)))
     (text_at cs) (text_found n cs few)
 
 list_found : (n : ℕ) (read : List ℕ → Option (Found Meaning)) → Reads (HasTextsWithin n) n read → Reads (HasTextsWithin n) n (list_at read)
@@ -105,7 +106,8 @@ list_found n read h cs few =
 table_found : (n : ℕ) (read : List ℕ → Option (Found Meaning)) → Reads (HasTextsWithin n) n read → Reads (HasTextsWithin n) n (table_at read)
 table_found n read h cs few =
     map_to (FoundWithin (AllByRecursion (RowWithin n)) n) (FoundWithin (HasTextsWithin n) n) _ (λ found p. (rows_from n found.value p.0, p.1)) _
-    (then_to (FoundWithin (AllByRecursion (RowWithin n)) n) (FoundWithin (AllByRecursion (RowWithin n)) n) _ (λ found p. if_true (FoundWithin (AllByRecursion (RowWithin n)) n) (keys_differ found.value) found (λ _. p)) _
+    (then_to (FoundWithin (AllByRecursion (RowWithin n)) n) (FoundWithin (AllByRecursion (RowWithin n)) n) _
+    (λ found p. if_true (FoundWithin (AllByRecursion (RowWithin n)) n) (keys_differ found.value) found (λ _. p)) _
     (parts_found (RowWithin n) n 125 (flows.entry read) (entry_found n read h) _ _ (gap_takes n cs few)))
 
 flow_node : (n room : ℕ) → Reads (HasTextsWithin n) n (flows.node room)
@@ -121,8 +123,9 @@ flow_node n (suc room) (c ∷ cs) few =
 flow_within : (n room : ℕ) (cs : List ℕ) → weight cs ≤ n → Holds (HasTextsWithin n) (flow_meaning room cs)
 unfolding flow_meaning
 flow_within n room cs few =
-    either (HasTextsWithin n) (begins_flow cs) _ None
-    (then_to (FoundWithin (HasTextsWithin n) n) (HasTextsWithin n) _ (λ found p. if_true (HasTextsWithin n) (is_end found.rest) found.value (λ _. p.0)) (flows.node room cs) (flow_node n room cs few)) tt
+    either (HasTextsWithin n) (begins_list_or_table cs) _ None
+    (then_to (FoundWithin (HasTextsWithin n) n) (HasTextsWithin n) _ (λ found p. if_true (HasTextsWithin n) (is_end found.rest) found.value (λ _. p.0)) (flows.node room cs) (flow_node n room cs few))
+    tt
 
 -- ---- lines
 
@@ -171,7 +174,7 @@ line_within n (suc room) place below h =
 
 -- ---- parts
 
-abbrev PartWithin : ℕ → Part → Type 0
+abbrev PartWithin : ℕ → BlockPart → Type 0
 PartWithin n part = AreWithin n (part.head ∷ part.below)
 
 put_before : (n m : ℕ) (b : Bool) (line : ContentLine) (rest : Cut) → HasBlockWithin n line → Fit n m rest.before → Fit n (1 + (weight line.content + m)) (put b line rest).before
@@ -207,7 +210,8 @@ parts_within_all n belongs first later h =
 abbrev FrontWithin : ℕ → List ContentLine → List ContentLine → Type 0
 FrontWithin n below front = AreWithin n (front ++ below)
 
-behind_within : (n at : ℕ) (own : Option (List ℕ)) (spaces : Bool) (cs : List ℕ) (below : List ContentLine) → AllByRecursion (HasBlockWithin n) below → BlockWithin n own → 1 + (weight cs + total below) ≤ suc n
+behind_within : (n at : ℕ) (own : Option (List ℕ)) (spaces : Bool) (cs : List ℕ) (below : List ContentLine) → AllByRecursion (HasBlockWithin n) below → BlockWithin n own
+    → 1 + (weight cs + total below) ≤ suc n
     → Holds (FrontWithin n below) (rest_behind at own spaces cs)
 behind_within n at own spaces cs below h k few =
     either (FrontWithin n below) (comment_or_end cs) (Some []) _ (h, omega arith)
@@ -222,9 +226,10 @@ item_within n head below h =
     let rest : weight (drop blanks (drop 1 head.content)) ≤ weight (drop 1 head.content) = drop_within blanks (drop 1 head.content) in
     behind_within n _ head.block _ (drop blanks (drop 1 head.content)) below h.0.1 h.0.0 (omega arith)
 
-module _ (n : ℕ) (node : List ContentLine → Option Meaning) (line : ContentLine → List ContentLine → Option Meaning) (h : (lines : List ContentLine) → AreWithin n lines → Holds (HasTextsWithin n) (node lines))
+module _ (n : ℕ) (node : List ContentLine → Option Meaning) (line : ContentLine → List ContentLine → Option Meaning)
+    (h : (lines : List ContentLine) → AreWithin n lines → Holds (HasTextsWithin n) (node lines))
     (k : (place : ContentLine) (below : List ContentLine) → AreWithin n (place ∷ below) → Holds (HasTextsWithin n) (line place below)) where
-  an_item : (indent : ℕ) (part : Part) → PartWithin n part → Holds (HasTextsWithin n) (blocks.item node indent part)
+  an_item : (indent : ℕ) (part : BlockPart) → PartWithin n part → Holds (HasTextsWithin n) (blocks.item node indent part)
   an_item indent part p =
       either (HasTextsWithin n) (eqb part.head.indent indent && is_item part.head.content) _ None
       (then_to (FrontWithin n part.below) (HasTextsWithin n) (λ front. node (front ++ part.below)) (λ front q. h (front ++ part.below) q) (item_of part.head) (item_within n part.head part.below p)) tt
@@ -232,7 +237,7 @@ module _ (n : ℕ) (node : List ContentLine → Option Meaning) (line : ContentL
   a_value : (place : ContentLine) (below : List ContentLine) → AreWithin n (place ∷ below) → Holds (HasTextsWithin n) (blocks.value node line place below)
   a_value place below p = let few = p.1 in either (HasTextsWithin n) (is_nil place.content) (node below) (line place below) (h below (p.0.1, omega arith)) (k place below p)
 
-  an_entry : (indent : ℕ) (part : Part) → PartWithin n part → Holds (RowWithin n) (blocks.entry node line indent part)
+  an_entry : (indent : ℕ) (part : BlockPart) → PartWithin n part → Holds (RowWithin n) (blocks.entry node line indent part)
   an_entry indent part p =
       let few = p.1 in
       either (RowWithin n) (eqb part.head.indent indent) _ None
@@ -242,7 +247,7 @@ module _ (n : ℕ) (node : List ContentLine → Option Meaning) (line : ContentL
       let value = e.1 in
       map_to (HasTextsWithin n) (RowWithin n) (λ v. (entry.key, v)) (λ v q. (omega arith, q)) (blocks.value node line (blocks.value_place part.head entry) part.below)
       (a_value (blocks.value_place part.head entry) part.below (p.0, omega arith)))
-      (entry_of part.head.content) (entry_fits part.head.content)) tt
+      (entry_of_line part.head.content) (entry_fits part.head.content)) tt
 
   a_block : (own : Option Meaning) (listed keyed : Bool) (first : ContentLine) (later : List ContentLine) → AreWithin n (first ∷ later) → Holds (HasTextsWithin n) own
       → Holds (HasTextsWithin n) (block node line own listed keyed first later)
@@ -263,11 +268,11 @@ unfolding node
 node_within n zero lines h = tt
 node_within n (suc room) [] h = tt
 node_within n (suc room) (first ∷ later) h =
-    a_block n (node room) (line_node room) (node_within n room) (line_within n room) (line_node (suc room) first later) (is_item first.content) (is_some (entry_of first.content)) first later h
+    a_block n (node room) (line_node room) (node_within n room) (line_within n room) (line_node (suc room) first later) (is_item first.content) (is_some (entry_of_line first.content)) first later h
     (line_within n (suc room) first later h)
 
-whole_within : (n room : ℕ) (lines : List ContentLine) → AreWithin n lines → Holds (HasTextsWithin n) (whole room lines)
-unfolding whole
+whole_within : (n room : ℕ) (lines : List ContentLine) → AreWithin n lines → Holds (HasTextsWithin n) (whole_text room lines)
+unfolding whole_text
 whole_within n room [] h = node_within n room [] h
 whole_within n room (first ∷ later) h =
     let few = h.1 in
@@ -279,7 +284,7 @@ whole_within n room (first ∷ later) h =
 text_within : (bytes : List ℕ) → Holds (HasTextsWithin (length bytes)) (meaning_of bytes)
 unfolding meaning_of
 text_within bytes =
-    then_to (AreWithin (length bytes)) (HasTextsWithin (length bytes)) (whole most_nodes) (whole_within (length bytes) most_nodes) (content_lines_of_bytes bytes) (content_lines_fit bytes)
+    then_to (AreWithin (length bytes)) (HasTextsWithin (length bytes)) (whole_text most_nodes) (whole_within (length bytes) most_nodes) (content_lines_of_bytes bytes) (content_lines_fit bytes)
 
 -- of a text that is read
 pub texts_within : (bytes : List ℕ) (meant : Meaning) → meaning_of bytes ≡ Some meant → HasTextsWithin (length bytes) meant
@@ -292,7 +297,7 @@ unfolding meaning_of content_lines_of_bytes characters_of
 none_left bytes e =
     ap
     (λ (b : Bool).
-    option_and_then (whole most_nodes) (option_and_then content_lines_of (cond b None (cond (is_utf8 bytes) (Some (without_mark (chars bytes))) None))))
+    option_and_then (whole_text most_nodes) (option_and_then content_lines_of (cond b None (cond (is_utf8 bytes) (Some (without_mark (chars bytes))) None))))
     e
 
 none_is : (meant : Meaning) → None ≡ Some meant → ⊥

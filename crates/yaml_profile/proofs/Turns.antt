@@ -4,7 +4,7 @@ use Rattle.std.proofs.lemmas.List.{map-append}
 use Rattle.std.proofs.Math.Seq.{take-length}
 use Rattle.yaml_lines.specs.Entries.{ContentLine}
 use Rattle.yaml_lines.specs.Meaning.{Meaning}
-use Rattle.yaml_profile.specs.Blocks.{Part, cut, parts, all_of, is_deeper, is_below_key, item, items, entry, rows, distinct}
+use Rattle.yaml_profile.specs.Blocks.{BlockPart, cut, parts, all_of, is_deeper, is_below_key, item, items, entry, rows, distinct}
 use Rattle.yaml_profile.proofs.Lists.{prepend, none_before}
 use Rattle.yaml_profile.proofs.Tables.{rows_with}
 
@@ -12,7 +12,7 @@ use Rattle.yaml_profile.proofs.Tables.{rows_with}
 pub begun : (t : ContentLine → Bool) (lines others below after : List ContentLine) (head : ContentLine) → lines ≡ head ∷ others → below ≡ (cut t others).before
     → parts t after ≡ (cut t others).parts → parts t lines ≡ record { head = head; below = below } ∷ parts t after
 begun t lines others below after head e b p =
-    let part : List ContentLine → List Part → List Part = λ ls ps. record { head = head; below = ls } ∷ ps in
+    let part : List ContentLine → List BlockPart → List BlockPart = λ ls ps. record { head = head; below = ls } ∷ ps in
     ap (parts t) e ∙ ap₂ part (sym b) (sym p)
 
 -- a list that isn't empty, by its first element and the others

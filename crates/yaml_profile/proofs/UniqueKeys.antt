@@ -7,19 +7,19 @@ use Rattle.std.proofs.lemmas.Slice.Eq.{bytes_eq-Decides}
 use Rattle.yaml_lines.specs.Characters.{is_nil, is_over, begins_with}
 use Rattle.yaml_lines.specs.BlockTexts.{begins_block}
 use Rattle.yaml_lines.specs.FlowLines.{begins_flow as begins_flow_line}
-use Rattle.yaml_lines.specs.Entries.{ContentLine, is_item, item_of, entry_of}
+use Rattle.yaml_lines.specs.Entries.{ContentLine, is_item, item_of, entry_of_line}
 use Rattle.yaml_lines.specs.Lines.{content_lines_of_bytes}
 use Rattle.yaml_lines.specs.Meaning.{Meaning, text, list, table, meanings_of, members_of, most_nodes}
 use Rattle.yaml_lines.specs.Quoted.{begins_quoted, quoted_of}
 use Rattle.yaml_lines.specs.Plain.{plain_of}
 use Rattle.yaml_lines.specs.Scalars.{alone, scalar_meaning}
 use Rattle.yaml_flows.specs.Flows as flows
-use Rattle.yaml_flows.specs.Flows.{Found, mapped, part, parts_within, list_at, table_at, text_node, begins_flow, is_end, flow_meaning}
+use Rattle.yaml_flows.specs.Flows.{Found, mapped, part, parts_within, list_at, table_at, text_node, begins_list_or_table, is_end, flow_meaning}
 use Rattle.yaml_lines.specs.FlowGaps.{after_gap}
 use Rattle.yaml_lines.specs.FlowTexts.{text_at}
 use Rattle.yaml_flows.specs.Keys.{Row, keys_differ}
 use Rattle.yaml_profile.specs.Blocks as blocks
-use Rattle.yaml_profile.specs.Blocks.{Part, all_of, block, list_of, table_of, node, line_node, whole}
+use Rattle.yaml_profile.specs.Blocks.{BlockPart, all_of, block, list_meaning, table_meaning, node, line_node, whole_text}
 use Rattle.yaml_profile.specs.Text.{meaning_of}
 use Rattle.yaml_profile.proofs.Holds.{Holds, of_map, map_to, then_any, then_to, either, if_true}
 use Rattle.yaml_profile.specs.UniqueKeys.{keys, HasUniqueKeys, ItemsHaveUniqueKeys, ValuesHaveUniqueKeys}
@@ -89,10 +89,10 @@ parts_found P close read h (suc most) cs =
 
 entry_found : (read : List ℕ → Option (Found Meaning)) → ((cs : List ℕ) → Holds (FoundAs HasUniqueKeys) (read cs)) → (cs : List ℕ) → Holds (FoundAs IsUniqueRow) (flows.entry read cs)
 entry_found read h cs =
-    then_any (FoundAs IsUniqueRow) (flows.row_of read)
+    then_any (FoundAs IsUniqueRow) (flows.flow_row_of read)
     (λ key. then_any (FoundAs IsUniqueRow) (λ value. option_map (mapped (λ m. (key.text, m))) (read (after_gap value)))
     (λ value. map_to (FoundAs HasUniqueKeys) (FoundAs IsUniqueRow) (mapped (λ m. (key.text, m))) (λ found p. p) (read (after_gap value)) (h (after_gap value)))
-    (flows.behind_colon key.quoted (after_gap key.rest)))
+    (flows.after_flow_colon key.quoted (after_gap key.rest)))
     (text_at cs)
 
 list_found : (read : List ℕ → Option (Found Meaning)) → ((cs : List ℕ) → Holds (FoundAs HasUniqueKeys) (read cs)) → (cs : List ℕ) → Holds (FoundAs HasUniqueKeys) (list_at read cs)
@@ -116,7 +116,7 @@ flow_node (suc room) (c ∷ cs) =
 flow_unique : (room : ℕ) (cs : List ℕ) → Holds HasUniqueKeys (flow_meaning room cs)
 unfolding flow_meaning
 flow_unique room cs =
-    either HasUniqueKeys (begins_flow cs) _ None
+    either HasUniqueKeys (begins_list_or_table cs) _ None
     (then_to (FoundAs HasUniqueKeys) HasUniqueKeys _ (λ found p. if_true HasUniqueKeys (is_end found.rest) found.value (λ _. p)) (flows.node room cs) (flow_node room cs)) tt
 
 -- ---- lines
@@ -147,7 +147,7 @@ line_unique (suc room) place below =
 
 module _ (node : List ContentLine → Option Meaning) (line : ContentLine → List ContentLine → Option Meaning) (h : (lines : List ContentLine) → Holds HasUniqueKeys (node lines))
     (k : (place : ContentLine) (below : List ContentLine) → Holds HasUniqueKeys (line place below)) where
-  item_unique : (indent : ℕ) (part : Part) → Holds HasUniqueKeys (blocks.item node indent part)
+  item_unique : (indent : ℕ) (part : BlockPart) → Holds HasUniqueKeys (blocks.item node indent part)
   item_unique indent part =
       either HasUniqueKeys (eqb part.head.indent indent && is_item part.head.content) _ None
       (then_any HasUniqueKeys (λ front. node (front ++ part.below)) (λ front. h (front ++ part.below)) (item_of part.head)) tt
@@ -155,14 +155,16 @@ module _ (node : List ContentLine → Option Meaning) (line : ContentLine → Li
   value_unique : (place : ContentLine) (below : List ContentLine) → Holds HasUniqueKeys (blocks.value node line place below)
   value_unique place below = either HasUniqueKeys (is_nil place.content) (node below) (line place below) (h below) (k place below)
 
-  entry_unique : (indent : ℕ) (part : Part) → Holds IsUniqueRow (blocks.entry node line indent part)
+  entry_unique : (indent : ℕ) (part : BlockPart) → Holds IsUniqueRow (blocks.entry node line indent part)
   entry_unique indent part =
       either IsUniqueRow (eqb part.head.indent indent) _ None
       (then_any IsUniqueRow (blocks.row node line part)
-      (λ entry. map_to HasUniqueKeys IsUniqueRow (λ v. (entry.key, v)) (λ v p. p) (blocks.value node line (blocks.value_place part.head entry) part.below) (value_unique (blocks.value_place part.head entry) part.below))
-      (entry_of part.head.content)) tt
+      (λ entry. map_to HasUniqueKeys IsUniqueRow (λ v. (entry.key, v)) (λ v p. p) (blocks.value node line (blocks.value_place part.head entry) part.below)
+      (value_unique (blocks.value_place part.head entry) part.below))
+      (entry_of_line part.head.content)) tt
 
-  block_unique : (own : Option Meaning) (listed keyed : Bool) (first : ContentLine) (later : List ContentLine) → Holds HasUniqueKeys own → Holds HasUniqueKeys (block node line own listed keyed first later)
+  block_unique : (own : Option Meaning) (listed keyed : Bool) (first : ContentLine) (later : List ContentLine) → Holds HasUniqueKeys own
+      → Holds HasUniqueKeys (block node line own listed keyed first later)
   block_unique own true keyed first later o =
       map_to (AllByRecursion HasUniqueKeys) HasUniqueKeys (λ ms. list (meanings_of ms)) (λ ms p. items_from ms p) (blocks.items node first later)
       (each_holds HasUniqueKeys (blocks.item node first.indent) (item_unique first.indent) (blocks.parts (blocks.is_deeper first.indent) (first ∷ later)))
@@ -178,11 +180,11 @@ unfolding node
 node_unique zero lines = tt
 node_unique (suc room) [] = tt
 node_unique (suc room) (first ∷ later) =
-    block_unique (node room) (line_node room) (node_unique room) (line_unique room) (line_node (suc room) first later) (is_item first.content) (is_some (entry_of first.content)) first later
+    block_unique (node room) (line_node room) (node_unique room) (line_unique room) (line_node (suc room) first later) (is_item first.content) (is_some (entry_of_line first.content)) first later
     (line_unique (suc room) first later)
 
-whole_unique : (room : ℕ) (lines : List ContentLine) → Holds HasUniqueKeys (whole room lines)
-unfolding whole
+whole_unique : (room : ℕ) (lines : List ContentLine) → Holds HasUniqueKeys (whole_text room lines)
+unfolding whole_text
 whole_unique room [] = node_unique room []
 whole_unique room (first ∷ later) =
     either HasUniqueKeys (begins_block first.content) None _ tt
@@ -190,7 +192,7 @@ whole_unique room (first ∷ later) =
 
 text_unique : (bytes : List ℕ) → Holds HasUniqueKeys (meaning_of bytes)
 unfolding meaning_of
-text_unique bytes = then_any HasUniqueKeys (whole most_nodes) (whole_unique most_nodes) (content_lines_of_bytes bytes)
+text_unique bytes = then_any HasUniqueKeys (whole_text most_nodes) (whole_unique most_nodes) (content_lines_of_bytes bytes)
 
 -- of a text that is read
 pub unique_keys : (bytes : List ℕ) (meant : Meaning) → meaning_of bytes ≡ Some meant → HasUniqueKeys meant

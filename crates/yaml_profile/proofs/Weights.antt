@@ -6,12 +6,12 @@ use Rattle.std.specs.List.{prefix_len}
 use Rattle.std.proofs.lemmas.List.{length-append}
 use Rattle.std.proofs.lemmas.Str.{length-encode, len_utf8_bounds}
 use Rattle.yaml_lines.specs.Characters.{is_blank, is_nil, comment_or_end, trim_start}
-use Rattle.yaml_lines.specs.Entries.{KeyAndValue, value_behind, plain_entry, quoted_entry, behind_colon, entry_of}
+use Rattle.yaml_lines.specs.Entries.{KeyAndValue, value_behind, plain_entry, quoted_entry, behind_colon, entry_of_line}
 use Rattle.yaml_lines.specs.FlowGaps.{behind_gap, after_gap, is_of_gap, in_comment}
 use Rattle.yaml_lines.specs.FlowTexts.{FlowText, plain_text, plain_extent, plain_at, quoted_text, text_at}
 use Rattle.yaml_lines.specs.FlowTexts as flow_texts
 use Rattle.yaml_lines.specs.Plain.{begins_plain, uncommented, trim_end, Sides, before_side, sides_of, plain_of}
-use Rattle.yaml_lines.specs.Quoted.{Step, after_quote, single_step, coded, pair_of, two_digits, four_digits, named, escaped, double_step, step_of, Quoted, quoted_within, is_quote, begins_quoted, quoted_of}
+use Rattle.yaml_lines.specs.Quoted.{QuotedStep, after_quote, single_step, coded, pair_of, two_digits, four_digits, named, escaped, double_step, step_of, Quoted, quoted_within, is_quote, begins_quoted, quoted_of}
 use Rattle.yaml_lines.specs.Quoted as quotes
 use Rattle.yaml_profile.proofs.Holds.{Holds, map_to, then_any, then_to, either, if_true, weaker}
 
@@ -86,10 +86,10 @@ character_size None = 0
 character_size (Some c) = size c
 
 -- the step's character and what follows take no more than this
-abbrev StepWithin : ℕ → Step → Type 0
+abbrev StepWithin : ℕ → QuotedStep → Type 0
 StepWithin n step = character_size step.character + weight step.rest ≤ n
 
-either_step : (n : ℕ) (b : Bool) (s t : Step) → StepWithin n s → StepWithin n t → StepWithin n (cond b s t)
+either_step : (n : ℕ) (b : Bool) (s t : QuotedStep) → StepWithin n s → StepWithin n t → StepWithin n (cond b s t)
 either_step n true s t h k = h
 either_step n false s t h k = k
 
@@ -142,7 +142,8 @@ four_within (a ∷ (b ∷ (c ∷ (d ∷ rest)))) =
     let third = one_less c (d ∷ rest) in
     let fourth = one_less d rest in
     let P = StepWithin (2 + weight (a ∷ (b ∷ (c ∷ (d ∷ rest))))) in
-    then_any P _ (λ high. then_any P (λ low. coded rest (high * 256 + low)) (λ low. coded_within (2 + weight (a ∷ (b ∷ (c ∷ (d ∷ rest))))) rest (high * 256 + low) (omega arith)) (pair_of c d)) (pair_of a b)
+    then_any P _ (λ high. then_any P (λ low. coded rest (high * 256 + low)) (λ low. coded_within (2 + weight (a ∷ (b ∷ (c ∷ (d ∷ rest))))) rest (high * 256 + low) (omega arith)) (pair_of c d))
+    (pair_of a b)
 
 abbrev SizeWithin : ℕ → ℕ → Type 0
 SizeWithin n d = size d ≤ n
@@ -270,8 +271,8 @@ plain_entry_within n sides h =
     let trimmed : weight (trim_end sides.before) ≤ weight sides.before = trim_within sides.before in
     (omega arith, value_within n sides.behind h.1)
 
-pub entry_fits : (content : List ℕ) → Holds (EntryWithin (weight content)) (entry_of content)
-unfolding entry_of
+pub entry_fits : (content : List ℕ) → Holds (EntryWithin (weight content)) (entry_of_line content)
+unfolding entry_of_line
 entry_fits content =
     let n : ℕ = weight content in
     either (EntryWithin n) (begins_quoted content) _ _

@@ -4,7 +4,7 @@ use Rattle.std.proofs.lemmas.Bool.{eqb-true, ne_eqb, ltb-true, le-leb}
 use Rattle.std.specs.List.{list_all}
 use Rattle.std.specs.Str.{encode_utf8_all}
 use Rattle.yaml_lines.specs.Characters.{is_blank, is_allowed, is_nil, blank_or_end}
-use Rattle.yaml_lines.specs.Entries.{KeyAndValue, is_item, entry_of, quoted_entry, plain_entry}
+use Rattle.yaml_lines.specs.Entries.{KeyAndValue, is_item, entry_of_line, quoted_entry, plain_entry}
 use Rattle.yaml_lines.specs.Meaning.{text}
 use Rattle.yaml_lines.specs.Plain.{is_indicator, is_mark_character, begins_plain, plain_of, Sides, before_side, sides_of, trim_end, uncommented}
 use Rattle.yaml_lines.specs.Quoted.{is_quote, quoted_of}
@@ -146,8 +146,8 @@ pub word_no_item : (c : ℕ) (cs : List ℕ) → IsFirst c cs → is_item (c ∷
 unfolding is_item
 word_no_item c cs w = ap (λ (b : Bool). b && blank_or_end cs) (no_dash c w.first)
 
-pub word_no_entry : (c : ℕ) (cs : List ℕ) → IsFirst c cs → entry_of (c ∷ cs) ≡ None
-unfolding entry_of
+pub word_no_entry : (c : ℕ) (cs : List ℕ) → IsFirst c cs → entry_of_line (c ∷ cs) ≡ None
+unfolding entry_of_line
 word_no_entry c cs w =
     let plain : Option KeyAndValue = option_map plain_entry (sides_of true (c ∷ cs)) in
     ap (λ (b : Bool). cond b (option_and_then quoted_entry (quoted_of (c ∷ cs))) (cond (begins_plain (c ∷ cs)) plain None)) (no_quote c w.first)

@@ -4,7 +4,7 @@ use Rattle.std.specs.Prelude.{ℕ, zero, suc, Bool, true, false, ◌&&◌, ◌||
 use Rattle.std.specs.List.{list_all}
 use Rattle.yaml_lines.specs.BlockTexts.{begins_block}
 use Rattle.yaml_lines.specs.Characters.{is_nil}
-use Rattle.yaml_lines.specs.Entries.{ContentLine, KeyAndValue, is_item, item_of, entry_of}
+use Rattle.yaml_lines.specs.Entries.{ContentLine, KeyAndValue, is_item, item_of, entry_of_line}
 use Rattle.yaml_flows.specs.Flows.{flow_meaning}
 use Rattle.yaml_flows.specs.Keys.{Row, keys_differ}
 use Rattle.yaml_lines.specs.FlowLines.{begins_flow, is_closing}
@@ -12,14 +12,14 @@ use Rattle.yaml_lines.specs.Meaning.{Meaning, text, list, table, empty, meanings
 use Rattle.yaml_lines.specs.Scalars.{scalar_meaning}
 
 -- A part of a list or a table: the line that begins it, and the lines after it that belong to it.
-pub record Part : Type 0 where
+pub record BlockPart : Type 0 where
   pub head : ContentLine
   pub below : List ContentLine
 
 -- Lines, cut before each that begins a part. `before` are those before the first part.
 pub record Cut : Type 0 where
   pub before : List ContentLine
-  pub parts : List Part
+  pub parts : List BlockPart
 
 -- one line more at the start, which belongs to the part above it or begins a part
 abbrev pub put : Bool → ContentLine → Cut → Cut
@@ -32,7 +32,7 @@ cut belongs [] = record { before = []; parts = [] }
 cut belongs (line ∷ lines) = put (belongs line) line (cut belongs lines)
 
 -- the parts of lines, the first of which begins a part
-abbrev pub parts : (ContentLine → Bool) → List ContentLine → List Part
+abbrev pub parts : (ContentLine → Bool) → List ContentLine → List BlockPart
 parts belongs [] = []
 parts belongs (first ∷ later) = record { head = first; below = (cut belongs later).before } ∷ (cut belongs later).parts
 
@@ -63,7 +63,7 @@ all_of f (x ∷ xs) = option_and_then (λ y. option_map (λ ys. y ∷ ys) (all_o
 
 -- An item: what follows the dash, as a line of its own, with the deeper lines. Each item's dash has the
 -- same indentation.
-abbrev pub item : (List ContentLine → Option Meaning) → ℕ → Part → Option Meaning
+abbrev pub item : (List ContentLine → Option Meaning) → ℕ → BlockPart → Option Meaning
 item node indent part =
     if part.head.indent == indent && is_item part.head.content
     then option_and_then (λ front. node (front ++ part.below)) (item_of part.head)
@@ -76,9 +76,10 @@ lone meant (line ∷ lines) = None
 
 -- A text: the block text that the content begins, otherwise the plain or quoted text that it is. A block
 -- text belongs to a key or a dash: on a line of its own none begins.
-abbrev pub text_of : ContentLine → Option Meaning
-text_of place =
-    if begins_block place.content then option_map (λ bytes. text bytes false) place.block else scalar_meaning place.content
+abbrev pub text_meaning : ContentLine → Option Meaning
+text_meaning place =
+    if begins_block place.content then option_map (λ bytes. text bytes false) place.block else scalar_meaning
+    place.content
 
 -- the characters of further lines, each after a line feed
 unfoldable pub further : List ContentLine → List ℕ
@@ -95,11 +96,13 @@ flow room content later = flow_meaning room (content ++ further later)
 abbrev pub line_node : ℕ → ContentLine → List ContentLine → Option Meaning
 line_node zero place below = None
 line_node (suc room) place below =
-    if begins_flow place.content then (if list_all (is_in_flow place.indent) below then flow (suc room) place.content below else None)
-    else lone (text_of place) below
+    if begins_flow place.content then (if list_all (is_in_flow place.indent) below then flow (suc room) place.content
+    below else None)
+    else lone (text_meaning place) below
 
 -- A key's value: the node that begins on its line, otherwise the node of the lines below.
-abbrev pub value : (List ContentLine → Option Meaning) → (ContentLine → List ContentLine → Option Meaning) → ContentLine → List ContentLine → Option Meaning
+abbrev pub value : (List ContentLine → Option Meaning) → (ContentLine → List ContentLine → Option Meaning) → ContentLine
+    → List ContentLine → Option Meaning
 value node line place below = if is_nil place.content then node below else line place below
 
 -- a key's value as a content line, as deep as its line
@@ -107,13 +110,15 @@ abbrev pub value_place : ContentLine → KeyAndValue → ContentLine
 value_place head entry = record { indent = head.indent; content = entry.value; block = head.block }
 
 -- a key with its value
-abbrev pub row : (List ContentLine → Option Meaning) → (ContentLine → List ContentLine → Option Meaning) → Part → KeyAndValue → Option Row
+abbrev pub row : (List ContentLine → Option Meaning) → (ContentLine → List ContentLine → Option Meaning) → BlockPart
+    → KeyAndValue → Option Row
 row node line part entry = option_map (λ v. (entry.key, v)) (value node line (value_place part.head entry) part.below)
 
 -- An entry of a table: a key with its value. Each key has the same indentation.
-abbrev pub entry : (List ContentLine → Option Meaning) → (ContentLine → List ContentLine → Option Meaning) → ℕ → Part → Option Row
+abbrev pub entry : (List ContentLine → Option Meaning) → (ContentLine → List ContentLine → Option Meaning) → ℕ
+    → BlockPart → Option Row
 entry node line indent part =
-    if part.head.indent == indent then option_and_then (row node line part) (entry_of part.head.content) else None
+    if part.head.indent == indent then option_and_then (row node line part) (entry_of_line part.head.content) else None
 
 -- a table's rows, if no key occurs twice (section 3.2.1.3 "Node Comparison")
 abbrev pub distinct : List Row → Option (List Row)
@@ -124,22 +129,24 @@ abbrev pub items : (List ContentLine → Option Meaning) → ContentLine → Lis
 items node first later = all_of (item node first.indent) (parts (is_deeper first.indent) (first ∷ later))
 
 -- the keys of a table with their values; `first` is its first line, `later` the lines after it
-abbrev pub rows : (List ContentLine → Option Meaning) → (ContentLine → List ContentLine → Option Meaning) → ContentLine → List ContentLine → Option (List Row)
+abbrev pub rows : (List ContentLine → Option Meaning) → (ContentLine → List ContentLine → Option Meaning) → ContentLine
+    → List ContentLine → Option (List Row)
 rows node line first later =
     option_and_then distinct (all_of (entry node line first.indent) (parts (is_below_key first.indent) (first ∷ later)))
 
 -- what a list and a table mean
-abbrev pub list_of : Option (List Meaning) → Option Meaning
-list_of found = option_map (λ ms. list (meanings_of ms)) found
+abbrev pub list_meaning : Option (List Meaning) → Option Meaning
+list_meaning found = option_map (λ ms. list (meanings_of ms)) found
 
-abbrev pub table_of : Option (List Row) → Option Meaning
-table_of found = option_map (λ rs. table (members_of rs)) found
+abbrev pub table_meaning : Option (List Row) → Option Meaning
+table_meaning found = option_map (λ rs. table (members_of rs)) found
 
 -- A node by its first line: a list if it begins with a dash, a table if it begins with a key, otherwise
 -- what is on that line. `own` is the last of these.
-abbrev pub block : (List ContentLine → Option Meaning) → (ContentLine → List ContentLine → Option Meaning) → Option Meaning → Bool → Bool → ContentLine → List ContentLine → Option Meaning
-block node line own true keyed first later = list_of (items node first later)
-block node line own false true first later = table_of (rows node line first later)
+abbrev pub block : (List ContentLine → Option Meaning) → (ContentLine → List ContentLine → Option Meaning)
+    → Option Meaning → Bool → Bool → ContentLine → List ContentLine → Option Meaning
+block node line own true keyed first later = list_meaning (items node first later)
+block node line own false true first later = table_meaning (rows node line first later)
 block node line own false false first later = own
 
 -- What lines mean, if at most `room` nodes may be nested: texts and empty nodes count.
@@ -147,11 +154,12 @@ unfoldable pub node : ℕ → List ContentLine → Option Meaning
 node zero lines = None
 node (suc room) [] = Some empty
 node (suc room) (first ∷ later) =
-    block (node room) (line_node room) (line_node (suc room) first later) (is_item first.content) (is_some (entry_of first.content)) first later
+    block (node room) (line_node room) (line_node (suc room) first later) (is_item first.content)
+    (is_some (entry_of_line first.content)) first later
 
--- What the lines of a whole text mean. No block text is one, and the lines of a flow may have any depth.
-unfoldable pub whole : ℕ → List ContentLine → Option Meaning
-whole room [] = node room []
-whole room (first ∷ later) =
+-- What the lines of a whole_text text mean. No block text is one, and the lines of a flow may have any depth.
+unfoldable pub whole_text : ℕ → List ContentLine → Option Meaning
+whole_text room [] = node room []
+whole_text room (first ∷ later) =
     if begins_block first.content then None
     else (if begins_flow first.content then flow room first.content later else node room (first ∷ later))

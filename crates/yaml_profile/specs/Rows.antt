@@ -6,8 +6,8 @@ use Rattle.yaml_lines.specs.View.{member_view}
 use Rattle.yaml_lines.specs.declared.node.Node.{Node}
 use Rattle.yaml_flows.specs.Keys.{Row}
 
-abbrev pub rows_of : Vec (String Global × Node) Global → List Row
-rows_of v = map member_view v.items
+abbrev pub rows_of_vector : Vec (String Global × Node) Global → List Row
+rows_of_vector v = map member_view v.items
 
 -- the row, unless its key was seen
 abbrev pub fresh : (List ℕ → Bool) → Option Row → Option Row

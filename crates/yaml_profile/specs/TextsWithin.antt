@@ -18,4 +18,5 @@ abbrev mutual
   -- nor has one of the keys or the values
   pub RowsHaveTextsWithin : ℕ → Members → Type 0
   RowsHaveTextsWithin most no_members = ⊤
-  RowsHaveTextsWithin most (member key value ms) = (length key ≤ most) × HasTextsWithin most value × RowsHaveTextsWithin most ms
+  RowsHaveTextsWithin most (member key value ms) =
+      (length key ≤ most) × HasTextsWithin most value × RowsHaveTextsWithin most ms

@@ -9,15 +9,15 @@ keys no_members = []
 keys (member key value ms) = key ∷ keys ms
 
 -- no two of the texts are equal
-abbrev pub AreDistinct : List (List ℕ) → Type 0
-AreDistinct texts = AllPairs (λ a b. a ≢ b) texts
+abbrev pub AreDistinctTexts : List (List ℕ) → Type 0
+AreDistinctTexts texts = AllPairs (λ a b. a ≢ b) texts
 
 -- no table of the meaning has a key twice
 abbrev mutual
   pub HasUniqueKeys : Meaning → Type 0
   HasUniqueKeys (text content quoted) = ⊤
   HasUniqueKeys (list ms) = ItemsHaveUniqueKeys ms
-  HasUniqueKeys (table ms) = AreDistinct (keys ms) × ValuesHaveUniqueKeys ms
+  HasUniqueKeys (table ms) = AreDistinctTexts (keys ms) × ValuesHaveUniqueKeys ms
   HasUniqueKeys empty = ⊤
 
   -- nor does one of the items

@@ -9,7 +9,7 @@ ghost use Rattle.yaml_lines.specs.Meaning.{most_nodes};
 ghost use Rattle.yaml_lines.specs.Faults.{Gives};
 ghost use Rattle.yaml_lines.specs.View.{view, member_view};
 ghost use Rattle.yaml_profile.specs.Blocks as blocks;
-ghost use Rattle.yaml_profile.specs.Rows.{fresh, rows_of};
+ghost use Rattle.yaml_profile.specs.Rows.{fresh, rows_of_vector};
 
 use crate::inline::{Inline, fault, line_node};
 use crate::keys::see;
@@ -160,7 +160,7 @@ fn rows(
     end: YamlFault,
 ) -> Result<Vec<(String, Node)>, YamlFault>
     requires { room ≤ most_nodes }
-    ensures { Gives rows_of result
+    ensures { Gives rows_of_vector result
         (blocks.rows (blocks.node room) (blocks.line_node room) first.now later.now) }
 {
     let indent = first.indent();

@@ -5,7 +5,7 @@
 ghost use Rattle.std.specs.Prelude.{◌≡◌, ◌≤◌, ◌++◌, IfOk, if◌then◌else◌};
 ghost use Rattle.std.specs.List.{list_all};
 ghost use Rattle.yaml_lines.specs.Meaning.{most_nodes};
-ghost use Rattle.yaml_flows.specs.Faults.{Gives as FlowGives};
+ghost use Rattle.yaml_flows.specs.Faults.{GivesFlow as FlowGives};
 ghost use Rattle.yaml_lines.specs.Faults.{Gives};
 ghost use Rattle.yaml_lines.specs.View.{view};
 ghost use Rattle.yaml_lines.specs.declared.fault.YamlKind.TheVariants.{OutOfMemory};

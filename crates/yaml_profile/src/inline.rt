@@ -101,7 +101,7 @@ fn block_node(
 
 // A text: the block text that the content begins, otherwise the plain or quoted text that it is.
 fn text_node(alloc: Global, place: &Inline<'_, '_, '_>) -> Result<Node, YamlFault>
-    ensures { Gives view result (blocks.text_of place.now) }
+    ensures { Gives view result (blocks.text_meaning place.now) }
 {
     if begins_block(place.content) {
         block_node(alloc, place.number, place.block)

@@ -9,7 +9,7 @@ ghost use Rattle.yaml_lines.specs.Faults.{Gives, TellsTooLarge};
 ghost use Rattle.yaml_lines.specs.Lines.{content_lines_from, content_lines_of};
 ghost use Rattle.yaml_lines.specs.View.{view};
 ghost use Rattle.yaml_lines.specs.declared.fault.YamlKind.TheVariants.{OutOfMemory, TooLarge};
-ghost use Rattle.yaml_profile.specs.Blocks.{whole};
+ghost use Rattle.yaml_profile.specs.Blocks.{whole_text};
 ghost use Rattle.yaml_profile.specs.Text.{meaning_of};
 
 use crate::blocks::block;
@@ -46,7 +46,7 @@ pub fn read(alloc: Global, bytes: &[u8]) -> Result<Node, YamlFault>
 #[tactic(auto, unfolding(yaml_lines::specs::Lines::content_lines_of))]
 fn read_text(alloc: Global, text: &[char], behind: Option<YamlFault>) -> Result<Node, YamlFault>
     requires { length text.now ≤ most_bytes }
-    ensures { Gives view result (option_and_then (whole most_nodes) (content_lines_of text.now)) }
+    ensures { Gives view result (option_and_then (whole_text most_nodes) (content_lines_of text.now)) }
 {
     let raws = raw_lines(alloc, text)?;
     read_raws(alloc, raws.as_slice(), behind)
@@ -58,7 +58,7 @@ fn read_raws(
     raws: &[RawLine<'_>],
     behind: Option<YamlFault>,
 ) -> Result<Node, YamlFault>
-    ensures { Gives view result (option_and_then (whole most_nodes) (content_lines_from raws.now)) }
+    ensures { Gives view result (option_and_then (whole_text most_nodes) (content_lines_from raws.now)) }
 {
     let Lines { lines, fault } = read_lines(alloc, raws)?;
     let end = fault.or(behind).unwrap_or(layout_at_last(lines.as_slice()));
@@ -82,9 +82,9 @@ fn layout_at_last(lines: &[Line<'_, '_>]) -> YamlFault {
 }
 
 // The node of all lines.
-#[tactic(auto, unfolding(crate::specs::Blocks::whole))]
+#[tactic(auto, unfolding(crate::specs::Blocks::whole_text))]
 fn whole(alloc: Global, lines: &[Line<'_, '_>], end: YamlFault) -> Result<Node, YamlFault>
-    ensures { Gives view result (whole most_nodes lines.now) }
+    ensures { Gives view result (whole_text most_nodes lines.now) }
 {
     let [first, later @ ..] = lines else {
         return block(alloc, lines, MOST_NODES, 1, end);

@@ -5,20 +5,20 @@ use crate::{
     texts, tree_plays, trees,
 };
 use std::alloc::Global;
-use trial_rows::{Answer, Answers, Row, Stop};
+use trial_rows::{AnswerBytes, Answers, Row, Stop};
 
 /// The calls of the program.
 pub(crate) struct Calls;
 
 impl Answers for Calls {
-    fn answer_to(&self, alloc: Global, row: &Row) -> Result<Answer, Stop> {
+    fn answer_to(&self, alloc: Global, row: &Row) -> Result<AnswerBytes, Stop> {
         of_row(alloc, row.call.as_str(), row.arguments.as_slice())
     }
 }
 
 // The calls are in several functions, each of which calls the next: one function with many arms takes long
 // to check.
-fn of_row(alloc: Global, name: &str, words: &[Vec<u8>]) -> Result<Answer, Stop> {
+fn of_row(alloc: Global, name: &str, words: &[Vec<u8>]) -> Result<AnswerBytes, Stop> {
     match name {
         "trees" => trees::answer(alloc, words),
         "children" => children::answer(alloc, words),
@@ -27,7 +27,7 @@ fn of_row(alloc: Global, name: &str, words: &[Vec<u8>]) -> Result<Answer, Stop> 
     }
 }
 
-fn of_records(alloc: Global, name: &str, words: &[Vec<u8>]) -> Result<Answer, Stop> {
+fn of_records(alloc: Global, name: &str, words: &[Vec<u8>]) -> Result<AnswerBytes, Stop> {
     match name {
         "words_record" => records::of_words(alloc, words),
         "seen_record" => records::of_seen(alloc, words),
@@ -36,7 +36,7 @@ fn of_records(alloc: Global, name: &str, words: &[Vec<u8>]) -> Result<Answer, St
     }
 }
 
-fn by_count(alloc: Global, name: &str, words: &[Vec<u8>]) -> Result<Answer, Stop> {
+fn by_count(alloc: Global, name: &str, words: &[Vec<u8>]) -> Result<AnswerBytes, Stop> {
     match words {
         [] => of_none(alloc, name),
         [word] => of_lines(alloc, name, word.as_slice()),
@@ -45,7 +45,7 @@ fn by_count(alloc: Global, name: &str, words: &[Vec<u8>]) -> Result<Answer, Stop
     }
 }
 
-fn of_none(alloc: Global, name: &str) -> Result<Answer, Stop> {
+fn of_none(alloc: Global, name: &str) -> Result<AnswerBytes, Stop> {
     match name {
         "message_path" => paths::message(alloc),
         "out_of_memory" => paths::refusal(alloc),
@@ -53,7 +53,7 @@ fn of_none(alloc: Global, name: &str) -> Result<Answer, Stop> {
     }
 }
 
-fn of_two(alloc: Global, name: &str, one: &[u8], other: &[u8]) -> Result<Answer, Stop> {
+fn of_two(alloc: Global, name: &str, one: &[u8], other: &[u8]) -> Result<AnswerBytes, Stop> {
     match name {
         "order_paths" => paths::order(alloc, one, other),
         "copy_bytes" => copies::copy_bytes(alloc, one, other),
@@ -65,7 +65,7 @@ fn of_two(alloc: Global, name: &str, one: &[u8], other: &[u8]) -> Result<Answer,
     }
 }
 
-fn of_lines(alloc: Global, name: &str, bytes: &[u8]) -> Result<Answer, Stop> {
+fn of_lines(alloc: Global, name: &str, bytes: &[u8]) -> Result<AnswerBytes, Stop> {
     match name {
         "characters" => lines::decode(alloc, bytes),
         "read_lines" => lines::shown_lines(alloc, bytes),
@@ -76,7 +76,7 @@ fn of_lines(alloc: Global, name: &str, bytes: &[u8]) -> Result<Answer, Stop> {
     }
 }
 
-fn of_texts(alloc: Global, name: &str, bytes: &[u8]) -> Result<Answer, Stop> {
+fn of_texts(alloc: Global, name: &str, bytes: &[u8]) -> Result<AnswerBytes, Stop> {
     match name {
         "read_yaml" => Ok(texts::read_text(alloc, bytes)),
         "debug_yaml" => Ok(texts::debug_text(alloc, bytes)),
@@ -87,7 +87,7 @@ fn of_texts(alloc: Global, name: &str, bytes: &[u8]) -> Result<Answer, Stop> {
     }
 }
 
-fn of_paths(alloc: Global, name: &str, text: &[u8]) -> Result<Answer, Stop> {
+fn of_paths(alloc: Global, name: &str, text: &[u8]) -> Result<AnswerBytes, Stop> {
     match name {
         "read_path" => paths::read(alloc, text),
         "path_fault" => path_faults::told(alloc, text),
@@ -96,7 +96,7 @@ fn of_paths(alloc: Global, name: &str, text: &[u8]) -> Result<Answer, Stop> {
     }
 }
 
-fn of_kinds(alloc: Global, name: &str, text: &[u8]) -> Result<Answer, Stop> {
+fn of_kinds(alloc: Global, name: &str, text: &[u8]) -> Result<AnswerBytes, Stop> {
     match name {
         "count_flow_beginnings" => flows::count_beginnings(alloc, text),
         "yaml_kind" => kinds::told(alloc, text),
@@ -106,7 +106,7 @@ fn of_kinds(alloc: Global, name: &str, text: &[u8]) -> Result<Answer, Stop> {
     }
 }
 
-fn of_record(alloc: Global, name: &str, bytes: &[u8]) -> Result<Answer, Stop> {
+fn of_record(alloc: Global, name: &str, bytes: &[u8]) -> Result<AnswerBytes, Stop> {
     match name {
         "read_words" => read_records::words(alloc, bytes),
         "read_seen" => read_records::seen(alloc, bytes),

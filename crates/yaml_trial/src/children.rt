@@ -5,10 +5,10 @@ use crate::steps::with_changes;
 use child_port::{Children, Outcome, TableChildren};
 use hook_base::Items;
 use std::alloc::Global;
-use trial_rows::{Answer, Stop, texts_of};
+use trial_rows::{AnswerBytes, Stop, texts_of};
 
 /// What each requested child gives, and at the end the calls and the faults.
-pub(crate) fn answer(alloc: Global, words: &[Vec<u8>]) -> Result<Answer, Stop> {
+pub(crate) fn answer(alloc: Global, words: &[Vec<u8>]) -> Result<AnswerBytes, Stop> {
     let lines = texts_of(alloc, words)?;
     let mut children = children_of(alloc, lines.as_slice())?;
     let answer = asked_all(alloc, &mut children, lines.as_slice())?;
@@ -29,8 +29,12 @@ fn children_of(alloc: Global, lines: &[&str]) -> Result<TableChildren, Stop> {
     Ok(TableChildren::new(Items::from(rows)))
 }
 
-fn asked_all(alloc: Global, children: &mut TableChildren, lines: &[&str]) -> Result<Answer, Stop> {
-    let mut answer = Answer::new(alloc);
+fn asked_all(
+    alloc: Global,
+    children: &mut TableChildren,
+    lines: &[&str],
+) -> Result<AnswerBytes, Stop> {
+    let mut answer = AnswerBytes::new(alloc);
     for line in lines {
         if let ("ask", asked) = cut(*line) {
             answer = with_outcome(answer, &outcome_of(alloc, children, asked)?)?;
@@ -52,12 +56,12 @@ fn outcome_of(alloc: Global, children: &mut TableChildren, asked: &str) -> Resul
 }
 
 /// Adds an outcome, and whether its copy is equal.
-fn with_outcome(answer: Answer, outcome: &Outcome) -> Result<Answer, Stop> {
+fn with_outcome(answer: AnswerBytes, outcome: &Outcome) -> Result<AnswerBytes, Stop> {
     let is_same = outcome.clone()? == *outcome;
     Ok(with_end(answer, outcome).text(" ").shown(is_same).text(";"))
 }
 
-fn with_end(answer: Answer, outcome: &Outcome) -> Answer {
+fn with_end(answer: AnswerBytes, outcome: &Outcome) -> AnswerBytes {
     match outcome {
         Outcome::Done(done) => {
             let answer = answer.text("done ").shown(done.status).text(" ");

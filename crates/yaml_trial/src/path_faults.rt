@@ -2,7 +2,7 @@
 
 use hook_base::PathFault;
 use std::alloc::Global;
-use trial_rows::{Answer, Stop};
+use trial_rows::{AnswerBytes, Stop};
 
 const FAULTS: &[PathFault] = &[
     PathFault::Empty,
@@ -16,15 +16,15 @@ const FAULTS: &[PathFault] = &[
 ];
 
 /// A refusal's number and its name.
-pub(crate) fn refused(alloc: Global, fault: PathFault) -> Answer {
-    Answer::new(alloc)
+pub(crate) fn refused(alloc: Global, fault: PathFault) -> AnswerBytes {
+    AnswerBytes::new(alloc)
         .shown(fault.number())
         .text(" ")
         .debug(fault)
 }
 
 /// The message of a refusal with this name, after its number.
-pub(crate) fn told(alloc: Global, name: &[u8]) -> Result<Answer, Stop> {
+pub(crate) fn told(alloc: Global, name: &[u8]) -> Result<AnswerBytes, Stop> {
     for fault in FAULTS {
         if name_of(*fault).as_bytes() == name {
             return Ok(shown(alloc, *fault));
@@ -33,8 +33,8 @@ pub(crate) fn told(alloc: Global, name: &[u8]) -> Result<Answer, Stop> {
     Err(Stop::BadLine)
 }
 
-fn shown(alloc: Global, fault: PathFault) -> Answer {
-    Answer::new(alloc)
+fn shown(alloc: Global, fault: PathFault) -> AnswerBytes {
+    AnswerBytes::new(alloc)
         .shown(fault.number())
         .text(" ")
         .shown(fault)

@@ -4,10 +4,10 @@
 use answer_records::{ChangedFile, SeenFile, read_changes, read_seen, read_words};
 use hook_base::Mode;
 use std::alloc::Global;
-use trial_rows::{Answer, Stop, number_of};
+use trial_rows::{AnswerBytes, Stop, number_of};
 
 /// The words whose record the bytes are.
-pub(crate) fn words(alloc: Global, bytes: &[u8]) -> Result<Answer, Stop> {
+pub(crate) fn words(alloc: Global, bytes: &[u8]) -> Result<AnswerBytes, Stop> {
     let Some(words) = read_words(alloc, bytes)? else {
         return Ok(none(alloc));
     };
@@ -19,7 +19,7 @@ pub(crate) fn words(alloc: Global, bytes: &[u8]) -> Result<Answer, Stop> {
 }
 
 /// The seen files whose record the bytes are.
-pub(crate) fn seen(alloc: Global, bytes: &[u8]) -> Result<Answer, Stop> {
+pub(crate) fn seen(alloc: Global, bytes: &[u8]) -> Result<AnswerBytes, Stop> {
     let Some(files) = read_seen(alloc, bytes)? else {
         return Ok(none(alloc));
     };
@@ -31,7 +31,7 @@ pub(crate) fn seen(alloc: Global, bytes: &[u8]) -> Result<Answer, Stop> {
 }
 
 /// The changed files whose record the bytes are.
-pub(crate) fn changes(alloc: Global, bytes: &[u8]) -> Result<Answer, Stop> {
+pub(crate) fn changes(alloc: Global, bytes: &[u8]) -> Result<AnswerBytes, Stop> {
     let Some(files) = read_changes(alloc, bytes)? else {
         return Ok(none(alloc));
     };
@@ -43,7 +43,7 @@ pub(crate) fn changes(alloc: Global, bytes: &[u8]) -> Result<Answer, Stop> {
 }
 
 /// How many words are read of the bytes with so many bytes of `a` after them.
-pub(crate) fn long_words(alloc: Global, count: &[u8], front: &[u8]) -> Result<Answer, Stop> {
+pub(crate) fn long_words(alloc: Global, count: &[u8], front: &[u8]) -> Result<AnswerBytes, Stop> {
     let tail = "a".repeat(alloc, number_of(count)? as usize)?;
     let mut bytes = Vec::from_slice(alloc, front)?;
     bytes.extend_from_slice(tail.as_str().as_bytes())?;
@@ -53,15 +53,15 @@ pub(crate) fn long_words(alloc: Global, count: &[u8], front: &[u8]) -> Result<An
     }
 }
 
-fn none(alloc: Global) -> Answer {
-    Answer::new(alloc).text("none")
+fn none(alloc: Global) -> AnswerBytes {
+    AnswerBytes::new(alloc).text("none")
 }
 
-fn counted(alloc: Global, count: usize) -> Answer {
-    Answer::new(alloc).shown(count).text(" ")
+fn counted(alloc: Global, count: usize) -> AnswerBytes {
+    AnswerBytes::new(alloc).shown(count).text(" ")
 }
 
-fn with_seen(answer: Answer, file: &SeenFile) -> Answer {
+fn with_seen(answer: AnswerBytes, file: &SeenFile) -> AnswerBytes {
     let mode = match file.mode {
         Mode::Plain => b"p",
         Mode::Executable => b"x",
@@ -69,7 +69,7 @@ fn with_seen(answer: Answer, file: &SeenFile) -> Answer {
     with_item(answer, &[mode, &file.digest, file.path.as_str().as_bytes()])
 }
 
-fn with_changed(answer: Answer, file: &ChangedFile) -> Answer {
+fn with_changed(answer: AnswerBytes, file: &ChangedFile) -> AnswerBytes {
     let path = file.path.as_str().as_bytes();
     match &file.digest {
         None => with_item(answer, &[b"-", path]),
@@ -78,7 +78,7 @@ fn with_changed(answer: Answer, file: &ChangedFile) -> Answer {
 }
 
 /// Adds the parts of an item after their length.
-fn with_item(answer: Answer, parts: &[&[u8]]) -> Answer {
+fn with_item(answer: AnswerBytes, parts: &[&[u8]]) -> AnswerBytes {
     let mut length = 0usize;
     for part in parts {
         length = length.saturating_add(part.len());

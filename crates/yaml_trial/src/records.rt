@@ -7,16 +7,16 @@ use answer_records::{
 };
 use hook_base::{Bytes, Mode, RepoPath, Text};
 use std::alloc::Global;
-use trial_rows::{Answer, Stop, number_of, text_of};
+use trial_rows::{AnswerBytes, Stop, number_of, text_of};
 
 /// The record of words.
-pub(crate) fn of_words(alloc: Global, words: &[Vec<u8>]) -> Result<Answer, Stop> {
+pub(crate) fn of_words(alloc: Global, words: &[Vec<u8>]) -> Result<AnswerBytes, Stop> {
     let words = texts_of(alloc, words)?;
     told(alloc, words_record(alloc, words.as_slice()))
 }
 
 /// The record of seen files.
-pub(crate) fn of_seen(alloc: Global, words: &[Vec<u8>]) -> Result<Answer, Stop> {
+pub(crate) fn of_seen(alloc: Global, words: &[Vec<u8>]) -> Result<AnswerBytes, Stop> {
     let mut files = Vec::new(alloc);
     for word in words {
         files.push(seen_file(alloc, word.as_slice())?)?;
@@ -25,7 +25,7 @@ pub(crate) fn of_seen(alloc: Global, words: &[Vec<u8>]) -> Result<Answer, Stop> 
 }
 
 /// The record of changed files.
-pub(crate) fn of_changes(alloc: Global, words: &[Vec<u8>]) -> Result<Answer, Stop> {
+pub(crate) fn of_changes(alloc: Global, words: &[Vec<u8>]) -> Result<AnswerBytes, Stop> {
     let mut files = Vec::new(alloc);
     for word in words {
         files.push(changed_file(alloc, word.as_slice())?)?;
@@ -34,24 +34,24 @@ pub(crate) fn of_changes(alloc: Global, words: &[Vec<u8>]) -> Result<Answer, Sto
 }
 
 /// The length of the record of one word of so many bytes.
-pub(crate) fn of_long_word(alloc: Global, count: &[u8]) -> Result<Answer, Stop> {
+pub(crate) fn of_long_word(alloc: Global, count: &[u8]) -> Result<AnswerBytes, Stop> {
     let word = Text::from("a".repeat(alloc, number_of(count)? as usize)?);
     match words_record(alloc, &[word]) {
-        Ok(record) => Ok(Answer::new(alloc).shown(record.len())),
+        Ok(record) => Ok(AnswerBytes::new(alloc).shown(record.len())),
         Err(fault) => refused(alloc, fault),
     }
 }
 
-fn told(alloc: Global, record: Result<Bytes, RecordFault>) -> Result<Answer, Stop> {
+fn told(alloc: Global, record: Result<Bytes, RecordFault>) -> Result<AnswerBytes, Stop> {
     match record {
-        Ok(record) => Ok(Answer::new(alloc).bytes(record.as_slice())),
+        Ok(record) => Ok(AnswerBytes::new(alloc).bytes(record.as_slice())),
         Err(fault) => refused(alloc, fault),
     }
 }
 
-fn refused(alloc: Global, fault: RecordFault) -> Result<Answer, Stop> {
+fn refused(alloc: Global, fault: RecordFault) -> Result<AnswerBytes, Stop> {
     match fault {
-        RecordFault::TooLarge => Ok(Answer::new(alloc).shown(fault)),
+        RecordFault::TooLarge => Ok(AnswerBytes::new(alloc).shown(fault)),
         RecordFault::OutOfMemory => Err(Stop::OutOfMemory),
     }
 }

@@ -2,7 +2,7 @@
 
 use hook_base::{Change, Content, FileEntry, Mode, RepoPath, Tree};
 use std::alloc::Global;
-use trial_rows::{Answer, Stop};
+use trial_rows::{AnswerBytes, Stop};
 
 /// The two parts of a text around its first blank; the whole and nothing if it has no blank.
 pub(crate) fn parted(text: &str) -> (&str, &str) {
@@ -38,7 +38,7 @@ fn now_of(alloc: Global, text: &str) -> Result<Option<Content>, Stop> {
 }
 
 /// Adds the mode and the bytes of a file.
-pub(crate) fn with_entry(answer: Answer, entry: &FileEntry) -> Answer {
+pub(crate) fn with_entry(answer: AnswerBytes, entry: &FileEntry) -> AnswerBytes {
     let mode = match entry.mode {
         Mode::Plain => "plain=",
         Mode::Executable => "executable=",
@@ -47,7 +47,7 @@ pub(crate) fn with_entry(answer: Answer, entry: &FileEntry) -> Answer {
 }
 
 /// Adds each file of a tree, after a blank.
-pub(crate) fn with_tree(answer: Answer, tree: &Tree) -> Answer {
+pub(crate) fn with_tree(answer: AnswerBytes, tree: &Tree) -> AnswerBytes {
     let mut answer = answer;
     for at in 0..tree.len() {
         let file = tree.entry(at);
@@ -57,7 +57,7 @@ pub(crate) fn with_tree(answer: Answer, tree: &Tree) -> Answer {
 }
 
 /// Adds each change, after a blank.
-pub(crate) fn with_changes(answer: Answer, changes: &[Change]) -> Answer {
+pub(crate) fn with_changes(answer: AnswerBytes, changes: &[Change]) -> AnswerBytes {
     let mut answer = answer;
     for change in changes {
         answer = with_change(answer.texts(&[" ", change.path.as_str()]), change);
@@ -65,7 +65,7 @@ pub(crate) fn with_changes(answer: Answer, changes: &[Change]) -> Answer {
     answer
 }
 
-fn with_change(answer: Answer, change: &Change) -> Answer {
+fn with_change(answer: AnswerBytes, change: &Change) -> AnswerBytes {
     match &change.now {
         None => answer.text(" gone"),
         Some(bytes) => answer.text("=").bytes(bytes.as_slice()),

@@ -4,7 +4,7 @@ use crate::tree_pair::TreePair;
 use hook_base::{Change, Content, FileEntry, Mode, RepoPath};
 use std::alloc::Global;
 use std::mem;
-use trial_rows::{Answer, Stop, number_of};
+use trial_rows::{AnswerBytes, Stop, number_of};
 
 const PATHS: u64 = 48;
 
@@ -14,15 +14,15 @@ const MOST_CHANGES: u64 = 8;
 
 /// Plays as many calls as the second word says. The first word is the seed that chooses them. Shows how
 /// many were alike.
-pub(crate) fn answer(alloc: Global, seed: &[u8], calls: &[u8]) -> Result<Answer, Stop> {
+pub(crate) fn answer(alloc: Global, seed: &[u8], calls: &[u8]) -> Result<AnswerBytes, Stop> {
     let calls = number_of(calls)?;
     let mut play = Play::new(alloc, number_of(seed)? as u64);
     for call in 0..calls {
         if !play.step()? {
-            return Ok(Answer::new(alloc).text("differs at call ").shown(call));
+            return Ok(AnswerBytes::new(alloc).text("differs at call ").shown(call));
         }
     }
-    Ok(Answer::new(alloc).shown(calls).text(" alike"))
+    Ok(AnswerBytes::new(alloc).shown(calls).text(" alike"))
 }
 
 // The calls are made on `one`. Now and then `other` and `third` change places with it, so copies of copies

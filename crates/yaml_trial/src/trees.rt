@@ -5,17 +5,17 @@ use crate::steps::{entry_of, parted, read_change, with_changes, with_entry, with
 use hook_base::{Change, Changes, RepoPath, Tree};
 use std::alloc::Global;
 use std::mem;
-use trial_rows::{Answer, Stop, number_of, text_of};
+use trial_rows::{AnswerBytes, Stop, number_of, text_of};
 
 /// The output of the steps.
-pub(crate) fn answer(alloc: Global, words: &[Vec<u8>]) -> Result<Answer, Stop> {
+pub(crate) fn answer(alloc: Global, words: &[Vec<u8>]) -> Result<AnswerBytes, Stop> {
     let mut trees = Trees {
         alloc,
         one: Tree::new(alloc),
         other: Tree::new(alloc),
         waiting: Vec::new(alloc),
     };
-    let mut answer = Answer::new(alloc);
+    let mut answer = AnswerBytes::new(alloc);
     for word in words {
         answer = trees.play(answer, text_of(word.as_slice())?)?;
     }
@@ -31,7 +31,7 @@ struct Trees {
 }
 
 impl Trees {
-    fn play(&mut self, answer: Answer, step: &str) -> Result<Answer, Stop> {
+    fn play(&mut self, answer: AnswerBytes, step: &str) -> Result<AnswerBytes, Stop> {
         let (word, rest) = parted(step);
         match word {
             "put" | "copy" | "take-from" | "share" | "change" | "apply" | "absorb" => {
@@ -104,7 +104,7 @@ impl Trees {
     }
 
     /// Plays a step that shows something.
-    fn show(&mut self, answer: Answer, word: &str, rest: &str) -> Result<Answer, Stop> {
+    fn show(&mut self, answer: AnswerBytes, word: &str, rest: &str) -> Result<AnswerBytes, Stop> {
         match word {
             "files" => Ok(with_tree(answer, self.tree(rest))),
             "count" => Ok(with_count(answer, self.tree(rest))),
@@ -126,7 +126,7 @@ impl Trees {
     }
 
     /// Shows the file at a path of the first tree.
-    fn get(&self, answer: Answer, path: &str) -> Result<Answer, Stop> {
+    fn get(&self, answer: AnswerBytes, path: &str) -> Result<AnswerBytes, Stop> {
         match self.one.get(&RepoPath::read(self.alloc, path)?) {
             Some(entry) => Ok(with_entry(answer, entry)),
             None => Ok(answer.text("none")),
@@ -134,22 +134,22 @@ impl Trees {
     }
 
     /// Removes a path of the first tree, and shows whether it was there.
-    fn remove(&mut self, answer: Answer, path: &str) -> Result<Answer, Stop> {
+    fn remove(&mut self, answer: AnswerBytes, path: &str) -> Result<AnswerBytes, Stop> {
         let path = RepoPath::read(self.alloc, path)?;
         Ok(answer.shown(self.one.remove(&path)))
     }
 }
 
-fn with_count(answer: Answer, tree: &Tree) -> Answer {
+fn with_count(answer: AnswerBytes, tree: &Tree) -> AnswerBytes {
     answer.shown(tree.len()).text(" ").shown(tree.is_empty())
 }
 
-fn with_sameness(answer: Answer, one: &Tree, other: &Tree) -> Answer {
+fn with_sameness(answer: AnswerBytes, one: &Tree, other: &Tree) -> AnswerBytes {
     answer.shown(one == other).text(" ").shown(one != other)
 }
 
 /// Shows the changes from one tree to the other, and whether a copy of them is the same.
-fn with_difference(answer: Answer, one: &Tree, other: &Tree) -> Result<Answer, Stop> {
+fn with_difference(answer: AnswerBytes, one: &Tree, other: &Tree) -> Result<AnswerBytes, Stop> {
     let changes = one.changes_to(other)?;
     let is_same = changes.clone()? == changes;
     let answer = answer.shown(changes.len()).text(" ").shown(is_same);
@@ -157,7 +157,7 @@ fn with_difference(answer: Answer, one: &Tree, other: &Tree) -> Result<Answer, S
 }
 
 /// Shows whether the changes are taken, or how many are given back.
-fn with_taken(answer: Answer, waiting: Vec<Change>) -> Answer {
+fn with_taken(answer: AnswerBytes, waiting: Vec<Change>) -> AnswerBytes {
     match Changes::from_rising(waiting) {
         Ok(changes) => with_changes(answer.text("taken"), changes.as_slice()),
         Err(back) => with_changes(answer.text("given back"), back.as_slice()),

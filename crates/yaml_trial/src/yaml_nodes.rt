@@ -1,16 +1,16 @@
 //! Nodes as the tables write them.
 
-use trial_rows::Answer;
+use trial_rows::AnswerBytes;
 use yaml_lines::Node;
 
 /// Adds a node: `'a'` is an unquoted text or a key, `"a"` a quoted text, and `None` an empty place.
-pub(crate) fn with_node(answer: Answer, node: &Node) -> Answer {
+pub(crate) fn with_node(answer: AnswerBytes, node: &Node) -> AnswerBytes {
     let mut out = answer;
     show(node, &mut out);
     out
 }
 
-fn show(node: &Node, out: &mut Answer) {
+fn show(node: &Node, out: &mut AnswerBytes) {
     match node {
         Node::Text { text, quoted } => {
             show_text(out, text.as_bytes(), if *quoted { b'"' } else { b'\'' })
@@ -38,14 +38,14 @@ fn show(node: &Node, out: &mut Answer) {
 }
 
 /// Adds the comma before every item but the first.
-fn show_comma(out: &mut Answer, at: usize) {
+fn show_comma(out: &mut AnswerBytes, at: usize) {
     if at > 0 {
         out.add(b", ");
     }
 }
 
 /// Adds a text between two marks.
-fn show_text(out: &mut Answer, text: &[u8], mark: u8) {
+fn show_text(out: &mut AnswerBytes, text: &[u8], mark: u8) {
     out.add(&[mark]);
     for byte in text {
         show_byte(out, *byte, mark);
@@ -53,7 +53,7 @@ fn show_text(out: &mut Answer, text: &[u8], mark: u8) {
     out.add(&[mark]);
 }
 
-fn show_byte(out: &mut Answer, byte: u8, mark: u8) {
+fn show_byte(out: &mut AnswerBytes, byte: u8, mark: u8) {
     match byte {
         b'\n' => out.add(b"\\n"),
         b'\t' => out.add(b"\\t"),

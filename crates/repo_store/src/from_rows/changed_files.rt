@@ -25,7 +25,8 @@ use std::alloc::Global;
 fn now_at(contents: &Contents, digest: &Option<[u8; 32]>) -> Result<Option<Content>, StoreFault>
     ensures now { IfOk result (λ now. option_map sha256 now ≡ digest.now) }
     ensures among { IfOk result (λ now. MatchOption now (Unit {0}) (IsAmong contents.now)) }
-    ensures broken { IfErr result (IsDamage (¬ IfSome digest.now (λ digest. is_kept (map blob_row contents.now) digest ≡ true))) }
+    ensures broken { IfErr result (IsDamage
+        (¬ IfSome digest.now (λ digest. is_kept (map blob_row contents.now) digest ≡ true))) }
 {
     match digest {
         None => Ok(None),
@@ -40,7 +41,8 @@ fn now_at(contents: &Contents, digest: &Option<[u8; 32]>) -> Result<Option<Conte
 fn change_of(contents: &Contents, named: ChangedFile) -> Result<SharedFix, StoreFault>
     ensures change { IfOk result (λ change. changed_file (fix_of change) ≡ named) }
     ensures among { IfOk result (λ change. MatchOption change.now (Unit {0}) (IsAmong contents.now)) }
-    ensures broken { IfErr result (IsDamage (¬ IfSome named.digest (λ digest. is_kept (map blob_row contents.now) digest ≡ true))) }
+    ensures broken { IfErr result (IsDamage
+        (¬ IfSome named.digest (λ digest. is_kept (map blob_row contents.now) digest ≡ true))) }
 {
     let now = now_at(contents, &named.digest)?;
     Ok(SharedFix {
@@ -75,10 +77,15 @@ pub(crate) fn changes_at(
 ) -> Result<Recorded<Vec<SharedFix>>, StoreFault>
     ensures named { IfOk result (λ changes. sha256 changes.record ≡ digest.now) }
     ensures among { IfOk result (λ changes. IsAmong contents.now changes.record) }
-    ensures record { IfOk result (λ changes. IsChangesRecord (changed_of_changes (map fix_of changes.part.items)) changes.record) }
+    ensures record { IfOk result (λ changes. IsChangesRecord (changed_of_changes (map fix_of changes.part.items))
+        changes.record) }
     ensures contents { IfOk result (λ changes. HaveNewContents contents.now (map fix_of changes.part.items)) }
-    ensures only { IfOk result (λ changes. (other : List ChangedFile) → HasKept (map blob_row contents.now) digest.now (IsChangesRecord other) → other ≡ changed_of_changes (map fix_of changes.part.items)) }
-    ensures broken { IfErr result (IsDamage ((changed : List ChangedFile) → HasKept (map blob_row contents.now) digest.now (IsChangesRecord changed) → ¬ HaveKeptNewContents (map blob_row contents.now) changed)) }
+    ensures only { IfOk result (λ changes. (other : List ChangedFile)
+        → HasKept (map blob_row contents.now) digest.now (IsChangesRecord other)
+        → other ≡ changed_of_changes (map fix_of changes.part.items)) }
+    ensures broken { IfErr result (IsDamage
+        ((changed : List ChangedFile) → HasKept (map blob_row contents.now) digest.now (IsChangesRecord changed)
+        → ¬ HaveKeptNewContents (map blob_row contents.now) changed)) }
 {
     let record = content_at(contents, digest)?;
     let Some(named) = read_changes(alloc, record.as_slice())? else {

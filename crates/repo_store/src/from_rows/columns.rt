@@ -39,7 +39,8 @@ pub(crate) fn content_at(contents: &Contents, digest: &[u8]) -> Result<Content, 
     ensures among { IfOk result (IsAmong contents.now) }
     ensures alone { IfOk result (λ content. ¬ Collides content contents.now) }
     ensures missing { IfErr result (IsDamage (is_kept (map blob_row contents.now) digest.now ≡ false)) }
-    ensures damage { is_kept (map blob_row contents.now) digest.now ≡ false → MatchResult result (λ _. ⊥) (λ fault. fault ≡ StoreFault.Damaged) }
+    ensures damage { is_kept (map blob_row contents.now) digest.now ≡ false
+        → MatchResult result (λ _. ⊥) (λ fault. fault ≡ StoreFault.Damaged) }
 {
     match find(contents, digest) {
         Some(content) => Ok(content.clone()?),
@@ -83,7 +84,8 @@ pub(crate) fn file_at(
     mode: i64,
     digest: &[u8],
 ) -> Result<ListedFile, StoreFault>
-    ensures file { IfOk result (λ file. staged_row (file_of file) ≡ record { path = path.now; mode = mode; digest = digest.now }) }
+    ensures file { IfOk result (λ file. staged_row (file_of file)
+        ≡ record { path = path.now; mode = mode; digest = digest.now }) }
     ensures among { IfOk result (λ file. IsAmong contents.now file.content) }
     ensures obeys { OnOk result (IsFileRow (map blob_row contents.now) path.now mode digest.now) }
     ensures broken { IfErr result (IsDamage (¬ IsFileRow (map blob_row contents.now) path.now mode digest.now)) }

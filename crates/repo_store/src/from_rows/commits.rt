@@ -2,7 +2,7 @@
 
 ghost use Rattle.std.specs.Prelude.{◌≡◌, ◌+◌, ◌<◌, ◌≤◌, ◌^◌, [], map, pos, length, IsTrue, IsPermutation, IfOk, IfErr, IfSome, IfNone, OnOk};
 ghost use Rattle.std.specs.List.{AllByRecursion};
-ghost use Rattle.store_tables.specs.Rowids.{IsBelow, IsRising as IsRisingNumbers};
+ghost use Rattle.store_tables.specs.Rowids.{IsLastRowidBelow, AreRisingRowids as IsRisingNumbers};
 ghost use Rattle.hook_base.specs.Trees.{IsRising};
 ghost use Rattle.repo_store.specs.Complete.{HaveContents};
 ghost use Rattle.store_faults.specs.Faults.{IsDamage};
@@ -10,7 +10,7 @@ ghost use Rattle.repo_store.specs.FromRows.{AreBare, AreEntered, with_file};
 ghost use Rattle.store_faults.specs.Limits.{IsSmall};
 ghost use Rattle.repo_store.specs.Lists.{commit_of, file_of};
 ghost use Rattle.repo_store.specs.Repository.{Commit};
-ghost use Rattle.repo_store.specs.RowRules.{AreCommitRows, IsEntryRow, IsNumbered, number_in};
+ghost use Rattle.repo_store.specs.RowRules.{AreCommitRows, IsEntryRow, IsNumbered, commit_number_in};
 ghost use Rattle.repo_store.specs.Rows.{blob_row, commit_rows, entry_rows};
 
 use super::columns::file_at;
@@ -25,7 +25,7 @@ use store_tables::{CommitRow, EntryRow};
 
 // Whether the number of a commit is greater than the last.
 fn is_above(last: Option<i64>, number: i64) -> bool
-    ensures { IsTrue result → IsBelow last number }
+    ensures { IsTrue result → IsLastRowidBelow last number }
 {
     match last {
         None => true,
@@ -35,7 +35,7 @@ fn is_above(last: Option<i64>, number: i64) -> bool
 
 // Whether the number of each commit is less than that of the next.
 fn commits_rise(rows: &[CommitRow]) -> bool
-    ensures { IsTrue result → IsRisingNumbers (map number_in rows.now) }
+    ensures { IsTrue result → IsRisingNumbers (map commit_number_in rows.now) }
 {
     let mut last: Option<i64> = None;
     for row in rows {
@@ -110,8 +110,10 @@ fn add_entry(
 ) -> Result<(), StoreFault>
     requires there { place < length history.old.items }
     requires rising { AllByRecursion (λ (commit : Commit). IsRising commit.tree) (map commit_of history.old.items) }
-    ensures added { OnOk result (map commit_of history.new.items ≡ with_file place (file_of file) (map commit_of history.old.items)) }
-    ensures rising { OnOk result (AllByRecursion (λ (commit : Commit). IsRising commit.tree) (map commit_of history.new.items)) }
+    ensures added { OnOk result (map commit_of history.new.items
+        ≡ with_file place (file_of file) (map commit_of history.old.items)) }
+    ensures rising { OnOk result (AllByRecursion (λ (commit : Commit). IsRising commit.tree)
+        (map commit_of history.new.items)) }
     ensures why { IfErr result (IsDamage ⊥) }
 {
     let commit = &mut history[place];
@@ -126,10 +128,14 @@ fn add_entries(
     rows: Vec<EntryRow>,
 ) -> Result<(), StoreFault>
     requires { AreBare (map commit_of history.old.items) }
-    ensures entered { OnOk result (AreEntered (map commit_of history.old.items) (map commit_of history.new.items) rows.items) }
-    ensures among { OnOk result (AllByRecursion (λ (commit : Commit). HaveContents contents.now commit.tree) (map commit_of history.new.items)) }
-    ensures obeys { OnOk result (AllByRecursion (IsEntryRow (map blob_row contents.now) (length history.old.items)) rows.items) }
-    ensures broken { IfErr result (IsDamage (¬ AllByRecursion (IsEntryRow (map blob_row contents.now) (length history.old.items)) rows.items)) }
+    ensures entered { OnOk result (AreEntered (map commit_of history.old.items) (map commit_of history.new.items)
+        rows.items) }
+    ensures among { OnOk result (AllByRecursion (λ (commit : Commit). HaveContents contents.now commit.tree)
+        (map commit_of history.new.items)) }
+    ensures obeys { OnOk result (AllByRecursion (IsEntryRow (map blob_row contents.now) (length history.old.items))
+        rows.items) }
+    ensures broken { IfErr result (IsDamage
+        (¬ AllByRecursion (IsEntryRow (map blob_row contents.now) (length history.old.items)) rows.items)) }
 {
     'rows: for row in rows {
         let place = place_of(row.n, history.len())?;
@@ -154,10 +160,15 @@ pub(crate) fn commits_of(
 ) -> Result<Vec<SharedCommit>, StoreFault>
     ensures commits { IfOk result (λ history. commit_rows 1 (map commit_of history.items) ≡ commits.items) }
     ensures entries { IfOk result (λ history. IsPermutation (entry_rows 1 (map commit_of history.items)) entries.items) }
-    ensures rising { IfOk result (λ history. AllByRecursion (λ (commit : Commit). IsRising commit.tree) (map commit_of history.items)) }
-    ensures among { IfOk result (λ history. AllByRecursion (λ (commit : Commit). HaveContents contents.now commit.tree) (map commit_of history.items)) }
-    ensures obeys { OnOk result (AreCommitRows commits.items × AllByRecursion (IsEntryRow (map blob_row contents.now) (length commits.items)) entries.items) }
-    ensures broken { IfErr result (IsDamage (¬ (AreCommitRows commits.items × AllByRecursion (IsEntryRow (map blob_row contents.now) (length commits.items)) entries.items))) }
+    ensures rising { IfOk result (λ history. AllByRecursion (λ (commit : Commit). IsRising commit.tree)
+        (map commit_of history.items)) }
+    ensures among { IfOk result (λ history. AllByRecursion (λ (commit : Commit). HaveContents contents.now commit.tree)
+        (map commit_of history.items)) }
+    ensures obeys { OnOk result (AreCommitRows commits.items
+        × AllByRecursion (IsEntryRow (map blob_row contents.now) (length commits.items)) entries.items) }
+    ensures broken { IfErr result (IsDamage
+        (¬ (AreCommitRows commits.items × AllByRecursion (IsEntryRow (map blob_row contents.now) (length commits.items))
+        entries.items))) }
 {
     let mut history = history_of(alloc, commits)?;
     add_entries(alloc, contents, &mut history, entries)?;

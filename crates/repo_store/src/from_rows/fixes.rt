@@ -56,7 +56,8 @@ fn fix_of_row(
     ensures fix { IfOk result (λ fix. fix_row (fix_of fix) ≡ row.now) }
     ensures among { IfOk result (λ fix. MatchOption fix.now (Unit {0}) (IsAmong contents.now)) }
     ensures obeys { OnOk result (IsFixRow (map blob_row contents.now) (map staged_row (map file_of staged.now)) row.now) }
-    ensures broken { IfErr result (IsDamage (¬ IsFixRow (map blob_row contents.now) (map staged_row (map file_of staged.now)) row.now)) }
+    ensures broken { IfErr result (IsDamage
+        (¬ IsFixRow (map blob_row contents.now) (map staged_row (map file_of staged.now)) row.now)) }
 {
     let path = path_at(alloc, row.path.as_slice())?;
     if !has_path(staged, &path) {
@@ -69,7 +70,8 @@ fn fix_of_row(
 // Whether a path comes after those of all fixes.
 fn follows_fixes(fixes: &[SharedFix], path: &RepoPath) -> bool
     requires { IsRisingChanges (map fix_of fixes.now) }
-    ensures { IsTrue result → AllByRecursion (λ (change : Change). IsBelowPath change.path path.now) (map fix_of fixes.now) }
+    ensures { IsTrue result → AllByRecursion (λ (change : Change). IsBelowPath change.path path.now)
+        (map fix_of fixes.now) }
 {
     match fixes {
         [.., last] => is_after(&last.path, path),
@@ -102,8 +104,10 @@ pub(crate) fn fixes_of(
     ensures fixes { IfOk result (λ fixes. map fix_row (map fix_of fixes.items) ≡ rows.items) }
     ensures rising { IfOk result (λ fixes. IsRisingChanges (map fix_of fixes.items)) }
     ensures among { IfOk result (λ fixes. HaveNewContents contents.now (map fix_of fixes.items)) }
-    ensures obeys { OnOk result (AllByRecursion (IsFixRow (map blob_row contents.now) (map staged_row (map file_of staged.now))) rows.items) }
-    ensures broken { IfErr result (IsDamage (¬ AllByRecursion (IsFixRow (map blob_row contents.now) (map staged_row (map file_of staged.now))) rows.items)) }
+    ensures obeys { OnOk result (AllByRecursion
+        (IsFixRow (map blob_row contents.now) (map staged_row (map file_of staged.now))) rows.items) }
+    ensures broken { IfErr result (IsDamage
+        (¬ AllByRecursion (IsFixRow (map blob_row contents.now) (map staged_row (map file_of staged.now))) rows.items)) }
 {
     let mut fixes = Vec::new(alloc);
     'rows: for row in rows {

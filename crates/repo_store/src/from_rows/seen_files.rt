@@ -63,8 +63,12 @@ pub(crate) fn seen_files_at(
     ensures among { IfOk result (λ seen. IsAmong contents.now seen.record) }
     ensures record { IfOk result (λ seen. IsSeenRecord (seen_of_files (map file_of seen.part.items)) seen.record) }
     ensures contents { IfOk result (λ seen. HaveContents contents.now (map file_of seen.part.items)) }
-    ensures only { IfOk result (λ seen. (other : List SeenFile) → HasKept (map blob_row contents.now) digest.now (IsSeenRecord other) → other ≡ seen_of_files (map file_of seen.part.items)) }
-    ensures broken { IfErr result (IsDamage ((seen : List SeenFile) → HasKept (map blob_row contents.now) digest.now (IsSeenRecord seen) → ¬ HaveKeptContents (map blob_row contents.now) seen)) }
+    ensures only { IfOk result (λ seen. (other : List SeenFile)
+        → HasKept (map blob_row contents.now) digest.now (IsSeenRecord other)
+        → other ≡ seen_of_files (map file_of seen.part.items)) }
+    ensures broken { IfErr result (IsDamage
+        ((seen : List SeenFile) → HasKept (map blob_row contents.now) digest.now (IsSeenRecord seen)
+        → ¬ HaveKeptContents (map blob_row contents.now) seen)) }
 {
     let record = content_at(contents, digest)?;
     let Some(named) = read_seen(alloc, record.as_slice())? else {

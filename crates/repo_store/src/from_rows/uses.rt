@@ -62,7 +62,8 @@ fn digest_in(bytes: &[u8]) -> Option<&[u8; 32]>
 
 // Whether there is an answer for a use.
 fn has_answer(answers: &AnswerList, row: &UseRow) -> bool
-    ensures { ¬ IsTrue result → AllByRecursion (λ (answer : KeptAnswer). ¬ (key_of answer ≡ key_of_use row.now)) answers.now.answers }
+    ensures { ¬ IsTrue result → AllByRecursion (λ (answer : KeptAnswer). ¬ (key_of answer ≡ key_of_use row.now))
+        answers.now.answers }
 {
     let Some(words) = digest_in(row.words.as_slice()) else {
         return false;

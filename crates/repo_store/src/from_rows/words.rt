@@ -25,7 +25,8 @@ pub(crate) fn words_at(
     ensures named { IfOk result (λ words. sha256 words.record ≡ digest.now) }
     ensures among { IfOk result (λ words. IsAmong contents.now words.record) }
     ensures record { IfOk result (λ words. IsWordsRecord words.part words.record) }
-    ensures broken { IfErr result (IsDamage ((words : List (List ℕ)) → ¬ HasKept (map blob_row contents.now) digest.now (IsWordsRecord words))) }
+    ensures broken { IfErr result (IsDamage
+        ((words : List (List ℕ)) → ¬ HasKept (map blob_row contents.now) digest.now (IsWordsRecord words))) }
 {
     let record = content_at(contents, digest)?;
     let Some(part) = read_words(alloc, record.as_slice())? else {

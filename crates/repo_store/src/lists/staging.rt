@@ -79,9 +79,17 @@ impl Lists {
 
     /// Restores the state before the edits.
     pub(crate) fn restore(&mut self, before: Before)
-        requires sound { IsSound (record self.old.kept.repo { staged = map file_of before.staged.items; fixes = map fix_of before.fixes.items }) }
+        requires sound { IsSound (record self.old.kept.repo
+            { staged = map file_of before.staged.items; fixes = map fix_of before.fixes.items }) }
         requires counted { before.staged_bytes ≡ path_bytes (map file_of before.staged.items) }
-        ensures { self.new.kept ≡ record self.old.kept { repo = record self.old.kept.repo { staged = map file_of before.staged.items; fixes = map fix_of before.fixes.items }; contents = take before.count self.old.kept.contents } }
+        ensures { self.new.kept ≡ record self.old.kept {
+          repo = record self.old.kept.repo {
+            staged = map file_of before.staged.items;
+            fixes = map fix_of
+                before.fixes.items;
+          };
+          contents = take before.count self.old.kept.contents;
+        } }
     {
         let Before {
             staged,
@@ -123,7 +131,8 @@ impl Lists {
         edit: &StagingEdit,
     ) -> Result<(), StagingFault>
         ensures edited { OnOk result (self.new.kept ≡ edited edit.now self.old.kept) }
-        ensures made { OnOk result (map edit_of made.new.items ≡ map edit_of made.old.items ++ made_edit edit.now self.old.kept ∷ []) }
+        ensures made { OnOk result (map edit_of made.new.items
+            ≡ map edit_of made.old.items ++ made_edit edit.now self.old.kept ∷ []) }
         ensures editable { OnOk result (IsEditable edit.now self.old.kept) }
         ensures longer { IsLonger self.old.kept self.new.kept }
         ensures refused { IfErr result (IsEditFault edit.now self.old.kept) }

@@ -11,4 +11,5 @@ returns-clause-few c =
 
 pub returns-clause-none : goal.returns-clause-none
 returns-clause-none c =
-    none_from _ c.split_at_checked.result _ _ c.split_at_checked.ensures.cases (no_bytes c.args.bytes.now c.in_ok-count.rest.now c.in_ok-count.count c.in_ok-count.ensures.found c.in_ok-count.ensures.few)
+    none_from _ c.split_at_checked.result _ _ c.split_at_checked.ensures.cases
+    (no_bytes c.args.bytes.now c.in_ok-count.rest.now c.in_ok-count.count c.in_ok-count.ensures.found c.in_ok-count.ensures.few)

@@ -15,11 +15,13 @@ returns-in_err-item-clause-unread g c =
     let item = g.T.Item in
     let so_far = c.items.invariant in
     let storable : IsStorable c.args.bytes.now = omega arith in
-    rw (p.1, p.2) (unread_weaker _ _ c.in_err-item.field-0.0 (no_next item.is_item item.spelling g.met.T.Item.told_apart c.args.bytes.now c.in-Some.count c.items.items.items c.items.rest.now storable c.in-Some.ensures.few (omega (arith, so_far.many, c.items-test.true)) so_far.so_far) c.in_err-item.ensures.unread)
+    rw (p.1, p.2) (unread_weaker _ _ c.in_err-item.field-0.0 (no_next item.is_item item.spelling g.met.T.Item.told_apart c.args.bytes.now c.in-Some.count c.items.items.items c.items.rest.now storable
+    c.in-Some.ensures.few (omega (arith, so_far.many, c.items-test.true)) so_far.so_far) c.in_err-item.ensures.unread)
 
 pub returns-then-not-is_empty-clause-unread : goal.returns-then-not-is_empty-clause-unread
 returns-then-not-is_empty-clause-unread g c =
     let item = g.T.Item in
     let so_far = c.items.invariant in
     let storable : IsStorable c.args.bytes.now = omega arith in
-    some_left item.is_item item.spelling g.met.T.Item.told_apart c.args.bytes.now c.in-Some.count c.items.items.items c.items.rest.now storable c.in-Some.ensures.few (omega (arith, so_far.many, c.items-test.false)) (nonempty c.items.rest.now c.is_empty.result c.is_empty.ensures c.if-not-is_empty.true) so_far.so_far
+    some_left item.is_item item.spelling g.met.T.Item.told_apart c.args.bytes.now c.in-Some.count c.items.items.items c.items.rest.now storable c.in-Some.ensures.few
+    (omega (arith, so_far.many, c.items-test.false)) (nonempty c.items.rest.now c.is_empty.result c.is_empty.ensures c.if-not-is_empty.true) so_far.so_far

@@ -15,5 +15,8 @@ returns-in_default g c =
 pub returns : goal.returns
 returns g c =
     let place = g.T.Placed.place_of in
-    let items = c.args.items.now in
-    (λ h. rising_from_next place items (λ k d within. let same : k + 1 ≡ suc k = omega arith in subst (λ (n : ℕ). IsBelow (place (get_or items k d)) (place (get_or items n d))) same (c.pairs.invariant k d (omega arith))), λ h. refl)
+    let items = c.args.items.now in (
+      λ h. rising_from_next place items (λ k d within. let same : k + 1
+          ≡ suc k = omega arith in subst (λ (n : ℕ). IsBelow (place (get_or items k d)) (place (get_or items n d))) same (c.pairs.invariant k d (omega arith))),
+      λ h. refl,
+    )

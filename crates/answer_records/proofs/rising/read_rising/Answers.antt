@@ -9,5 +9,6 @@ returns-then-not-are_rising g c =
     let item = g.T.Item in
     let place = g.T.Placed.place_of in
     let items = c.in-Ok.items.items in
-    let falls : ¬ IsRisingBy place items = λ up. false≢true (sym c.if-not-are_rising.true ∙ c.are_rising.ensures.1 (subst (λ (all : List g.row.T.Denot). IsRisingBy place all) (sym c.as_slice.ensures.value) up)) in
+    let falls : ¬ IsRisingBy place items =
+    λ up. false≢true (sym c.if-not-are_rising.true ∙ c.are_rising.ensures.1 (subst (λ (all : List g.row.T.Denot). IsRisingBy place all) (sym c.as_slice.ensures.value) up)) in
     λ value. not_rising item.is_item item.spelling g.met.T.Item.told_apart place items value c.args.bytes.now c.in-Ok.ensures.found falls

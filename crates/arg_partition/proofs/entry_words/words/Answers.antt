@@ -9,11 +9,13 @@ use Rattle.arg_partition.specs.Words.{Reading, words_of_characters}
 use Rattle.arg_partition.specs.WordsSoFar.{resumed}
 use Rattle.arg_partition.proofs.entry_words.words.Goals as goal
 
-cut : (done : List (List ℕ)) (begun : List ℕ) (rest whole : Reading) (result : Result (List (List ℕ)) WordsFault) → resumed done begun rest ≡ whole → MatchResult result (λ words. resumed done begun rest ≡ Ok words) (λ fault. (fault ≡ OutOfMemory) ⊎ (rest ≡ Err fault)) → IfOk result (λ words. whole ≡ Ok words)
+cut : (done : List (List ℕ)) (begun : List ℕ) (rest whole : Reading) (result : Result (List (List ℕ)) WordsFault) → resumed done begun rest ≡ whole
+    → MatchResult result (λ words. resumed done begun rest ≡ Ok words) (λ fault. (fault ≡ OutOfMemory) ⊎ (rest ≡ Err fault)) → IfOk result (λ words. whole ≡ Ok words)
 cut done begun rest whole (Ok words) same ended = sym same ∙ ended
 cut done begun rest whole (Err fault) same ended = tt
 
-refused : (done : List (List ℕ)) (begun : List ℕ) (rest whole : Reading) (result : Result (List (List ℕ)) WordsFault) → resumed done begun rest ≡ whole → MatchResult result (λ words. resumed done begun rest ≡ Ok words) (λ fault. (fault ≡ OutOfMemory) ⊎ (rest ≡ Err fault)) → IfErr result (λ fault. (fault ≡ OutOfMemory) ⊎ (whole ≡ Err fault))
+refused : (done : List (List ℕ)) (begun : List ℕ) (rest whole : Reading) (result : Result (List (List ℕ)) WordsFault) → resumed done begun rest ≡ whole
+    → MatchResult result (λ words. resumed done begun rest ≡ Ok words) (λ fault. (fault ≡ OutOfMemory) ⊎ (rest ≡ Err fault)) → IfErr result (λ fault. (fault ≡ OutOfMemory) ⊎ (whole ≡ Err fault))
 refused done begun rest whole (Ok words) same ended = tt
 refused done begun rest whole (Err fault) same ended =
     elim ended [ inl want ↦ inl want | inr is ↦ inr (sym same ∙ ap (resumed done begun) is) ]

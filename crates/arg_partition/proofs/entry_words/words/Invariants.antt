@@ -1,5 +1,5 @@
 use Rattle.std.proofs.Common.{◌≡◌, ◌++◌, List, ℕ, string_bytes}
-use Rattle.arg_partition.specs.contracts.place.PlaceReads.TheImpl.{words-value}
+use Rattle.arg_partition.specs.contracts.reading_state.ReadingStateReadsWords.TheImpl.{words-value}
 use Rattle.arg_partition.specs.Words.{words_of_characters}
 use Rattle.arg_partition.specs.WordsSoFar.{resumed}
 use Rattle.arg_partition.proofs.entry_words.words.Given as goal

@@ -16,11 +16,17 @@ indexes-preserved c = elim c.if-index-next.branch [
   | then-index-next w ↦
       let here : get_or c.args.indexes.now c.indexes.index-index 0 ≡ c.indexes.next = w.if-index-next.true in
       let within : get_or c.args.indexes.now c.indexes.index-index 0 < length c.args.tree.now = c.requires c.indexes.index-index 0 c.indexes-test.true in
-      let more : c.if-index-next.next ≡ c.indexes.next + 1 = w.next-is in
-      (omega arith, subst (λ (n : ℕ). HasFirst n c.args.tree.now (take (c.indexes.index-index + 1) c.args.indexes.now)) (sym more) (first_more c.args.tree.now c.args.indexes.now c.indexes.index-index 0 c.indexes.next c.indexes-test.true here c.indexes.invariant.1))
+      let more : c.if-index-next.next ≡ c.indexes.next + 1 = w.next-is in (
+        omega arith,
+        subst (λ (n : ℕ). HasFirst n c.args.tree.now (take (c.indexes.index-index + 1) c.args.indexes.now)) (sym more)
+            (first_more c.args.tree.now c.args.indexes.now c.indexes.index-index 0 c.indexes.next c.indexes-test.true here c.indexes.invariant.1),
+      )
   | else-index-next w ↦
-      let same : c.if-index-next.next ≡ c.indexes.next = w.next-is in
-      (omega arith, subst (λ (n : ℕ). HasFirst n c.args.tree.now (take (c.indexes.index-index + 1) c.args.indexes.now)) (sym same) (first_kept c.args.tree.now c.args.indexes.now c.indexes.index-index c.indexes.next c.indexes-test.true c.indexes.invariant.1))
+      let same : c.if-index-next.next ≡ c.indexes.next = w.next-is in (
+        omega arith,
+        subst (λ (n : ℕ). HasFirst n c.args.tree.now (take (c.indexes.index-index + 1) c.args.indexes.now)) (sym same)
+            (first_kept c.args.tree.now c.args.indexes.now c.indexes.index-index c.indexes.next c.indexes-test.true c.indexes.invariant.1),
+      )
 ]
 
 pub returns : goal.returns

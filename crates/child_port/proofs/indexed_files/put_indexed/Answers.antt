@@ -13,7 +13,9 @@ indexes-init c = c.new-files.ensures ∙ no_files c.args.tree.now
 pub indexes-preserved : goal.indexes-preserved
 indexes-preserved c =
     let row = c.shared.result.now in
-    c.in_ok-put_shared.ensures.put ∙ (ap (λ (file : File). put_row file c.indexes.files) c.in_ok-clone.ensures.cases ∙ (ap (λ (files : List File). put_row row files) c.indexes.invariant ∙ put_more c.args.tree.now c.args.indexes.now c.indexes.index-index 0 row c.shared.ensures.rising c.indexes-test.true c.shared.ensures.row))
+    c.in_ok-put_shared.ensures.put ∙ (ap (λ (file : File). put_row file c.indexes.files) c.in_ok-clone.ensures.cases
+    ∙ (ap (λ (files : List File). put_row row files) c.indexes.invariant
+    ∙ put_more c.args.tree.now c.args.indexes.now c.indexes.index-index 0 row c.shared.ensures.rising c.indexes-test.true c.shared.ensures.row))
 
 pub returns : goal.returns
 returns c =

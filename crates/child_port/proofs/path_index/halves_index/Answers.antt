@@ -29,8 +29,13 @@ pub halves-preserved : goal.halves-preserved
 halves-preserved c =
     let middle = c.halves.low + (c.halves.high - c.halves.low) / 2 in
     let row = c.entry.result.now in
-    let order : path_cmp row.path c.args.path.now ≡ Greater = ap (λ (p : List ℕ). path_cmp p c.args.path.now) (sym c.as_str.ensures.same) ∙ sym c.in-Greater.ensures in
-    (omega arith, omega arith, c.halves.invariant.2, more_later c.args.path.now c.args.tree.now middle row c.entry.ensures.row c.entry.ensures.rising (below_from_greater c.args.path.now row.path order))
+    let order : path_cmp row.path c.args.path.now ≡ Greater = ap (λ (p : List ℕ). path_cmp p c.args.path.now) (sym c.as_str.ensures.same) ∙ sym c.in-Greater.ensures in (
+      omega arith,
+      omega arith,
+      c.halves.invariant.2,
+      more_later c.args.path.now c.args.tree.now middle row c.entry.ensures.row c.entry.ensures.rising
+          (below_from_greater c.args.path.now row.path order),
+    )
 
 pub returns-clause-place : goal.returns-clause-place
 returns-clause-place c =

@@ -19,5 +19,6 @@ returns c =
     let slice : c.as_slice.result.now ≡ c.sort_unstable.new.self.items = search rules in
     let held = indexes_sorted keeps c.args.tree.now c.in_ok-indexes.indexes.items c.sort_unstable.new.self.items c.sort_unstable.ensures.permutation c.in_ok-indexes.ensures in
     let same = (subst (λ (indexes : List ℕ). AreIndexesOf keeps c.args.tree.now indexes) (sym slice) held).same in
-    where_ok (λ (files : List File). files ≡ files_where (is_indexed c.args.tree.now c.as_slice.result.now) c.args.tree.now) (λ (seen : List File). seen ≡ seen_of c.args.words.now c.args.extra.now c.args.whole c.args.tree.now) c.indexed_files.result c.indexed_files.ensures
+    where_ok (λ (files : List File). files ≡ files_where (is_indexed c.args.tree.now c.as_slice.result.now) c.args.tree.now)
+    (λ (seen : List File). seen ≡ seen_of c.args.words.now c.args.extra.now c.args.whole c.args.tree.now) c.indexed_files.result c.indexed_files.ensures
     (λ files made. rw c.if-whole.false (made ∙ same_files (is_indexed c.args.tree.now c.as_slice.result.now) keeps c.args.tree.now same))

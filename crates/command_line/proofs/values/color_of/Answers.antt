@@ -1,6 +1,6 @@
 use Rattle.std.proofs.Common.{codes, refl}
 use Rattle.clap.specs.Words.{found_of}
-use Rattle.clap.proofs.WalkLemmas.{first_value-rows}
+use Rattle.command_line.proofs.Kit.{first_value-rows}
 use Rattle.command_line.specs.declared.line.ColorChoice.TheVariants.{Auto, Always, Never}
 use Rattle.command_line.proofs.ValueLemmas.{color-none, color-refused, color-told}
 use Rattle.command_line.proofs.values.color_of.Goals as goal

@@ -1,6 +1,6 @@
 use Rattle.std.proofs.Common.{◌∙◌}
 use Rattle.clap.specs.Words.{found_of}
-use Rattle.clap.proofs.WalkLemmas.{first_value-rows}
+use Rattle.command_line.proofs.Kit.{first_value-rows}
 use Rattle.command_line.proofs.ValueLemmas.{text-given, text-left-out}
 use Rattle.command_line.proofs.values.maybe_text_of.Goals as goal
 

@@ -1,6 +1,6 @@
 use Rattle.std.proofs.Common.{codes}
 use Rattle.clap.specs.Words.{found_of}
-use Rattle.clap.proofs.WalkLemmas.{first_value-rows}
+use Rattle.command_line.proofs.Kit.{first_value-rows}
 use Rattle.command_line.proofs.ValueLemmas.{mode-executable, mode-none, mode-refused}
 use Rattle.command_line.proofs.values.mode_of.Goals as goal
 

@@ -1,6 +1,6 @@
 use Rattle.std.proofs.Common.{codes}
 use Rattle.clap.specs.Words.{found_of}
-use Rattle.clap.proofs.WalkLemmas.{first_value-rows}
+use Rattle.command_line.proofs.Kit.{first_value-rows}
 use Rattle.command_line.proofs.ValueLemmas.{stage-manual, stage-none, stage-pre-commit, stage-refused}
 use Rattle.command_line.proofs.values.stage_of.Goals as goal
 

@@ -1,6 +1,6 @@
 use Rattle.std.proofs.Common.{◌∙◌, ap}
 use Rattle.clap.specs.Words.{found_of}
-use Rattle.clap.proofs.WalkLemmas.{raw_values-rows}
+use Rattle.command_line.proofs.Kit.{raw_values-rows}
 use Rattle.command_line.proofs.ValueLemmas.{or_none}
 use Rattle.command_line.proofs.values.texts_of.Goals as goal
 

@@ -1,6 +1,6 @@
 use Rattle.std.proofs.Common.{◌∙◌, ap, refl}
 use Rattle.clap.specs.Words.{found_of}
-use Rattle.clap.proofs.WalkLemmas.{first_value-rows}
+use Rattle.command_line.proofs.Kit.{first_value-rows}
 use Rattle.command_line.proofs.ValueLemmas.{text_or}
 use Rattle.command_line.proofs.values.word_of.Goals as goal
 

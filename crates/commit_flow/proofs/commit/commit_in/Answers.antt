@@ -28,7 +28,8 @@ returns-in_err-through-clause-step g c =
     let between = c.go_through.new.store in
     let to = moment calls faults (remembered_by between.kept) in
     let p = err_from_is_err_and c.from_residual.result c.from_residual.ensures.1 in
-    rw (p.1, p.2) (step_unthrough tells old.kept.repo c.args.message.now c.args.no_verify c.args.skip.now from to c.in_err-through.field-0.0 between.kept c.go_through.ensures.rest.repo c.in_err-through.ensures.refused)
+    rw (p.1, p.2) (step_unthrough tells old.kept.repo c.args.message.now c.args.no_verify c.args.skip.now from to c.in_err-through.field-0.0 between.kept c.go_through.ensures.rest.repo
+    c.in_err-through.ensures.refused)
 
 pub returns-in_err-through-clause-kept : goal.returns-in_err-through-clause-kept
 returns-in_err-through-clause-kept g c =
@@ -46,7 +47,9 @@ returns-in_err-through-clause-command g c =
     let between = c.go_through.new.store in
     let to = moment calls faults (remembered_by between.kept) in
     let refusal = c.in_err-through.field-0.0 in
-    let over = step_unthrough tells old.kept.repo c.args.message.now c.args.no_verify c.args.skip.now from to c.in_err-through.field-0.0 between.kept c.go_through.ensures.rest.repo c.in_err-through.ensures.refused in
+    let over =
+    step_unthrough tells old.kept.repo c.args.message.now c.args.no_verify c.args.skip.now from to c.in_err-through.field-0.0 between.kept c.go_through.ensures.rest.repo
+    c.in_err-through.ensures.refused in
     let p = err_from_is_err_and c.from_residual.result c.from_residual.ensures.1 in
     rw (p.1, p.2) (commit_safely g.S.Store tells from to old between refl refl c.args.message.now c.args.no_verify c.args.skip.now (Refused refusal) over
     (hooks_alone g.S.Store tells (Commit c.args.message.now c.args.no_verify c.args.skip.now) old _ between refusal c.go_through.ensures.rest c.go_through.ensures.left))
@@ -66,7 +69,8 @@ returns-in_err-set_fixes_to-in-Failed-clause-step g c =
     let refusal = c.in_err-set_fixes_to-in-Failed.field-0.0 in
     rw (p.1, p.2) (unfixed_so g.S.Store tells from calls faults old between refl c.go_through.ensures.rest c.go_through.ensures.left c.args.message.now c.args.no_verify c.args.skip.now
     c.in_ok-through.through c.in_ok-through.ensures.through
-    c.set_fixes_to.new.store c.in-Failed.stage c.in-Failed.reports c.in-Failed.course c.in-Failed.is c.in_err-set_fixes_to-in-Failed.ensures.change.same refusal c.in_err-set_fixes_to-in-Failed.ensures.refused)
+    c.set_fixes_to.new.store c.in-Failed.stage c.in-Failed.reports c.in-Failed.course c.in-Failed.is c.in_err-set_fixes_to-in-Failed.ensures.change.same refusal
+    c.in_err-set_fixes_to-in-Failed.ensures.refused)
 
 pub returns-in_err-set_fixes_to-in-Failed-clause-kept : goal.returns-in_err-set_fixes_to-in-Failed-clause-kept
 returns-in_err-set_fixes_to-in-Failed-clause-kept g c =
@@ -86,7 +90,8 @@ returns-in_err-set_fixes_to-in-Failed-clause-command g c =
     let refusal = c.in_err-set_fixes_to-in-Failed.field-0.0 in
     rw (p.1, p.2) (unfixed_safely g.S.Store tells from calls faults old between refl c.go_through.ensures.rest c.go_through.ensures.left c.args.message.now c.args.no_verify c.args.skip.now
     c.in_ok-through.through c.in_ok-through.ensures.through
-    c.set_fixes_to.new.store c.in-Failed.stage c.in-Failed.reports c.in-Failed.course c.in-Failed.is c.in_err-set_fixes_to-in-Failed.ensures.change.same refusal c.in_err-set_fixes_to-in-Failed.ensures.refused refusal c.in_err-set_fixes_to-in-Failed.ensures.one)
+    c.set_fixes_to.new.store c.in-Failed.stage c.in-Failed.reports c.in-Failed.course c.in-Failed.is c.in_err-set_fixes_to-in-Failed.ensures.change.same refusal
+    c.in_err-set_fixes_to-in-Failed.ensures.refused refusal c.in_err-set_fixes_to-in-Failed.ensures.one)
 
 pub returns-in-Failed-clause-step : goal.returns-in-Failed-clause-step
 returns-in-Failed-clause-step g c =
@@ -136,7 +141,8 @@ returns-in_err-number-in-Passed-clause-step g c =
     let refusal = c.in_err-number-in-Passed.field-0.0 in
     rw (p.1, p.2) (uncommitted_so g.S.Store tells from calls faults old between refl c.go_through.ensures.rest c.go_through.ensures.left c.args.message.now c.args.no_verify c.args.skip.now
     c.in_ok-through.through c.in_ok-through.ensures.through
-    c.commit_staged.new.store c.in-Passed.reports c.in-Passed.course c.in-Passed.is c.as_slice.result.now c.as_slice.ensures c.in_err-number-in-Passed.ensures.change.same refusal c.in_err-number-in-Passed.ensures.refused)
+    c.commit_staged.new.store c.in-Passed.reports c.in-Passed.course c.in-Passed.is c.as_slice.result.now c.as_slice.ensures c.in_err-number-in-Passed.ensures.change.same refusal
+    c.in_err-number-in-Passed.ensures.refused)
 
 pub returns-in_err-number-in-Passed-clause-kept : goal.returns-in_err-number-in-Passed-clause-kept
 returns-in_err-number-in-Passed-clause-kept g c =
@@ -156,7 +162,8 @@ returns-in_err-number-in-Passed-clause-command g c =
     let refusal = c.in_err-number-in-Passed.field-0.0 in
     rw (p.1, p.2) (uncommitted_safely g.S.Store tells from calls faults old between refl c.go_through.ensures.rest c.go_through.ensures.left c.args.message.now c.args.no_verify c.args.skip.now
     c.in_ok-through.through c.in_ok-through.ensures.through
-    c.commit_staged.new.store c.in-Passed.reports c.in-Passed.course c.in-Passed.is c.as_slice.result.now c.as_slice.ensures c.in_err-number-in-Passed.ensures.change.same refusal c.in_err-number-in-Passed.ensures.refused refusal c.commit_staged.ensures.unasked c.in_err-number-in-Passed.ensures.one)
+    c.commit_staged.new.store c.in-Passed.reports c.in-Passed.course c.in-Passed.is c.as_slice.result.now c.as_slice.ensures c.in_err-number-in-Passed.ensures.change.same refusal
+    c.in_err-number-in-Passed.ensures.refused refusal c.commit_staged.ensures.unasked c.in_err-number-in-Passed.ensures.one)
 
 pub returns-clause-step : goal.returns-clause-step
 returns-clause-step g c =
@@ -171,7 +178,9 @@ returns-clause-step g c =
     let after = c.run_post_commit-post.new.store in
     let end = moment (children.call_count c.run_post_commit-post.new.children) (children.fault_count c.run_post_commit-post.new.children) (remembered_by after.kept) in
     let done = c.in_ok-number-in-Passed.ensures.change.done in
-    let behind = subst (λ (kept : Kept). IsPostOver next (moment calls faults (remembered_by kept)) end c.in_ok-through.through.config kept.repo.staged c.args.skip.now c.run_post_commit-post.result) done c.run_post_commit-post.ensures.post in
+    let behind =
+    subst (λ (kept : Kept). IsPostOver next (moment calls faults (remembered_by kept)) end c.in_ok-through.through.config kept.repo.staged c.args.skip.now c.run_post_commit-post.result) done
+    c.run_post_commit-post.ensures.post in
     committed_so g.S.Store tells from calls faults old between refl c.go_through.ensures.rest c.go_through.ensures.left c.args.message.now c.args.no_verify c.args.skip.now
     c.in_ok-through.through c.in_ok-through.ensures.through
     c.commit_staged.new.store c.in-Passed.reports c.in-Passed.course c.in-Passed.is c.as_slice.result.now c.as_slice.ensures
@@ -182,7 +191,8 @@ pub returns-clause-kept : goal.returns-clause-kept
 returns-clause-kept g c =
     let cleaned = cleaned_message c.as_slice.result.now in (
       cleaned,
-      c.run_post_commit-post.ensures.rest.repo ∙ ap (λ (kept : Kept). kept.repo) c.in_ok-number-in-Passed.ensures.change.done ∙ ap (λ (repo : Repository). with_new_commit cleaned repo) c.go_through.ensures.rest.repo,
+      c.run_post_commit-post.ensures.rest.repo ∙ ap (λ (kept : Kept). kept.repo) c.in_ok-number-in-Passed.ensures.change.done
+          ∙ ap (λ (repo : Repository). with_new_commit cleaned repo) c.go_through.ensures.rest.repo,
     )
 
 pub returns-clause-command : goal.returns-clause-command
@@ -198,7 +208,9 @@ returns-clause-command g c =
     let after = c.run_post_commit-post.new.store in
     let end = moment (children.call_count c.run_post_commit-post.new.children) (children.fault_count c.run_post_commit-post.new.children) (remembered_by after.kept) in
     let done = c.in_ok-number-in-Passed.ensures.change.done in
-    let behind = subst (λ (kept : Kept). IsPostOver next (moment calls faults (remembered_by kept)) end c.in_ok-through.through.config kept.repo.staged c.args.skip.now c.run_post_commit-post.result) done c.run_post_commit-post.ensures.post in
+    let behind =
+    subst (λ (kept : Kept). IsPostOver next (moment calls faults (remembered_by kept)) end c.in_ok-through.through.config kept.repo.staged c.args.skip.now c.run_post_commit-post.result) done
+    c.run_post_commit-post.ensures.post in
     committed_safely g.S.Store tells from calls faults old between refl c.go_through.ensures.rest c.go_through.ensures.left c.args.message.now c.args.no_verify c.args.skip.now
     c.in_ok-through.through c.in_ok-through.ensures.through
     c.commit_staged.new.store c.in-Passed.reports c.in-Passed.course c.in-Passed.is c.as_slice.result.now c.as_slice.ensures

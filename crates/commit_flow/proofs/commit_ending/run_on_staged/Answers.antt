@@ -13,7 +13,8 @@ pub returns-in_err-staged-clause-stopped : goal.returns-in_err-staged-clause-sto
 returns-in_err-staged-clause-stopped g c =
     let children = g.C.Children in
     let p = err_from_is_err_and c.from_residual.result c.from_residual.ensures.1 in
-    rw (p.1, p.2) (stopped_for_memory RefusesAnswers (children.tells c.args.children.now) (moment (children.call_count c.args.children.now) (children.fault_count c.args.children.now) (remembered_by c.args.store.now.kept))
+    rw (p.1, p.2) (stopped_for_memory RefusesAnswers (children.tells c.args.children.now)
+    (moment (children.call_count c.args.children.now) (children.fault_count c.args.children.now) (remembered_by c.args.store.now.kept))
     c.args.config.now (ask_in [] c.args.skip.now PostCommit) c.args.store.now.kept.repo.staged)
 
 pub returns-in_err-staged-clause-rest : goal.returns-in_err-staged-clause-rest

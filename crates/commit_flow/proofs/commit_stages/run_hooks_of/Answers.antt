@@ -13,7 +13,8 @@ returns-in_err-ask-clause-stopped g c =
     let children = g.C.Children in
     let book = g.B.Book in
     let p = err_from_is_err_and c.from_residual.result c.from_residual.ensures.1 in
-    rw (p.1, p.2) (stopped_for_memory book.refuses (children.tells c.args.children.now) (moment (children.call_count c.args.children.now) (children.fault_count c.args.children.now) (book.contents c.args.book.now))
+    rw (p.1, p.2) (stopped_for_memory book.refuses (children.tells c.args.children.now)
+    (moment (children.call_count c.args.children.now) (children.fault_count c.args.children.now) (book.contents c.args.book.now))
     c.args.config.now (ask_in c.args.changed.now c.args.skip.now c.args.stage) c.args.tree.now)
 
 pub returns-clause-stopped : goal.returns-clause-stopped

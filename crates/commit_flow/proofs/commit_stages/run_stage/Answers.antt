@@ -53,7 +53,8 @@ returns-in_err-course-clause-halted g c =
     let ask = ask_in c.args.changed.now c.args.skip.now c.args.stage in
     let tree = tree_in c.args.stage c.args.course in
     let over = c.in_ok-out.ensures.run.over in
-    rw (p.1, p.2) (halted_for_memory book.refuses (children.tells c.args.children.now) from to (IsBegun c.args.config.now ask tree) (NeedsChild (book.contents c.run_hooks_of.new.book) c.args.config.now ask tree)
+    rw (p.1, p.2) (halted_for_memory book.refuses (children.tells c.args.children.now) from to (IsBegun c.args.config.now ask tree)
+    (NeedsChild (book.contents c.run_hooks_of.new.book) c.args.config.now ask tree)
     (all_parts over.trace) (subst (λ (files : List File). IsBegun c.args.config.now ask files (all_parts over.trace)) c.in_ok-begun.ensures.tree
     (begun_all c.args.config.now ask c.in_ok-begun.begun.tree over.trace c.in_ok-out.out over.run)) over.answered)
 

@@ -36,9 +36,12 @@ returns-in_err-set_fixes-clause-stopped g c =
     let new = c.set_fixes.new.self in
     let run = c.in_ok-ran.ensures.run in
     let fault = c.in_err-set_fixes.field-0.0 in
-    let why = subst (λ (changes : List Change). IsRefusal (HasLarge (staged_changes changes between.kept.repo.staged)) ⊥ (FixCollides (staged_changes changes between.kept.repo.staged) between.kept.contents) fault) c.as_slice.ensures.same c.in_err-set_fixes.ensures.why in
+    let why =
+    subst (λ (changes : List Change). IsRefusal (HasLarge (staged_changes changes between.kept.repo.staged)) ⊥ (FixCollides (staged_changes changes between.kept.repo.staged) between.kept.contents)
+    fault) c.as_slice.ensures.same c.in_err-set_fixes.ensures.why in
     let p = err_from_is_err_and c.from_residual-in_err-set_fixes.result c.from_residual-in_err-set_fixes.ensures.1 in
-    rw (p.1, p.2) (unset_step g.S.Store tells from calls faults old between new refl c.run_on_staged.ensures.rest c.run_on_staged.ensures.left c.args.ask.now run.prepared run.ready c.in_ok-ran.ran run.run
+    rw (p.1, p.2) (unset_step g.S.Store tells from calls faults old between new refl c.run_on_staged.ensures.rest c.run_on_staged.ensures.left c.args.ask.now run.prepared run.ready c.in_ok-ran.ran
+    run.run
     c.as_slice.result.now c.as_slice.ensures.same c.in_err-set_fixes.ensures.change.same fault why)
 
 pub returns-in_err-set_fixes-clause-kept : goal.returns-in_err-set_fixes-clause-kept
@@ -58,9 +61,12 @@ returns-in_err-set_fixes-clause-command g c =
     let new = c.set_fixes.new.self in
     let run = c.in_ok-ran.ensures.run in
     let fault = c.in_err-set_fixes.field-0.0 in
-    let why = subst (λ (changes : List Change). IsRefusal (HasLarge (staged_changes changes between.kept.repo.staged)) ⊥ (FixCollides (staged_changes changes between.kept.repo.staged) between.kept.contents) fault) c.as_slice.ensures.same c.in_err-set_fixes.ensures.why in
+    let why =
+    subst (λ (changes : List Change). IsRefusal (HasLarge (staged_changes changes between.kept.repo.staged)) ⊥ (FixCollides (staged_changes changes between.kept.repo.staged) between.kept.contents)
+    fault) c.as_slice.ensures.same c.in_err-set_fixes.ensures.why in
     let p = err_from_is_err_and c.from_residual-in_err-set_fixes.result c.from_residual-in_err-set_fixes.ensures.1 in
-    rw (p.1, p.2) (unset_safely g.S.Store tells from calls faults old between new refl c.run_on_staged.ensures.rest c.run_on_staged.ensures.left c.args.ask.now run.prepared run.ready c.in_ok-ran.ran run.run
+    rw (p.1, p.2) (unset_safely g.S.Store tells from calls faults old between new refl c.run_on_staged.ensures.rest c.run_on_staged.ensures.left c.args.ask.now run.prepared run.ready c.in_ok-ran.ran
+    run.run
     c.as_slice.result.now c.as_slice.ensures.same c.in_err-set_fixes.ensures.change.same fault why
     {A = Unit {0}} (of_store fault) (change_refused g.S.Store between new (setting c.as_slice.result.now between.kept) {B = Unit {0}} fault (of_store fault) c.in_err-set_fixes.ensures.transaction))
 
@@ -89,7 +95,8 @@ returns-clause-fixed g c =
     let ran = c.in_ok-ran.ran in
     let made = settled between c.set_fixes.new.self.kept c.as_slice.result.now ran.changes c.in_ok-set_fixes.ensures.change.done c.as_slice.ensures.same in
     ap (λ (repo : Repository). repo.fixes) (ap (λ (kept : Kept). kept.repo) made
-    ∙ made_so (children.tells c.args.children.now) from to c.args.store.now.kept.repo c.args.ask.now c.in_ok-ran.ensures.run.prepared c.in_ok-ran.ensures.run.ready ran c.in_ok-ran.ensures.run.run between c.run_on_staged.ensures.rest.repo)
+    ∙ made_so (children.tells c.args.children.now) from to c.args.store.now.kept.repo c.args.ask.now c.in_ok-ran.ensures.run.prepared c.in_ok-ran.ensures.run.ready ran c.in_ok-ran.ensures.run.run
+    between c.run_on_staged.ensures.rest.repo)
 
 pub returns-clause-kept : goal.returns-clause-kept
 returns-clause-kept g c =

@@ -22,7 +22,8 @@ returns-clause-run g c =
     let children = g.C.Children in
     let from = moment (children.call_count c.args.children.now) (children.fault_count c.args.children.now) (remembered_by c.args.store.now.kept) in
     let to = moment (children.call_count c.run_prepared.new.children) (children.fault_count c.run_prepared.new.children) (remembered_by c.run_prepared.new.book.kept) in
-    staged_if (children.tells c.args.children.now) from to c.args.store.now.kept.repo c.args.ask.now c.in_ok-prepared.prepared c.in_ok-prepared.ensures.ready c.run_prepared.result c.run_prepared.ensures.run
+    staged_if (children.tells c.args.children.now) from to c.args.store.now.kept.repo c.args.ask.now c.in_ok-prepared.prepared c.in_ok-prepared.ensures.ready c.run_prepared.result
+    c.run_prepared.ensures.run
 
 pub returns-clause-stopped : goal.returns-clause-stopped
 returns-clause-stopped g c =

@@ -8,9 +8,11 @@ use Rattle.file_tags.proofs.first_line.first_line.Goals as goal
 pub returns-in-Some : goal.returns-in-Some
 returns-in-Some c =
     line_to c.args.bytes.now c.in-Some.end
-    (sym c.in-Some.is ∙ position_from_yields_List is_line_feed _ _ c.position.result c.position.ensures.ran (YieldsList-from_slice c.args.bytes.now c.iter.ensures.rest) (λ x b q k. search (rules, tests)))
+    (sym c.in-Some.is ∙ position_from_yields_List is_line_feed _ _ c.position.result c.position.ensures.ran (YieldsList-from_slice c.args.bytes.now c.iter.ensures.rest)
+    (λ x b q k. search (rules, tests)))
 
 pub returns-in-None : goal.returns-in-None
 returns-in-None c =
     line_whole c.args.bytes.now
-    (sym c.in-None.is ∙ position_from_yields_List is_line_feed _ _ c.position.result c.position.ensures.ran (YieldsList-from_slice c.args.bytes.now c.iter.ensures.rest) (λ x b q k. search (rules, tests)))
+    (sym c.in-None.is ∙ position_from_yields_List is_line_feed _ _ c.position.result c.position.ensures.ran (YieldsList-from_slice c.args.bytes.now c.iter.ensures.rest)
+    (λ x b q k. search (rules, tests)))

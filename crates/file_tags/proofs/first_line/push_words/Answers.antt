@@ -3,7 +3,7 @@ use Rattle.std.specs.List.{filter}
 use Rattle.std.proofs.lemmas.List.{append-nil}
 use Rattle.std.proofs.lemmas.Iterator.Consumers.{YieldsList-end}
 use Rattle.std.proofs.lemmas.Iterator.Splits.{YieldsList-from_str_split}
-use Rattle.file_tags.specs.Shebangs.{is_word}
+use Rattle.file_tags.specs.Shebangs.{is_shebang_word}
 use Rattle.file_tags.proofs.WordLemmas.{word_more, no_word_more, word_is, no_word_is}
 use Rattle.file_tags.proofs.first_line.push_words.Goals as goal
 
@@ -22,4 +22,4 @@ words-preserved c =
 pub returns : goal.returns
 returns c =
     let all = YieldsList-end (YieldsList-from_str_split 9 c.args.part.now (lit< tt) (cc) (cc) (cc)) c.words.yielded _ c.words.yielded_by _ _ c.in-None.is c.next.ensures.steps in
-    c.words.invariant ∙ ap (λ parts. c.args.words.now.items ++ filter is_word parts) all.0
+    c.words.invariant ∙ ap (λ parts. c.args.words.now.items ++ filter is_shebang_word parts) all.0

@@ -16,7 +16,9 @@ halves-preserved-in-Less c =
     let within : middle < length c.args.added.now = omega arith in
     let next : suc middle ≡ middle + 1 = omega arith in
     let place : c.args.index - middle - 1 ≡ c.args.index - (middle + 1) = omega arith in
-    let less = compared c.as_file.result.now c.as_file-in-halves.result.now (get_or c.args.added.now middle row) last Less (c.as_file.ensures ∙ c.index-added-middle.is) c.as_file-in-halves.ensures (sym c.in-Less.ensures) in
+    let less =
+    compared c.as_file.result.now c.as_file-in-halves.result.now (get_or c.args.added.now middle row) last Less (c.as_file.ensures ∙ c.index-added-middle.is) c.as_file-in-halves.ensures
+    (sym c.in-Less.ensures) in
     let below : IsBelow (get_or c.args.added.now middle row).path last.path = record { is_less = less } in
     let first = subst (λ (n : ℕ). UpTo last.path c.args.added.now n) next (up_to last.path c.args.added.now middle row within c.requires.rising below) in (
       omega arith,

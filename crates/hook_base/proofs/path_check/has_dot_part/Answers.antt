@@ -6,4 +6,5 @@ use Rattle.hook_base.proofs.path_check.has_dot_part.Goals as goal
 
 pub returns : goal.returns
 returns c =
-    any_from_yields_List is_dot_part _ _ _ c.any.ensures.ran (YieldsList-from_str_split 47 c.args.text.now (lit< tt) c.split.ensures.text c.split.ensures.has_more c.split.ensures.pattern) (λ x b q k. search (rules, tests))
+    any_from_yields_List is_dot_part _ _ _ c.any.ensures.ran (YieldsList-from_str_split 47 c.args.text.now (lit< tt) c.split.ensures.text c.split.ensures.has_more c.split.ensures.pattern)
+    (λ x b q k. search (rules, tests))

@@ -9,7 +9,8 @@ use Rattle.hook_base.proofs.row_states.apply_to_state.Goals as goal
 
 pub returns-in-Before-clause-applied : goal.returns-in-Before-clause-applied
 returns-in-Before-clause-applied c =
-    sym (apply_at-absent c.args.change.path c.args.change.now (live_rows c.args.base.now c.args.states.now.items) (entry_of-live_rows-gap c.args.change.path c.args.base.now c.args.states.now.items c.in-Before.index c.requires.states c.in-Before.ensures))
+    sym (apply_at-absent c.args.change.path c.args.change.now (live_rows c.args.base.now c.args.states.now.items)
+    (entry_of-live_rows-gap c.args.change.path c.args.base.now c.args.states.now.items c.in-Before.index c.requires.states c.in-Before.ensures))
 
 pub set_state-requires : goal.set_state-requires
 set_state-requires c =
@@ -19,7 +20,9 @@ set_state-requires c =
 
 pub returns-in-None-clause-applied : goal.returns-in-None-clause-applied
 returns-in-None-clause-applied c =
-    ap (λ (states : List RowState). live_rows c.args.base.now states) c.set_state.ensures ∙ live_rows-gone c.args.change.path c.args.base.now c.args.states.now.items c.in-At.index c.requires.rising c.requires.states c.in-At.ensures ∙ ap (λ (now : Option (List ℕ)). apply_at c.args.change.path now (live_rows c.args.base.now c.args.states.now.items)) (sym c.in-None.is)
+    ap (λ (states : List RowState). live_rows c.args.base.now states) c.set_state.ensures
+    ∙ live_rows-gone c.args.change.path c.args.base.now c.args.states.now.items c.in-At.index c.requires.rising c.requires.states c.in-At.ensures
+    ∙ ap (λ (now : Option (List ℕ)). apply_at c.args.change.path now (live_rows c.args.base.now c.args.states.now.items)) (sym c.in-None.is)
 
 pub returns-in-None-clause-states : goal.returns-in-None-clause-states
 returns-in-None-clause-states c =

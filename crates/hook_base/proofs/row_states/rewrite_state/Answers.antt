@@ -20,7 +20,8 @@ index-requires c =
 
 pub returns-in-Gone-clause-rewritten : goal.returns-in-Gone-clause-rewritten
 returns-in-Gone-clause-rewritten c =
-    sym (rewrite_file-gone c.args.path c.args.bytes c.args.base.now c.args.states.now.items c.args.index c.index.result.now c.requires.rising c.requires.states c.requires.place (sym c.index.ensures ∙ c.in-Gone.is))
+    sym (rewrite_file-gone c.args.path c.args.bytes c.args.base.now c.args.states.now.items c.args.index c.index.result.now c.requires.rising c.requires.states c.requires.place
+    (sym c.index.ensures ∙ c.in-Gone.is))
 
 pub standing_row-requires : goal.standing_row-requires
 standing_row-requires c =
@@ -47,8 +48,12 @@ returns c =
     let row : c.in_ok-row.row ≡ with_bytes c.args.bytes old =
     c.in_ok-row.ensures ∙ (ap (λ (p : List ℕ). row_of p c.as_file.result.now.entry.mode c.args.bytes) path ∙ ap (λ (m : Mode). row_of old.path m c.args.bytes) mode) in
     let new = c.set_state.ensures ∙ ap (λ (row : File). set states k (Replaced row)) row in
-    let live = live_rows-rewritten c.args.path c.args.bytes base states k old c.index.result.now c.requires.rising c.requires.states c.requires.place stood (λ gone. c.in_default.not-Gone (c.index.ensures ∙ gone)) in
+    let live =
+    live_rows-rewritten c.args.path c.args.bytes base states k old c.index.result.now c.requires.rising c.requires.states c.requires.place stood
+    (λ gone. c.in_default.not-Gone (c.index.ensures ∙ gone)) in
     record {
       rewritten = ap (λ (states : List RowState). live_rows base states) new ∙ live;
-      states = subst (λ (states : List RowState). AreStatesOf base states) (sym new) (states-set base states k (Replaced (with_bytes c.args.bytes old)) c.requires.states (λ d. sym path ∙ path-at c.args.path base k d c.requires.place));
+      states =
+          subst (λ (states : List RowState). AreStatesOf base states) (sym new)
+          (states-set base states k (Replaced (with_bytes c.args.bytes old)) c.requires.states (λ d. sym path ∙ path-at c.args.path base k d c.requires.place));
     }

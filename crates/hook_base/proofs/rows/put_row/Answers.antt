@@ -26,20 +26,24 @@ insert-requires c =
 
 pub returns-in-At-clause-put : goal.returns-in-At-clause-put
 returns-in-At-clause-put c =
-    sym (put_row-at c.args.row c.args.rows.now.items c.in-At.index (is_at c.as_file.result.now c.args.row c.as_slice.result.now c.args.rows.now.items c.in-At.index c.as_file.ensures c.as_slice.ensures.value c.in-At.ensures))
+    sym (put_row-at c.args.row c.args.rows.now.items c.in-At.index (is_at c.as_file.result.now c.args.row c.as_slice.result.now c.args.rows.now.items c.in-At.index c.as_file.ensures
+    c.as_slice.ensures.value c.in-At.ensures))
 
 pub returns-in-At-clause-rising : goal.returns-in-At-clause-rising
 returns-in-At-clause-rising c =
     subst IsRising
-    (put_row-at c.args.row c.args.rows.now.items c.in-At.index (is_at c.as_file.result.now c.args.row c.as_slice.result.now c.args.rows.now.items c.in-At.index c.as_file.ensures c.as_slice.ensures.value c.in-At.ensures))
+    (put_row-at c.args.row c.args.rows.now.items c.in-At.index (is_at c.as_file.result.now c.args.row c.as_slice.result.now c.args.rows.now.items c.in-At.index c.as_file.ensures
+    c.as_slice.ensures.value c.in-At.ensures))
     (IsRising-put_row c.args.row c.args.rows.now.items c.requires)
 
 pub returns-in_ok-insert-in-Before-clause-put : goal.returns-in_ok-insert-in-Before-clause-put
 returns-in_ok-insert-in-Before-clause-put c =
-    c.in_ok-insert-in-Before.ensures.items ∙ sym (put_row-gap c.args.row c.args.rows.now.items c.in-Before.index (is_gap c.as_file.result.now c.args.row c.as_slice.result.now c.args.rows.now.items c.in-Before.index c.as_file.ensures c.as_slice.ensures.value c.in-Before.ensures))
+    c.in_ok-insert-in-Before.ensures.items ∙ sym (put_row-gap c.args.row c.args.rows.now.items c.in-Before.index
+    (is_gap c.as_file.result.now c.args.row c.as_slice.result.now c.args.rows.now.items c.in-Before.index c.as_file.ensures c.as_slice.ensures.value c.in-Before.ensures))
 
 pub returns-in_ok-insert-in-Before-clause-rising : goal.returns-in_ok-insert-in-Before-clause-rising
 returns-in_ok-insert-in-Before-clause-rising c =
     subst IsRising
-    (sym (c.in_ok-insert-in-Before.ensures.items ∙ sym (put_row-gap c.args.row c.args.rows.now.items c.in-Before.index (is_gap c.as_file.result.now c.args.row c.as_slice.result.now c.args.rows.now.items c.in-Before.index c.as_file.ensures c.as_slice.ensures.value c.in-Before.ensures))))
+    (sym (c.in_ok-insert-in-Before.ensures.items ∙ sym (put_row-gap c.args.row c.args.rows.now.items c.in-Before.index
+    (is_gap c.as_file.result.now c.args.row c.as_slice.result.now c.args.rows.now.items c.in-Before.index c.as_file.ensures c.as_slice.ensures.value c.in-Before.ensures))))
     (IsRising-put_row c.args.row c.args.rows.now.items c.requires)

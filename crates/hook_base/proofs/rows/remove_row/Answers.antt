@@ -12,22 +12,27 @@ remove-requires c =
 
 pub returns-in-At-clause-found : goal.returns-in-At-clause-found
 returns-in-At-clause-found c =
-    sym (ap is_some (entry_of-at c.args.path.now c.args.rows.now.items c.in-At.index c.remove.result (subst (λ (rows : List File). IsAt c.args.path.now rows c.in-At.index) c.as_slice.ensures.value c.in-At.ensures)))
+    sym (ap is_some (entry_of-at c.args.path.now c.args.rows.now.items c.in-At.index c.remove.result
+    (subst (λ (rows : List File). IsAt c.args.path.now rows c.in-At.index) c.as_slice.ensures.value c.in-At.ensures)))
 
 pub returns-in-At-clause-removed : goal.returns-in-At-clause-removed
 returns-in-At-clause-removed c =
-    c.remove.ensures.items ∙ sym (remove_file-at c.args.path.now c.args.rows.now.items c.in-At.index c.requires (subst (λ (rows : List File). IsAt c.args.path.now rows c.in-At.index) c.as_slice.ensures.value c.in-At.ensures))
+    c.remove.ensures.items ∙ sym (remove_file-at c.args.path.now c.args.rows.now.items c.in-At.index c.requires
+    (subst (λ (rows : List File). IsAt c.args.path.now rows c.in-At.index) c.as_slice.ensures.value c.in-At.ensures))
 
 pub returns-in-At-clause-rising : goal.returns-in-At-clause-rising
 returns-in-At-clause-rising c =
     subst IsRising
-    (sym (c.remove.ensures.items ∙ sym (remove_file-at c.args.path.now c.args.rows.now.items c.in-At.index c.requires (subst (λ (rows : List File). IsAt c.args.path.now rows c.in-At.index) c.as_slice.ensures.value c.in-At.ensures))))
+    (sym (c.remove.ensures.items ∙ sym (remove_file-at c.args.path.now c.args.rows.now.items c.in-At.index c.requires
+    (subst (λ (rows : List File). IsAt c.args.path.now rows c.in-At.index) c.as_slice.ensures.value c.in-At.ensures))))
     (IsRising-remove_file c.args.path.now c.args.rows.now.items c.requires)
 
 pub returns-in-Before-clause-found : goal.returns-in-Before-clause-found
 returns-in-Before-clause-found c =
-    sym (ap is_some (entry_of-gap c.args.path.now c.args.rows.now.items c.in-Before.field-0 (subst (λ (rows : List File). IsGap c.args.path.now rows c.in-Before.field-0) c.as_slice.ensures.value c.in-Before.ensures)))
+    sym (ap is_some (entry_of-gap c.args.path.now c.args.rows.now.items c.in-Before.field-0
+    (subst (λ (rows : List File). IsGap c.args.path.now rows c.in-Before.field-0) c.as_slice.ensures.value c.in-Before.ensures)))
 
 pub returns-in-Before-clause-removed : goal.returns-in-Before-clause-removed
 returns-in-Before-clause-removed c =
-    sym (remove_file-gap c.args.path.now c.args.rows.now.items c.in-Before.field-0 (subst (λ (rows : List File). IsGap c.args.path.now rows c.in-Before.field-0) c.as_slice.ensures.value c.in-Before.ensures))
+    sym (remove_file-gap c.args.path.now c.args.rows.now.items c.in-Before.field-0
+    (subst (λ (rows : List File). IsGap c.args.path.now rows c.in-Before.field-0) c.as_slice.ensures.value c.in-Before.ensures))

@@ -5,7 +5,13 @@ use Rattle.hook_cli.proofs.over_runs.run_asked.Goals as goal
 pub returns-in-Ok-clause-run : goal.returns-in-Ok-clause-run
 returns-in-Ok-clause-run g c =
     run-said g.S.Store (g.C.Children.tells c.args.children.now)
-    (record { calls = g.C.Children.call_count c.args.children.now; calls_after = g.C.Children.call_count c.run.new.children; faults = g.C.Children.fault_count c.args.children.now; faults_after = g.C.Children.fault_count c.run.new.children })
+    (record {
+      calls = g.C.Children.call_count c.args.children.now;
+      calls_after = g.C.Children.call_count c.run.new.children;
+      faults = g.C.Children.fault_count c.args.children.now;
+      faults_after =
+          g.C.Children.fault_count c.run.new.children;
+    })
     c.args.host.now c.run.new.self c.args.ask.now
     (record { held = g.O.Write.contents c.args.out.now; holds = g.O.Write.contents c.say_run.new.out })
     (record { held = g.E.Write.contents c.args.err.now; holds = g.E.Write.contents c.say_run.new.err })
@@ -15,7 +21,13 @@ returns-in-Ok-clause-run g c =
 pub returns-in-Err-clause-run : goal.returns-in-Err-clause-run
 returns-in-Err-clause-run g c =
     run-refused g.S.Store (g.C.Children.tells c.args.children.now)
-    (record { calls = g.C.Children.call_count c.args.children.now; calls_after = g.C.Children.call_count c.run.new.children; faults = g.C.Children.fault_count c.args.children.now; faults_after = g.C.Children.fault_count c.run.new.children })
+    (record {
+      calls = g.C.Children.call_count c.args.children.now;
+      calls_after = g.C.Children.call_count c.run.new.children;
+      faults = g.C.Children.fault_count c.args.children.now;
+      faults_after =
+          g.C.Children.fault_count c.run.new.children;
+    })
     c.args.host.now c.run.new.self c.args.ask.now
     (record { held = g.O.Write.contents c.args.out.now; holds = g.O.Write.contents c.args.out.now })
     (record { held = g.E.Write.contents c.args.err.now; holds = g.E.Write.contents c.tell.new.err })

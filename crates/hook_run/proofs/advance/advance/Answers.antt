@@ -2,7 +2,7 @@ use Rattle.std.proofs.Common.{◌≡◌, sym, subst, arith}
 use Rattle.hook_run.specs.declared.progress.Progress.{Progress}
 use Rattle.hook_run.specs.CandidateFiles.{files_at}
 use Rattle.hook_run.specs.HookRun.{IsEnding}
-use Rattle.hook_run.specs.Standing.{FitsName}
+use Rattle.hook_run.specs.PlanStates.{FitsName}
 use Rattle.hook_config.specs.declared.configuration.Hook.{Hook}
 use Rattle.hook_run.proofs.AdvanceLemmas.{begun-ended, begun-waits, leads_on-ended, leads_on-none, leads_on-waits, within-waits}
 use Rattle.hook_run.proofs.advance.advance.Goals as goal

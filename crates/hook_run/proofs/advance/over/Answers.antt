@@ -1,7 +1,7 @@
 use Rattle.std.proofs.Common.{◌∙◌, ap}
 use Rattle.std.specs.List.{flat_map}
 use Rattle.report_text.specs.Report.{hook_text, report_text}
-use Rattle.hook_run.specs.Standing.{names_in}
+use Rattle.hook_run.specs.PlanStates.{names_of_hooks}
 use Rattle.hook_run.proofs.AdvanceLemmas.{over-from, report-of_run}
 use Rattle.hook_run.proofs.advance.over.Goals as goal
 
@@ -13,7 +13,7 @@ invariant_of-result c = record {
   held = c.requires.held;
   stored = c.from.ensures ∙ report-of_run c.args.course c.args.done.results c.in_ok-report.report.items c.requires.course
       (c.in_ok-report.ensures ∙ ap (λ columns. flat_map (hook_text columns) c.as_slice.result.now) c.requires.course.columns
-      ∙ ap (report_text (names_in c.args.course)) c.as_slice.ensures);
+      ∙ ap (report_text (names_of_hooks c.args.course)) c.as_slice.ensures);
 }
 
 pub returns-clause-from : goal.returns-clause-from

@@ -1,5 +1,5 @@
 use Rattle.std.proofs.Common.{sym, subst, ℕ, List}
-use Rattle.hook_run.specs.Standing.{AreFurther}
+use Rattle.hook_run.specs.PlanStates.{AreFurther}
 use Rattle.hook_run.proofs.BeginLemmas.{command-begun_if, cuts-given}
 use Rattle.hook_run.proofs.FurtherLemmas.{further-first}
 use Rattle.hook_run.proofs.begin.begin_command.Goals as goal

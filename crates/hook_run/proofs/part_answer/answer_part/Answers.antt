@@ -2,8 +2,8 @@ use Rattle.std.proofs.Common.{◌≡◌, inl, inr, subst, true, false, rules, No
 use Rattle.std.proofs.lemmas.Result.{err_from_is_err_and}
 use Rattle.result_book.specs.Contents.{Finds}
 use Rattle.result_book.specs.ToldLemmas.{adds-found}
-use Rattle.hook_run.specs.Plans.{seen_of_plan, words_of}
-use Rattle.hook_run.specs.Refusals.{of_book}
+use Rattle.hook_run.specs.Plans.{seen_of_plan, words_of_plan}
+use Rattle.hook_run.specs.Refusals.{run_refusal_of_book}
 use Rattle.hook_run.specs.Reuses.{serves}
 use Rattle.hook_run.proofs.PartLemmas.{finds-at, left-then, look-up-at, none-found, part-replayed, part-started_if, part-unfound, part-unput_if}
 use Rattle.hook_run.proofs.RunLemmas.{not-asked, not-spent}
@@ -15,7 +15,7 @@ returns-in_err-found-clause-stopped g c =
     let p = err_from_is_err_and c.from_residual.result c.from_residual.ensures.1 in
     rw (p.1, p.2)
     (part-unfound (children.tells c.args.children.now) c.args.reuse c.args.plan.now (children.call_count c.args.children.now) (children.fault_count c.args.children.now)
-    (g.B.Book.contents c.args.book.now) (g.B.Book.contents c.find.new.self) (of_book c.in_err-found.field-0.0) c.in_err-found.ensures.kept
+    (g.B.Book.contents c.args.book.now) (g.B.Book.contents c.find.new.self) (run_refusal_of_book c.in_err-found.field-0.0) c.in_err-found.ensures.kept
     (not-asked c.in_err-found.field-0.0) (not-spent c.in_err-found.field-0.0))
 
 pub returns-in_err-found-clause-left : goal.returns-in_err-found-clause-left
@@ -39,9 +39,11 @@ returns-clause-answered g c =
     let served : serves c.args.reuse c.in-Some.answer ≡ true = search rules in
     part-replayed (children.tells c.args.children.now) c.args.reuse c.args.plan.now (children.call_count c.args.children.now) (children.fault_count c.args.children.now)
     (book.contents c.args.book.now) (book.contents c.find.new.self) c.in-Some.answer served
-    (subst (Finds (words_of c.args.plan.now) (seen_of_plan c.args.plan.now) (book.contents c.args.book.now)) c.in-Some.is
-    (finds-at c.words.result.now (words_of c.args.plan.now) c.seen.result.now (seen_of_plan c.args.plan.now) c.words.ensures c.seen.ensures (book.contents c.args.book.now) c.in_ok-found.found c.in_ok-found.ensures.found))
-    (look-up-at c.words.result.now (words_of c.args.plan.now) c.seen.result.now (seen_of_plan c.args.plan.now) c.words.ensures c.seen.ensures (book.contents c.args.book.now) (book.contents c.find.new.self) c.in_ok-found.ensures.after)
+    (subst (Finds (words_of_plan c.args.plan.now) (seen_of_plan c.args.plan.now) (book.contents c.args.book.now)) c.in-Some.is
+    (finds-at c.words.result.now (words_of_plan c.args.plan.now) c.seen.result.now (seen_of_plan c.args.plan.now) c.words.ensures c.seen.ensures (book.contents c.args.book.now) c.in_ok-found.found
+    c.in_ok-found.ensures.found))
+    (look-up-at c.words.result.now (words_of_plan c.args.plan.now) c.seen.result.now (seen_of_plan c.args.plan.now) c.words.ensures c.seen.ensures (book.contents c.args.book.now)
+    (book.contents c.find.new.self) c.in_ok-found.ensures.after)
 
 pub returns-in_default-clause-answered : goal.returns-in_default-clause-answered
 returns-in_default-clause-answered g c =
@@ -50,8 +52,10 @@ returns-in_default-clause-answered g c =
     part-started_if (children.tells c.args.children.now) c.args.reuse c.args.plan.now (children.call_count c.args.children.now) (children.call_count c.start_part.new.children)
     (children.fault_count c.args.children.now) (children.fault_count c.start_part.new.children)
     (book.contents c.args.book.now) (book.contents c.find.new.self) (book.contents c.start_part.new.book) None c.start_part.result
-    (finds-at c.words.result.now (words_of c.args.plan.now) c.seen.result.now (seen_of_plan c.args.plan.now) c.words.ensures c.seen.ensures (book.contents c.args.book.now) None (subst (Finds c.words.result.now c.seen.result.now (book.contents c.args.book.now)) (none-found c.in_ok-found.found c.in_default.not-Some) c.in_ok-found.ensures.found))
-    (look-up-at c.words.result.now (words_of c.args.plan.now) c.seen.result.now (seen_of_plan c.args.plan.now) c.words.ensures c.seen.ensures (book.contents c.args.book.now) (book.contents c.find.new.self) c.in_ok-found.ensures.after)
+    (finds-at c.words.result.now (words_of_plan c.args.plan.now) c.seen.result.now (seen_of_plan c.args.plan.now) c.words.ensures c.seen.ensures (book.contents c.args.book.now) None
+    (subst (Finds c.words.result.now c.seen.result.now (book.contents c.args.book.now)) (none-found c.in_ok-found.found c.in_default.not-Some) c.in_ok-found.ensures.found))
+    (look-up-at c.words.result.now (words_of_plan c.args.plan.now) c.seen.result.now (seen_of_plan c.args.plan.now) c.words.ensures c.seen.ensures (book.contents c.args.book.now)
+    (book.contents c.find.new.self) c.in_ok-found.ensures.after)
     tt c.start_part.ensures.started
 
 pub returns-in_default-clause-stopped : goal.returns-in_default-clause-stopped
@@ -61,8 +65,10 @@ returns-in_default-clause-stopped g c =
     part-unput_if (children.tells c.args.children.now) c.args.reuse c.args.plan.now (children.call_count c.args.children.now) (children.call_count c.start_part.new.children)
     (children.fault_count c.args.children.now) (children.fault_count c.start_part.new.children)
     (book.contents c.args.book.now) (book.contents c.find.new.self) (book.contents c.start_part.new.book) None c.start_part.result
-    (finds-at c.words.result.now (words_of c.args.plan.now) c.seen.result.now (seen_of_plan c.args.plan.now) c.words.ensures c.seen.ensures (book.contents c.args.book.now) None (subst (Finds c.words.result.now c.seen.result.now (book.contents c.args.book.now)) (none-found c.in_ok-found.found c.in_default.not-Some) c.in_ok-found.ensures.found))
-    (look-up-at c.words.result.now (words_of c.args.plan.now) c.seen.result.now (seen_of_plan c.args.plan.now) c.words.ensures c.seen.ensures (book.contents c.args.book.now) (book.contents c.find.new.self) c.in_ok-found.ensures.after)
+    (finds-at c.words.result.now (words_of_plan c.args.plan.now) c.seen.result.now (seen_of_plan c.args.plan.now) c.words.ensures c.seen.ensures (book.contents c.args.book.now) None
+    (subst (Finds c.words.result.now c.seen.result.now (book.contents c.args.book.now)) (none-found c.in_ok-found.found c.in_default.not-Some) c.in_ok-found.ensures.found))
+    (look-up-at c.words.result.now (words_of_plan c.args.plan.now) c.seen.result.now (seen_of_plan c.args.plan.now) c.words.ensures c.seen.ensures (book.contents c.args.book.now)
+    (book.contents c.find.new.self) c.in_ok-found.ensures.after)
     tt c.start_part.ensures.unput
 
 pub returns-in_default-clause-left : goal.returns-in_default-clause-left
@@ -86,9 +92,11 @@ returns-then-not-serves-clause-answered g c =
     part-started_if (children.tells c.args.children.now) c.args.reuse c.args.plan.now (children.call_count c.args.children.now) (children.call_count c.start_part-then-not-serves.new.children)
     (children.fault_count c.args.children.now) (children.fault_count c.start_part-then-not-serves.new.children)
     (book.contents c.args.book.now) (book.contents c.find.new.self) (book.contents c.start_part-then-not-serves.new.book) (Some c.in-Some.answer) c.start_part-then-not-serves.result
-    (subst (Finds (words_of c.args.plan.now) (seen_of_plan c.args.plan.now) (book.contents c.args.book.now)) c.in-Some.is
-    (finds-at c.words.result.now (words_of c.args.plan.now) c.seen.result.now (seen_of_plan c.args.plan.now) c.words.ensures c.seen.ensures (book.contents c.args.book.now) c.in_ok-found.found c.in_ok-found.ensures.found))
-    (look-up-at c.words.result.now (words_of c.args.plan.now) c.seen.result.now (seen_of_plan c.args.plan.now) c.words.ensures c.seen.ensures (book.contents c.args.book.now) (book.contents c.find.new.self) c.in_ok-found.ensures.after)
+    (subst (Finds (words_of_plan c.args.plan.now) (seen_of_plan c.args.plan.now) (book.contents c.args.book.now)) c.in-Some.is
+    (finds-at c.words.result.now (words_of_plan c.args.plan.now) c.seen.result.now (seen_of_plan c.args.plan.now) c.words.ensures c.seen.ensures (book.contents c.args.book.now) c.in_ok-found.found
+    c.in_ok-found.ensures.found))
+    (look-up-at c.words.result.now (words_of_plan c.args.plan.now) c.seen.result.now (seen_of_plan c.args.plan.now) c.words.ensures c.seen.ensures (book.contents c.args.book.now)
+    (book.contents c.find.new.self) c.in_ok-found.ensures.after)
     unserved c.start_part-then-not-serves.ensures.started
 
 pub returns-then-not-serves-clause-stopped : goal.returns-then-not-serves-clause-stopped
@@ -99,9 +107,11 @@ returns-then-not-serves-clause-stopped g c =
     part-unput_if (children.tells c.args.children.now) c.args.reuse c.args.plan.now (children.call_count c.args.children.now) (children.call_count c.start_part-then-not-serves.new.children)
     (children.fault_count c.args.children.now) (children.fault_count c.start_part-then-not-serves.new.children)
     (book.contents c.args.book.now) (book.contents c.find.new.self) (book.contents c.start_part-then-not-serves.new.book) (Some c.in-Some.answer) c.start_part-then-not-serves.result
-    (subst (Finds (words_of c.args.plan.now) (seen_of_plan c.args.plan.now) (book.contents c.args.book.now)) c.in-Some.is
-    (finds-at c.words.result.now (words_of c.args.plan.now) c.seen.result.now (seen_of_plan c.args.plan.now) c.words.ensures c.seen.ensures (book.contents c.args.book.now) c.in_ok-found.found c.in_ok-found.ensures.found))
-    (look-up-at c.words.result.now (words_of c.args.plan.now) c.seen.result.now (seen_of_plan c.args.plan.now) c.words.ensures c.seen.ensures (book.contents c.args.book.now) (book.contents c.find.new.self) c.in_ok-found.ensures.after)
+    (subst (Finds (words_of_plan c.args.plan.now) (seen_of_plan c.args.plan.now) (book.contents c.args.book.now)) c.in-Some.is
+    (finds-at c.words.result.now (words_of_plan c.args.plan.now) c.seen.result.now (seen_of_plan c.args.plan.now) c.words.ensures c.seen.ensures (book.contents c.args.book.now) c.in_ok-found.found
+    c.in_ok-found.ensures.found))
+    (look-up-at c.words.result.now (words_of_plan c.args.plan.now) c.seen.result.now (seen_of_plan c.args.plan.now) c.words.ensures c.seen.ensures (book.contents c.args.book.now)
+    (book.contents c.find.new.self) c.in_ok-found.ensures.after)
     unserved c.start_part-then-not-serves.ensures.unput
 
 pub returns-then-not-serves-clause-left : goal.returns-then-not-serves-clause-left

@@ -1,7 +1,7 @@
 use Rattle.std.proofs.Common.{inl, inr}
 use Rattle.std.proofs.lemmas.Result.{err_from_is_err_and}
 use Rattle.hook_run.specs.AnswerLemmas.{adds-outcome}
-use Rattle.hook_run.specs.Plans.{seen_of_plan, words_of}
+use Rattle.hook_run.specs.Plans.{seen_of_plan, words_of_plan}
 use Rattle.hook_run.proofs.PartLemmas.{outcome-at, unput, unstarted}
 use Rattle.hook_run.proofs.part_answer.start_part.Goals as goal
 
@@ -29,8 +29,10 @@ pub returns-in_err-put_outcome-clause-left : goal.returns-in_err-put_outcome-cla
 returns-in_err-put_outcome-clause-left g c = λ left leaves.
     elim (c.put_outcome.ensures.left left leaves) [
       | inl old ↦ inl old
-      | inr after ↦ inr (adds-outcome (g.C.Children.tells c.args.children.now) (words_of c.args.plan.now) (seen_of_plan c.args.plan.now) c.in_ok-outcome.outcome (g.B.Book.contents c.args.book.now) left
-          (outcome-at c.words.result.now (words_of c.args.plan.now) c.seen.result.now (seen_of_plan c.args.plan.now) c.words.ensures c.seen.ensures c.in_ok-outcome.outcome (g.B.Book.contents c.args.book.now) left after)
+      | inr after ↦ inr (adds-outcome (g.C.Children.tells c.args.children.now) (words_of_plan c.args.plan.now) (seen_of_plan c.args.plan.now) c.in_ok-outcome.outcome
+          (g.B.Book.contents c.args.book.now) left
+          (outcome-at c.words.result.now (words_of_plan c.args.plan.now) c.seen.result.now (seen_of_plan c.args.plan.now) c.words.ensures c.seen.ensures c.in_ok-outcome.outcome
+          (g.B.Book.contents c.args.book.now) left after)
           c.in_ok-outcome.ensures.told)
     ]
 
@@ -38,7 +40,9 @@ pub returns-clause-left : goal.returns-clause-left
 returns-clause-left g c = λ left leaves.
     elim (c.put_outcome.ensures.left left leaves) [
       | inl old ↦ inl old
-      | inr after ↦ inr (adds-outcome (g.C.Children.tells c.args.children.now) (words_of c.args.plan.now) (seen_of_plan c.args.plan.now) c.in_ok-outcome.outcome (g.B.Book.contents c.args.book.now) left
-          (outcome-at c.words.result.now (words_of c.args.plan.now) c.seen.result.now (seen_of_plan c.args.plan.now) c.words.ensures c.seen.ensures c.in_ok-outcome.outcome (g.B.Book.contents c.args.book.now) left after)
+      | inr after ↦ inr (adds-outcome (g.C.Children.tells c.args.children.now) (words_of_plan c.args.plan.now) (seen_of_plan c.args.plan.now) c.in_ok-outcome.outcome
+          (g.B.Book.contents c.args.book.now) left
+          (outcome-at c.words.result.now (words_of_plan c.args.plan.now) c.seen.result.now (seen_of_plan c.args.plan.now) c.words.ensures c.seen.ensures c.in_ok-outcome.outcome
+          (g.B.Book.contents c.args.book.now) left after)
           c.in_ok-outcome.ensures.told)
     ]

@@ -1,4 +1,4 @@
-use Rattle.hook_run.specs.Standing.{at_work}
+use Rattle.hook_run.specs.PlanStates.{at_work}
 use Rattle.hook_run.proofs.AdvanceLemmas.{ended-at_if, ended-within_if, waits-at, waits-within}
 use Rattle.hook_run.proofs.plan.plan_at.Goals as goal
 

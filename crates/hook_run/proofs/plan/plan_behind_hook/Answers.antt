@@ -1,7 +1,7 @@
 use Rattle.std.proofs.Common.{◌≡◌, sym, subst}
 use Rattle.hook_run.specs.declared.progress.Progress.{Progress}
 use Rattle.hook_run.specs.CandidateFiles.{files_at}
-use Rattle.hook_run.specs.Standing.{id_if}
+use Rattle.hook_run.specs.PlanStates.{id_if}
 use Rattle.hook_run.proofs.AdvanceLemmas.{behind-hook_if, behind-within_if, progress-fits}
 use Rattle.hook_run.proofs.plan.plan_behind_hook.Goals as goal
 

@@ -2,7 +2,7 @@ use Rattle.std.proofs.Common.{◌≡◌, ◌∙◌, sym, subst}
 use Rattle.hook_run.specs.declared.progress.Progress.{Progress}
 use Rattle.hook_run.specs.CandidateFiles.{files_at}
 use Rattle.hook_run.specs.Plans.{AtHook}
-use Rattle.hook_run.specs.Standing.{FitsName, FitsResults}
+use Rattle.hook_run.specs.PlanStates.{FitsName, FitsResults}
 use Rattle.hook_run.proofs.AdvanceLemmas.{told-part_if, told-within_if}
 use Rattle.hook_run.proofs.CandidateLemmas.{files-told}
 use Rattle.hook_run.proofs.FurtherLemmas.{further-told}

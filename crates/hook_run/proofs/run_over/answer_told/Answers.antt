@@ -13,5 +13,6 @@ returns-in-Err-clause-stopped g c =
     at-moment (λ from. IsPartStopped tells c.args.reuse from to c.args.plan.now c.in-Err.refusal)
     (children.call_count told) (children.call_count c.args.children.now) (children.fault_count told) (children.fault_count c.args.children.now) (book.contents c.args.book.now)
     c.tell_news.ensures.calls c.tell_news.ensures.faults
-    (stopped-back_to tells (children.tells told) c.tell_news.ensures.same c.args.reuse (moment (children.call_count told) (children.fault_count told) (book.contents c.args.book.now)) to c.args.plan.now c.in-Err.refusal
+    (stopped-back_to tells (children.tells told) c.tell_news.ensures.same c.args.reuse (moment (children.call_count told) (children.fault_count told) (book.contents c.args.book.now)) to
+    c.args.plan.now c.in-Err.refusal
     c.in-Err.ensures.stopped)

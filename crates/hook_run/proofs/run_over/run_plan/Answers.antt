@@ -16,7 +16,9 @@ parts-init g c =
     let children = g.C.Children in
     let book = g.B.Book in
     record {
-      so_far = plan-none (children.tells c.args.children.now) c.args.reuse (moment (children.call_count c.args.children.now) (children.fault_count c.args.children.now) (book.contents c.args.book.now)) c.args.plan;
+      so_far =
+          plan-none (children.tells c.args.children.now) c.args.reuse (moment (children.call_count c.args.children.now) (children.fault_count c.args.children.now) (book.contents c.args.book.now))
+          c.args.plan;
       left = λ left leaves. inl leaves;
       rest = g.met.B.Book.rests_itself c.args.book.now;
       same = SameTells-refl (children.tells c.args.children.now);
@@ -30,12 +32,21 @@ parts-preserved g c =
     let it = c.parts.invariant in
     let outcome = c.in_ok-came.came.outcome in
     let unsteady = c.in_ok-came.came.unsteady in
-    let answered = answered-back_to tells (children.tells c.parts.children) it.same c.args.reuse (moment (children.call_count c.parts.children) (children.fault_count c.parts.children) (book.contents c.parts.book)) (moment (children.call_count c.answer_told.new.children) (children.fault_count c.answer_told.new.children) (book.contents c.answer_told.new.book)) (part_with c.parts.plan outcome unsteady ∷ [])
+    let answered =
+    answered-back_to tells (children.tells c.parts.children) it.same c.args.reuse
+    (moment (children.call_count c.parts.children) (children.fault_count c.parts.children) (book.contents c.parts.book))
+    (moment (children.call_count c.answer_told.new.children) (children.fault_count c.answer_told.new.children) (book.contents c.answer_told.new.book))
+    (part_with c.parts.plan outcome unsteady ∷ [])
     c.in_ok-came.ensures.answered in
     record {
-      so_far = plan-more tells c.args.reuse (moment (children.call_count c.args.children.now) (children.fault_count c.args.children.now) (book.contents c.args.book.now)) (moment (children.call_count c.parts.children) (children.fault_count c.parts.children) (book.contents c.parts.book)) (moment (children.call_count c.answer_told.new.children) (children.fault_count c.answer_told.new.children) (book.contents c.answer_told.new.book)) c.args.plan c.parts.plan c.in_ok-plan.plan outcome unsteady c.in_ok-came.came.reused c.parts.reused c.reused_with-reused.result it.so_far answered c.in_ok-came.ensures.reused c.reused_with-reused.ensures c.in_ok-plan.ensures.after;
+      so_far =
+          plan-more tells c.args.reuse (moment (children.call_count c.args.children.now) (children.fault_count c.args.children.now) (book.contents c.args.book.now))
+          (moment (children.call_count c.parts.children) (children.fault_count c.parts.children) (book.contents c.parts.book))
+          (moment (children.call_count c.answer_told.new.children) (children.fault_count c.answer_told.new.children) (book.contents c.answer_told.new.book)) c.args.plan c.parts.plan c.in_ok-plan.plan
+          outcome unsteady c.in_ok-came.came.reused c.parts.reused c.reused_with-reused.result it.so_far answered c.in_ok-came.ensures.reused c.reused_with-reused.ensures c.in_ok-plan.ensures.after;
       left = λ left leaves. left-then tells (book.contents c.args.book.now) (book.contents c.parts.book) left (book.leaves c.args.book.now left) (book.leaves c.parts.book left)
-          (answered-adds tells c.args.reuse (moment (children.call_count c.args.children.now) (children.fault_count c.args.children.now) (book.contents c.args.book.now)) (moment (children.call_count c.parts.children) (children.fault_count c.parts.children) (book.contents c.parts.book)) it.so_far.parts it.so_far.answered) (it.left left)
+          (answered-adds tells c.args.reuse (moment (children.call_count c.args.children.now) (children.fault_count c.args.children.now) (book.contents c.args.book.now))
+          (moment (children.call_count c.parts.children) (children.fault_count c.parts.children) (book.contents c.parts.book)) it.so_far.parts it.so_far.answered) (it.left left)
           (elim (c.answer_told.ensures.left left leaves) [
             | inl held ↦ inl held
             | inr adds ↦ inr (adds-back_to tells (children.tells c.parts.children) it.same (book.contents c.parts.book) left adds)
@@ -54,9 +65,11 @@ returns-clause-run g c =
     let from = moment (children.call_count c.args.children.now) (children.fault_count c.args.children.now) (book.contents c.args.book.now) in
     let ran : HooksRun = record { out = c.finish.result; reused = c.parts.reused } in
     at-moment (λ to. IsPlanRun tells c.args.reuse from to c.args.plan ran)
-    (children.call_count c.parts.children) (children.call_count c.tell_news-all.new.children) (children.fault_count c.parts.children) (children.fault_count c.tell_news-all.new.children) (book.contents c.parts.book)
+    (children.call_count c.parts.children) (children.call_count c.tell_news-all.new.children) (children.fault_count c.parts.children) (children.fault_count c.tell_news-all.new.children)
+    (book.contents c.parts.book)
     (sym c.tell_news-all.ensures.calls) (sym c.tell_news-all.ensures.faults)
-    (plan-run tells c.args.reuse from (moment (children.call_count c.parts.children) (children.fault_count c.parts.children) (book.contents c.parts.book)) c.args.plan c.parts.plan ran it.so_far over c.finish.ensures)
+    (plan-run tells c.args.reuse from (moment (children.call_count c.parts.children) (children.fault_count c.parts.children) (book.contents c.parts.book)) c.args.plan c.parts.plan ran it.so_far over
+    c.finish.ensures)
 
 pub returns-in_err-came-clause-stopped : goal.returns-in_err-came-clause-stopped
 returns-in_err-came-clause-stopped g c =
@@ -67,8 +80,13 @@ returns-in_err-came-clause-stopped g c =
     let needs : need_of c.parts.plan ≡ Child = search rules in
     let p = err_from_is_err_and c.from_residual.result c.from_residual.ensures.1 in
     rw (p.1, p.2)
-    (plan-stopped tells c.args.reuse (moment (children.call_count c.args.children.now) (children.fault_count c.args.children.now) (book.contents c.args.book.now)) (moment (children.call_count c.parts.children) (children.fault_count c.parts.children) (book.contents c.parts.book)) (moment (children.call_count c.answer_told.new.children) (children.fault_count c.answer_told.new.children) (book.contents c.answer_told.new.book)) c.parts.reused c.args.plan c.parts.plan c.in_err-came.field-0.0 it.so_far needs
-    (stopped-back_to tells (children.tells c.parts.children) it.same c.args.reuse (moment (children.call_count c.parts.children) (children.fault_count c.parts.children) (book.contents c.parts.book)) (moment (children.call_count c.answer_told.new.children) (children.fault_count c.answer_told.new.children) (book.contents c.answer_told.new.book)) c.parts.plan c.in_err-came.field-0.0 c.in_err-came.ensures.stopped))
+    (plan-stopped tells c.args.reuse (moment (children.call_count c.args.children.now) (children.fault_count c.args.children.now) (book.contents c.args.book.now))
+    (moment (children.call_count c.parts.children) (children.fault_count c.parts.children) (book.contents c.parts.book))
+    (moment (children.call_count c.answer_told.new.children) (children.fault_count c.answer_told.new.children) (book.contents c.answer_told.new.book)) c.parts.reused c.args.plan c.parts.plan
+    c.in_err-came.field-0.0 it.so_far needs
+    (stopped-back_to tells (children.tells c.parts.children) it.same c.args.reuse (moment (children.call_count c.parts.children) (children.fault_count c.parts.children) (book.contents c.parts.book))
+    (moment (children.call_count c.answer_told.new.children) (children.fault_count c.answer_told.new.children) (book.contents c.answer_told.new.book)) c.parts.plan c.in_err-came.field-0.0
+    c.in_err-came.ensures.stopped))
 
 pub returns-in_err-came-clause-refused : goal.returns-in_err-came-clause-refused
 returns-in_err-came-clause-refused g c =
@@ -82,7 +100,8 @@ returns-in_err-came-clause-left g c = λ left leaves.
     let tells = children.tells c.args.children.now in
     let it = c.parts.invariant in
     left-then tells (book.contents c.args.book.now) (book.contents c.parts.book) left (book.leaves c.args.book.now left) (book.leaves c.parts.book left)
-    (answered-adds tells c.args.reuse (moment (children.call_count c.args.children.now) (children.fault_count c.args.children.now) (book.contents c.args.book.now)) (moment (children.call_count c.parts.children) (children.fault_count c.parts.children) (book.contents c.parts.book)) it.so_far.parts it.so_far.answered) (it.left left)
+    (answered-adds tells c.args.reuse (moment (children.call_count c.args.children.now) (children.fault_count c.args.children.now) (book.contents c.args.book.now))
+    (moment (children.call_count c.parts.children) (children.fault_count c.parts.children) (book.contents c.parts.book)) it.so_far.parts it.so_far.answered) (it.left left)
     (elim (c.answer_told.ensures.left left leaves) [
       | inl held ↦ inl held
       | inr adds ↦ inr (adds-back_to tells (children.tells c.parts.children) it.same (book.contents c.parts.book) left adds)
@@ -100,10 +119,17 @@ returns-in_err-plan-clause-stopped g c =
     let outcome = c.in_ok-came.came.outcome in
     let unsteady = c.in_ok-came.came.unsteady in
     let needs : need_of c.parts.plan ≡ Child = search rules in
-    let answered = answered-back_to tells (children.tells c.parts.children) it.same c.args.reuse (moment (children.call_count c.parts.children) (children.fault_count c.parts.children) (book.contents c.parts.book)) (moment (children.call_count c.answer_told.new.children) (children.fault_count c.answer_told.new.children) (book.contents c.answer_told.new.book)) (part_with c.parts.plan outcome unsteady ∷ [])
+    let answered =
+    answered-back_to tells (children.tells c.parts.children) it.same c.args.reuse
+    (moment (children.call_count c.parts.children) (children.fault_count c.parts.children) (book.contents c.parts.book))
+    (moment (children.call_count c.answer_told.new.children) (children.fault_count c.answer_told.new.children) (book.contents c.answer_told.new.book))
+    (part_with c.parts.plan outcome unsteady ∷ [])
     c.in_ok-came.ensures.answered in
     let p = err_from_is_err_and c.from_residual-in_err-plan.result c.from_residual-in_err-plan.ensures.1 in
-    rw p.1 (plan-lost tells c.args.reuse (moment (children.call_count c.args.children.now) (children.fault_count c.args.children.now) (book.contents c.args.book.now)) (moment (children.call_count c.parts.children) (children.fault_count c.parts.children) (book.contents c.parts.book)) (moment (children.call_count c.answer_told.new.children) (children.fault_count c.answer_told.new.children) (book.contents c.answer_told.new.book)) c.parts.reused c.args.plan c.parts.plan outcome unsteady _ it.so_far answered needs p.2)
+    rw p.1 (plan-lost tells c.args.reuse (moment (children.call_count c.args.children.now) (children.fault_count c.args.children.now) (book.contents c.args.book.now))
+    (moment (children.call_count c.parts.children) (children.fault_count c.parts.children) (book.contents c.parts.book))
+    (moment (children.call_count c.answer_told.new.children) (children.fault_count c.answer_told.new.children) (book.contents c.answer_told.new.book)) c.parts.reused c.args.plan c.parts.plan
+    outcome unsteady _ it.so_far answered needs p.2)
 
 pub returns-in_err-plan-clause-left : goal.returns-in_err-plan-clause-left
 returns-in_err-plan-clause-left g c = λ left leaves.
@@ -112,7 +138,8 @@ returns-in_err-plan-clause-left g c = λ left leaves.
     let tells = children.tells c.args.children.now in
     let it = c.parts.invariant in
     left-then tells (book.contents c.args.book.now) (book.contents c.parts.book) left (book.leaves c.args.book.now left) (book.leaves c.parts.book left)
-    (answered-adds tells c.args.reuse (moment (children.call_count c.args.children.now) (children.fault_count c.args.children.now) (book.contents c.args.book.now)) (moment (children.call_count c.parts.children) (children.fault_count c.parts.children) (book.contents c.parts.book)) it.so_far.parts it.so_far.answered) (it.left left)
+    (answered-adds tells c.args.reuse (moment (children.call_count c.args.children.now) (children.fault_count c.args.children.now) (book.contents c.args.book.now))
+    (moment (children.call_count c.parts.children) (children.fault_count c.parts.children) (book.contents c.parts.book)) it.so_far.parts it.so_far.answered) (it.left left)
     (elim (c.answer_told.ensures.left left leaves) [
       | inl held ↦ inl held
       | inr adds ↦ inr (adds-back_to tells (children.tells c.parts.children) it.same (book.contents c.parts.book) left adds)

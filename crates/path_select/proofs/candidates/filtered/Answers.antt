@@ -15,7 +15,8 @@ paths-preserved c =
       rw c.passes.ensures.same c.paths.invariant.1,
       elim c.if-passes.branch [
         | then-passes+in_ok-push w ↦
-            rw (w.kept-is, w.in_ok-push.ensures.items, paths_of_append c.paths.kept.items (path ∷ []), c.paths.invariant.2) (sym (kept_more test paths c.paths.path-index path within c.path-item.is (sym answer ∙ w.if-passes.true)))
+            rw (w.kept-is, w.in_ok-push.ensures.items, paths_of_append c.paths.kept.items (path ∷ []), c.paths.invariant.2)
+            (sym (kept_more test paths c.paths.path-index path within c.path-item.is (sym answer ∙ w.if-passes.true)))
         | else-passes w ↦
             rw (w.kept-is, c.paths.invariant.2) (sym (kept_same test paths c.paths.path-index path within c.path-item.is (sym answer ∙ w.if-passes.false)))
       ],

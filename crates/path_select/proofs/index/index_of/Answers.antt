@@ -10,8 +10,12 @@ halves-init c = (omega arith, omega arith, tt, subst (λ (n : ℕ). From c.args.
 
 pub halves-preserved-in-Less : goal.halves-preserved-in-Less
 halves-preserved-in-Less c =
-    let middle = c.halves.low + (c.halves.high - c.halves.low) / 2 in
-    (omega arith, c.halves.invariant.1, before_index c.args.path.now c.args.tree.now middle c.entry.result.now c.entry.ensures.rising c.entry.ensures.row (sym c.cmp.ensures ∙ c.in-Less.is), c.halves.invariant.3)
+    let middle = c.halves.low + (c.halves.high - c.halves.low) / 2 in (
+      omega arith,
+      c.halves.invariant.1,
+      before_index c.args.path.now c.args.tree.now middle c.entry.result.now c.entry.ensures.rising c.entry.ensures.row (sym c.cmp.ensures ∙ c.in-Less.is),
+      c.halves.invariant.3,
+    )
 
 pub returns-in-Equal : goal.returns-in-Equal
 returns-in-Equal c =
@@ -19,10 +23,16 @@ returns-in-Equal c =
 
 pub halves-preserved : goal.halves-preserved
 halves-preserved c =
-    let middle = c.halves.low + (c.halves.high - c.halves.low) / 2 in
-    (omega arith, omega arith, c.halves.invariant.2, after_index c.args.path.now c.args.tree.now middle c.entry.result.now c.entry.ensures.rising c.entry.ensures.row (sym c.cmp.ensures ∙ c.in-Greater.is))
+    let middle = c.halves.low + (c.halves.high - c.halves.low) / 2 in (
+      omega arith,
+      omega arith,
+      c.halves.invariant.2,
+      after_index c.args.path.now c.args.tree.now middle c.entry.result.now c.entry.ensures.rising c.entry.ensures.row
+          (sym c.cmp.ensures ∙ c.in-Greater.is),
+    )
 
 pub returns : goal.returns
 returns c =
     let met : c.halves.high ≡ c.halves.low = omega arith in
-    entry_of-gap c.args.path.now c.args.tree.now c.halves.low (gap c.args.path.now c.args.tree.now c.halves.low c.halves.invariant.2 (subst (λ (n : ℕ). From c.args.path.now c.args.tree.now n) met c.halves.invariant.3))
+    entry_of-gap c.args.path.now c.args.tree.now c.halves.low (gap c.args.path.now c.args.tree.now c.halves.low c.halves.invariant.2
+    (subst (λ (n : ℕ). From c.args.path.now c.args.tree.now n) met c.halves.invariant.3))

@@ -21,7 +21,8 @@ paths-preserved c =
       rw c.fits_tags.ensures.same c.paths.invariant.1,
       elim c.if-fits_tags.branch [
         | then-fits_tags+in_ok-clone+in_ok-push w ↦
-            rw (w.chosen-is, w.in_ok-push.ensures.items, w.in_ok-clone.ensures.cases, c.paths.invariant.2) (sym (kept_more test paths c.paths.path-index path within c.path-item.is (sym answer ∙ w.if-fits_tags.true)))
+            rw (w.chosen-is, w.in_ok-push.ensures.items, w.in_ok-clone.ensures.cases, c.paths.invariant.2)
+            (sym (kept_more test paths c.paths.path-index path within c.path-item.is (sym answer ∙ w.if-fits_tags.true)))
         | else-fits_tags w ↦
             rw (w.chosen-is, c.paths.invariant.2) (sym (kept_same test paths c.paths.path-index path within c.path-item.is (sym answer ∙ w.if-fits_tags.false)))
       ],

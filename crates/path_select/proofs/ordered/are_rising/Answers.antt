@@ -12,5 +12,8 @@ returns-in_default c =
     (λ h. cc, λ rising. absurd (c.in_default.not-Less (c.cmp.ensures ∙ ap₂ path_cmp c.index-paths-index.is c.index-paths-index-in-pairs.is ∙ (less rising).is_less)))
 
 pub returns : goal.returns
-returns c =
-    (λ h. rising_from_next (λ (path : List ℕ). path) c.args.paths.now (λ k d within. let same : k + 1 ≡ suc k = omega arith in subst (λ (n : ℕ). IsBelow (get_or c.args.paths.now k d) (get_or c.args.paths.now n d)) same (c.pairs.invariant k d (omega arith))), λ h. refl)
+returns c = (
+  λ h. rising_from_next (λ (path : List ℕ). path) c.args.paths.now
+      (λ k d within. let same : k + 1 ≡ suc k = omega arith in subst (λ (n : ℕ). IsBelow (get_or c.args.paths.now k d) (get_or c.args.paths.now n d)) same (c.pairs.invariant k d (omega arith))),
+  λ h. refl,
+)

@@ -17,7 +17,8 @@ paths-preserved c =
       rw c.fits.ensures.same c.paths.invariant.1,
       elim c.if-branch.branch [
         | then-branch+in_ok-clone+in_ok-push w ↦
-            rw (w.chosen-is, w.in_ok-push.ensures.items, w.in_ok-clone.ensures.cases, c.paths.invariant.2) (sym (kept_more test paths c.paths.path-index path within c.path-item.is (sym answer ∙ w.if-branch.true)))
+            rw (w.chosen-is, w.in_ok-push.ensures.items, w.in_ok-clone.ensures.cases, c.paths.invariant.2)
+            (sym (kept_more test paths c.paths.path-index path within c.path-item.is (sym answer ∙ w.if-branch.true)))
         | else-branch w ↦
             rw (w.chosen-is, c.paths.invariant.2) (sym (kept_same test paths c.paths.path-index path within c.path-item.is (sym answer ∙ w.if-branch.false)))
       ],

@@ -20,7 +20,8 @@ returns-in_err-file-clause-stopped c =
     let within : c.files.index < length all = omega arith in
     let p = err_from_is_err_and c.from_residual.result c.from_residual.ensures.1 in
     rw (p.1, p.2) (subst (λ (l : List (List ℕ)). IsStopped l old new fault) (files_flat all)
-    (stopped_at (λ (file : File). file.entry.bytes ∷ []) all c.files.index file within (get_or_from_slice_get all c.files.index file file c.shared.ensures.row) old c.files.contents c.files.invariant.kept new fault (c.in_err-file.ensures).stopped))
+    (stopped_at (λ (file : File). file.entry.bytes ∷ []) all c.files.index file within (get_or_from_slice_get all c.files.index file file c.shared.ensures.row) old c.files.contents
+    c.files.invariant.kept new fault (c.in_err-file.ensures).stopped))
 
 pub returns-in_err-push-clause-stopped : goal.returns-in_err-push-clause-stopped
 returns-in_err-push-clause-stopped c =
@@ -31,7 +32,8 @@ returns-in_err-push-clause-stopped c =
     let within : c.files.index < length all = omega arith in
     let p = err_from_is_err_and c.from_residual-in_err-push.result c.from_residual-in_err-push.ensures.1 in
     rw (p.1, p.2) (subst (λ (l : List (List ℕ)). IsStopped l old new OutOfMemory) (files_flat all)
-    (stopped_there (λ (file : File). file.entry.bytes ∷ []) all c.files.index file within (get_or_from_slice_get all c.files.index file file c.shared.ensures.row) old c.files.contents c.files.invariant.kept new (c.in_ok-file.ensures).kept))
+    (stopped_there (λ (file : File). file.entry.bytes ∷ []) all c.files.index file within (get_or_from_slice_get all c.files.index file file c.shared.ensures.row) old c.files.contents
+    c.files.invariant.kept new (c.in_ok-file.ensures).kept))
 
 pub files-preserved : goal.files-preserved
 files-preserved c =
@@ -42,7 +44,8 @@ files-preserved c =
     let is = get_or_from_slice_get all i file file c.shared.ensures.row in
     record {
       files =
-          ap (map file_of) (c.in_ok-push.ensures).items ∙ map-append file_of c.files.files.items (c.in_ok-file.file ∷ []) ∙ ap₂ (λ (l : List File) (x : File). l ++ x ∷ []) c.files.invariant.files ((c.in_ok-file.ensures).file ∙ sym is)
+          ap (map file_of) (c.in_ok-push.ensures).items ∙ map-append file_of c.files.files.items (c.in_ok-file.file ∷ [])
+          ∙ ap₂ (λ (l : List File) (x : File). l ++ x ∷ []) c.files.invariant.files ((c.in_ok-file.ensures).file ∙ sym is)
           ∙ sym (take_more all i file within);
       kept = kept_more (λ (file : File). file.entry.bytes ∷ []) all i file within is c.args.contents.now c.files.contents c.files.invariant.kept c.keep_file.new.contents (c.in_ok-file.ensures).kept;
     }

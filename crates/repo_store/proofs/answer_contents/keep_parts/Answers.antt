@@ -18,7 +18,8 @@ pub returns-in_err-files-clause-stopped : goal.returns-in_err-files-clause-stopp
 returns-in_err-files-clause-stopped c =
     let answer = copied_answer c.args.words.now c.args.seen.now c.args.answer in
     let p = err_from_is_err_and c.from_residual-in_err-files.result c.from_residual-in_err-files.ensures.1 in
-    rw (p.1, p.2) (stopped_front (contents_in_files answer.seen) (contents_in_changes answer.changes ++ records_of answer) c.args.contents.now c.keep_files.new.contents c.in_err-files.field-0.0 (c.in_err-files.ensures).stopped)
+    rw (p.1, p.2) (stopped_front (contents_in_files answer.seen) (contents_in_changes answer.changes ++ records_of answer) c.args.contents.now c.keep_files.new.contents c.in_err-files.field-0.0
+    (c.in_err-files.ensures).stopped)
 
 pub returns-in_err-changes-clause-stopped : goal.returns-in_err-changes-clause-stopped
 returns-in_err-changes-clause-stopped c =
@@ -41,8 +42,12 @@ returns-in_err-written-clause-stopped c =
     let files = ap (map file_of) c.as_slice-2.ensures.value ∙ (c.in_ok-files.ensures).files in
     let changes = ap (map fix_of) c.as_slice-3.ensures.value ∙ (c.in_ok-changes.ensures).changes ∙ c.as_slice.ensures.same in
     let kept = subst (λ (l : List Change). AreAllKept (contents_in_changes l) mid after) c.as_slice.ensures.same (c.in_ok-changes.ensures).kept in
-    let one = subst (λ (l : List File). IsStopped (words_record answer.words ∷ seen_record (seen_of_files l) ∷ answer.output ∷ changes_record (changed_of_changes (map fix_of c.as_slice-3.result.now)) ∷ []) after new fault) files (c.in_err-written.ensures).stopped in
-    let both = subst (λ (l : List Change). IsStopped (words_record answer.words ∷ seen_record (seen_of_files answer.seen) ∷ answer.output ∷ changes_record (changed_of_changes l) ∷ []) after new fault) changes one in
+    let one =
+    subst (λ (l : List File). IsStopped (words_record answer.words ∷ seen_record (seen_of_files l) ∷ answer.output ∷ changes_record (changed_of_changes (map fix_of c.as_slice-3.result.now)) ∷ [])
+    after new fault) files (c.in_err-written.ensures).stopped in
+    let both =
+    subst (λ (l : List Change). IsStopped (words_record answer.words ∷ seen_record (seen_of_files answer.seen) ∷ answer.output ∷ changes_record (changed_of_changes l) ∷ []) after new fault)
+    changes one in
     let p = err_from_is_err_and c.from_residual-in_err-written.result c.from_residual-in_err-written.ensures.1 in
     rw (p.1, p.2) (stopped_then (contents_in_files answer.seen) (contents_in_changes answer.changes ++ records_of answer) c.args.contents.now mid (c.in_ok-files.ensures).kept new fault
     (stopped_then (contents_in_changes answer.changes) (records_of answer) mid after kept new fault both))
@@ -82,7 +87,11 @@ returns-clause-kept c =
     let files = ap (map file_of) c.as_slice-2.ensures.value ∙ (c.in_ok-files.ensures).files in
     let changes = ap (map fix_of) c.as_slice-3.ensures.value ∙ (c.in_ok-changes.ensures).changes ∙ c.as_slice.ensures.same in
     let kept = subst (λ (l : List Change). AreAllKept (contents_in_changes l) mid after) c.as_slice.ensures.same (c.in_ok-changes.ensures).kept in
-    let one = subst (λ (l : List File). AreAllKept (words_record answer.words ∷ seen_record (seen_of_files l) ∷ answer.output ∷ changes_record (changed_of_changes (map fix_of c.as_slice-3.result.now)) ∷ []) after new) files (c.in_ok-written.ensures).kept in
-    let both = subst (λ (l : List Change). AreAllKept (words_record answer.words ∷ seen_record (seen_of_files answer.seen) ∷ answer.output ∷ changes_record (changed_of_changes l) ∷ []) after new) changes one in
+    let one =
+    subst (λ (l : List File). AreAllKept (words_record answer.words ∷ seen_record (seen_of_files l) ∷ answer.output ∷ changes_record (changed_of_changes (map fix_of c.as_slice-3.result.now)) ∷ [])
+    after new) files (c.in_ok-written.ensures).kept in
+    let both =
+    subst (λ (l : List Change). AreAllKept (words_record answer.words ∷ seen_record (seen_of_files answer.seen) ∷ answer.output ∷ changes_record (changed_of_changes l) ∷ []) after new) changes
+    one in
     kept_then (contents_in_files answer.seen) (contents_in_changes answer.changes ++ records_of answer) old mid (c.in_ok-files.ensures).kept new
     (kept_then (contents_in_changes answer.changes) (records_of answer) mid after kept new both)

@@ -35,8 +35,12 @@ returns-clause-made g c =
     let grown = c.make_uses.new.tx.conn.now in
     let limited = c.put_meta.new.tx.conn.now in
     let new = c.put_meta-2.new.tx.conn.now in
-    let first = made_then g.S.Store old made grown (Ok tt) Bare IsEmptyStore Grown c.in_ok-make_tables.ensures.made (bare_as_made g.S.Store made grown (Ok tt) c.in_ok-make_uses.ensures.step c.in_ok-make_uses.ensures.only) in
-    let second = made_then g.S.Store old grown limited (Ok tt) Bare Grown Limited first (step_as_made g.S.Store grown limited (Ok tt) no_rows [] (with_meta (limit_row (pos first_limit))) c.in_ok-put_meta.ensures.step) in
+    let first =
+    made_then g.S.Store old made grown (Ok tt) Bare IsEmptyStore Grown c.in_ok-make_tables.ensures.made
+    (bare_as_made g.S.Store made grown (Ok tt) c.in_ok-make_uses.ensures.step c.in_ok-make_uses.ensures.only) in
+    let second =
+    made_then g.S.Store old grown limited (Ok tt) Bare Grown Limited first
+    (step_as_made g.S.Store grown limited (Ok tt) no_rows [] (with_meta (limit_row (pos first_limit))) c.in_ok-put_meta.ensures.step) in
     made_as g.S.Store old new c.put_meta-2.result Bare Versioned Made holds_nothing (made_then g.S.Store old limited new c.put_meta-2.result Bare Limited Versioned second
     (step_as_made g.S.Store limited new c.put_meta-2.result (with_meta (limit_row (pos first_limit)) no_rows) [] (with_meta version_row) c.put_meta-2.ensures.step))
 
@@ -53,7 +57,8 @@ returns-in_err-make_uses-clause-made g c =
     let made = c.make_tables.new.tx.conn.now in
     let grown = c.make_uses.new.tx.conn.now in
     stopped g.S.Store old grown c.in_err-make_uses.field-0.0 p.0 r.result Bare Grown Made p.1
-    (made_then g.S.Store old made grown (Err c.in_err-make_uses.field-0.0) Bare IsEmptyStore Grown c.in_ok-make_tables.ensures.made (bare_as_made g.S.Store made grown (Err c.in_err-make_uses.field-0.0) c.in_err-make_uses.ensures.step c.in_err-make_uses.ensures.only))
+    (made_then g.S.Store old made grown (Err c.in_err-make_uses.field-0.0) Bare IsEmptyStore Grown c.in_ok-make_tables.ensures.made
+    (bare_as_made g.S.Store made grown (Err c.in_err-make_uses.field-0.0) c.in_err-make_uses.ensures.step c.in_err-make_uses.ensures.only))
 
 pub returns-in_err-put_meta-clause-made : goal.returns-in_err-put_meta-clause-made
 returns-in_err-put_meta-clause-made g c =
@@ -63,6 +68,9 @@ returns-in_err-put_meta-clause-made g c =
     let made = c.make_tables.new.tx.conn.now in
     let grown = c.make_uses.new.tx.conn.now in
     let limited = c.put_meta.new.tx.conn.now in
-    let first = made_then g.S.Store old made grown (Ok tt) Bare IsEmptyStore Grown c.in_ok-make_tables.ensures.made (bare_as_made g.S.Store made grown (Ok tt) c.in_ok-make_uses.ensures.step c.in_ok-make_uses.ensures.only) in
+    let first =
+    made_then g.S.Store old made grown (Ok tt) Bare IsEmptyStore Grown c.in_ok-make_tables.ensures.made
+    (bare_as_made g.S.Store made grown (Ok tt) c.in_ok-make_uses.ensures.step c.in_ok-make_uses.ensures.only) in
     stopped g.S.Store old limited c.in_err-put_meta.field-0.0 p.0 r.result Bare Limited Made p.1
-    (made_then g.S.Store old grown limited (Err c.in_err-put_meta.field-0.0) Bare Grown Limited first (step_as_made g.S.Store grown limited (Err c.in_err-put_meta.field-0.0) no_rows [] (with_meta (limit_row (pos first_limit))) c.in_err-put_meta.ensures.step))
+    (made_then g.S.Store old grown limited (Err c.in_err-put_meta.field-0.0) Bare Grown Limited first
+    (step_as_made g.S.Store grown limited (Err c.in_err-put_meta.field-0.0) no_rows [] (with_meta (limit_row (pos first_limit))) c.in_err-put_meta.ensures.step))

@@ -8,7 +8,8 @@ pub fixes-preserved : goal.fixes-preserved
 fixes-preserved c =
     let files = map file_of c.args.files.now in
     let fixes = c.args.fixes.now in
-    more_found (map file_of c.fixes.found.items) (map file_of c.push_at.new.found.items) (files_with_fix (map fix_of fixes) files) files fixes c.fixes.fix-index c.fix-item.result c.fixes-test.true c.fix-item.is
+    more_found (map file_of c.fixes.found.items) (map file_of c.push_at.new.found.items) (files_with_fix (map fix_of fixes) files) files fixes c.fixes.fix-index c.fix-item.result c.fixes-test.true
+    c.fix-item.is
     c.in_ok-push_at.ensures c.fixes.invariant
 
 pub returns : goal.returns

@@ -15,7 +15,8 @@ offset_bounds-files-index c = search (rules, within_held c.args.path.now c.args.
 
 pub returns-in_ok-push : goal.returns-in_ok-push
 returns-in_ok-push c =
-    pushed c.args.found.now.items c.push.new.self.items c.in_ok-clone.field-0 _ ((c.in_ok-push.ensures).items) (held_alone c.args.path.now c.args.files.now c.in-Ok.index c.in_ok-clone.field-0 c.in-Ok.ensures (search rules))
+    pushed c.args.found.now.items c.push.new.self.items c.in_ok-clone.field-0 _ ((c.in_ok-push.ensures).items)
+    (held_alone c.args.path.now c.args.files.now c.in-Ok.index c.in_ok-clone.field-0 c.in-Ok.ensures (search rules))
 
 pub returns-in_default : goal.returns-in_default
 returns-in_default c = not_pushed c.args.found.now.items _ (ap (file_at c.args.path.now) (entry_of-gap c.args.path.now (map file_of c.args.files.now) c.in_default.field-0 c.in_default.ensures))

@@ -31,7 +31,8 @@ returns-in-Ok-clause-files c =
     let file = c.remove.result in
     let at = subst (λ (l : List FileParts). IsAt fix.path (map file_of l) c.in-Ok.index) c.as_slice.ensures.value c.in-Ok.ensures in
     let both = held_at fix.path c.args.fixed.now.items c.in-Ok.index file at c.remove.ensures.value in
-    c.replace.ensures.files ∙ ap (λ (f : File). put_row f files) (sym (named fix.path file both.0)) ∙ put_fixed fix.path fix.now files (entry_in file) c.requires.files_rise (sym c.requires.same ∙ both.1)
+    c.replace.ensures.files ∙ ap (λ (f : File). put_row f files) (sym (named fix.path file both.0))
+    ∙ put_fixed fix.path fix.now files (entry_in file) c.requires.files_rise (sym c.requires.same ∙ both.1)
 
 pub returns-in-Ok-clause-fixed : goal.returns-in-Ok-clause-fixed
 returns-in-Ok-clause-fixed c =

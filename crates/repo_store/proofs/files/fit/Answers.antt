@@ -10,7 +10,8 @@ use Rattle.repo_store.specs.Lists.{file_of}
 use Rattle.repo_store.proofs.files.fit.Goals as goal
 
 -- the paths so far and the next are within all
-next_within : (files : List FileParts) (i : ℕ) (file : FileParts) → i < length files → file ≡ get_or files i file → path_bytes (map file_of (take i files)) + length file.path ≤ path_bytes (map file_of files)
+next_within : (files : List FileParts) (i : ℕ) (file : FileParts) → i < length files → file ≡ get_or files i file
+    → path_bytes (map file_of (take i files)) + length file.path ≤ path_bytes (map file_of files)
 next_within files i file within is =
     let most = sum_by_more_le (λ (f : File). length f.path) (map file_of files) i (file_of file) (omega (arith, length-map files file_of)) in
     let front : path_bytes (take i (map file_of files)) ≡ path_bytes (map file_of (take i files)) = ap path_bytes (take-map file_of i files) in

@@ -17,5 +17,6 @@ returns-then-files-lt-MOST_FILES-clause-fits c entry =
 pub returns-else-files-lt-MOST_FILES-clause-fits : goal.returns-else-files-lt-MOST_FILES-clause-fits
 returns-else-files-lt-MOST_FILES-clause-fits c entry = (
   λ few. let room = ltb-true (length c.args.files.now) most_files few in absurd (omega arith),
-  λ fits. absurd (full_gap (record { path = c.args.path.now; entry = entry }) (map file_of c.args.files.now) c.in-Err.field-0 c.in-Err.ensures (omega (arith, length-map c.args.files.now file_of)) fits),
+  λ fits. absurd (full_gap (record { path = c.args.path.now; entry = entry }) (map file_of c.args.files.now) c.in-Err.field-0 c.in-Err.ensures (omega (arith, length-map c.args.files.now file_of))
+      fits),
 )

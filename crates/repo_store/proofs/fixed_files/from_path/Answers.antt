@@ -16,5 +16,7 @@ earlier-preserved c =
     let below : IsBelow fix.path path = record { is_less = sym c.cmp.ensures ∙ c.in-Less.is } in
     record {
       rising = subst (λ (l : List SharedFix). IsRisingChanges (map fix_of l)) (sym (take_rest left 1)) (rest_rises left fix c.in-len1-up.len_at_least c.fix-item.is c.earlier.invariant.rising);
-      same = subst (λ (l : List SharedFix). SameFrom fixes (map fix_of l) path) (sym (take_rest left 1)) (rest_same left fix c.in-len1-up.len_at_least c.fix-item.is fixes path below c.earlier.invariant.same);
+      same =
+          subst (λ (l : List SharedFix). SameFrom fixes (map fix_of l) path) (sym (take_rest left 1))
+          (rest_same left fix c.in-len1-up.len_at_least c.fix-item.is fixes path below c.earlier.invariant.same);
     }

@@ -19,7 +19,9 @@ files-preserved c =
     let next : map file_of (drop i items) ≡ file_of file ∷ rest = ap (map file_of) (next_file items i file c.files-test.true c.file-item.is) in
     let rising : IsRising (file_of file ∷ rest) = subst (λ (l : List File). IsRising l) next (rising_from i items c.requires.files) in
     let so_far = subst (λ (l : List File). made ++ apply_changes left l ≡ all) next c.files.invariant.walked in
-    let same = c.from_path-left.ensures.same (file_of file ∷ rest) (subst (λ (p : List ℕ). (earlier : List ℕ) → IsBelow earlier p → IsBelowAll path_of earlier (file_of file ∷ rest)) (sym c.path.ensures) (below_first (file_of file) rest rising)) in
+    let same =
+    c.from_path-left.ensures.same (file_of file ∷ rest) (subst (λ (p : List ℕ). (earlier : List ℕ) → IsBelow earlier p → IsBelowAll path_of earlier (file_of file ∷ rest)) (sym c.path.ensures)
+    (below_first (file_of file) rest rising)) in
     record {
       rising = c.from_path-left.ensures.rising;
       walked = ap (λ (l : List File). l ++ apply_changes after rest) (c.in_ok-push_fixed.ensures) ∙ walked made all (file_of file) rest left after so_far same;
@@ -28,4 +30,5 @@ files-preserved c =
 pub returns : goal.returns
 returns c =
     let over = c.files-test.false in
-    walked_all (map file_of c.files.made.items) (apply_changes (map fix_of c.args.fixes.now) (map file_of c.args.files.now)) c.args.files.now (map fix_of c.files.left.now) c.files.file-index over c.files.invariant.walked
+    walked_all (map file_of c.files.made.items) (apply_changes (map fix_of c.args.fixes.now) (map file_of c.args.files.now)) c.args.files.now (map fix_of c.files.left.now) c.files.file-index over
+    c.files.invariant.walked

@@ -18,5 +18,6 @@ returns-clause-made g c t rows =
 pub returns-in_err-clear_answers-clause-made : goal.returns-in_err-clear_answers-clause-made
 returns-in_err-clear_answers-clause-made g c t rows =
     let p = err_from_is_err_and c.from_residual.result c.from_residual.ensures.1 in
-    stopped g.S.Store c.args.tx.now.conn.now c.clear_answers.new.tx.conn.now c.in_err-clear_answers.field-0.0 p.0 c.from_residual.result (λ db. HoldsRows db t rows) (λ db. HoldsRows db (without_answers t) rows) (λ db. HoldsRows db (without_answers t) []) p.1
+    stopped g.S.Store c.args.tx.now.conn.now c.clear_answers.new.tx.conn.now c.in_err-clear_answers.field-0.0 p.0 c.from_residual.result (λ db. HoldsRows db t rows)
+    (λ db. HoldsRows db (without_answers t) rows) (λ db. HoldsRows db (without_answers t) []) p.1
     (step_as_made g.S.Store c.args.tx.now.conn.now c.clear_answers.new.tx.conn.now (Err c.in_err-clear_answers.field-0.0) t rows without_answers c.in_err-clear_answers.ensures.step)

@@ -5,7 +5,8 @@ use Rattle.repo_store.proofs.UseLemmas.{uses_none}
 use Rattle.repo_store.proofs.forget.forget_rows.Goals as goal
 
 pub returns-in_err-forget_in : goal.returns-in_err-forget_in
-returns-in_err-forget_in g c t next answers = let made = c.in_err-forget_in.ensures.made t [] in whole_call g.S.Store c.args.conn.now _ c.from_residual.result _ _ (g.met.S.Store.shut_if_dirty _) (search (rules, made))
+returns-in_err-forget_in g c t next answers = let made =
+    c.in_err-forget_in.ensures.made t [] in whole_call g.S.Store c.args.conn.now _ c.from_residual.result _ _ (g.met.S.Store.shut_if_dirty _) (search (rules, made))
 
 pub returns : goal.returns
 returns g c t next answers =

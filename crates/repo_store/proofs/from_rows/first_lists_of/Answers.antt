@@ -1,6 +1,6 @@
 use Rattle.std.proofs.Common.{◌≡◌, true, false, [], ◌∷◌, sym, subst, ◌∙◌}
 use Rattle.std.proofs.lemmas.List.Sorted.{IsPermutation-sym}
-use Rattle.sqlite.proofs.Callers.{one_permutation}
+use Rattle.repo_store.proofs.Kit.{one_permutation}
 use Rattle.sqlite_trees.specs.Tree.{IsAscending}
 use Rattle.repo_store.specs.FromRows.{IsKeyBelow}
 use Rattle.repo_store.specs.Rows.{first_version_row}
@@ -17,11 +17,13 @@ returns-then-not-is_first_version-clause-refused c = λ same.
 pub returns-clause-same : goal.returns-clause-same
 returns-clause-same c =
     let meta = c.args.tables.meta.items in
-    first_same c.args.tables.store meta (perm_same meta (first_version_row ∷ []) (sym c.as_slice.ensures.value ∙ c.is_first_version.ensures.0 c.if-not-is_first_version.false)) c.lists_of.result c.lists_of.ensures.same
+    first_same c.args.tables.store meta (perm_same meta (first_version_row ∷ []) (sym c.as_slice.ensures.value ∙ c.is_first_version.ensures.0 c.if-not-is_first_version.false)) c.lists_of.result
+    c.lists_of.ensures.same
 
 pub returns-clause-fall : goal.returns-clause-fall
 returns-clause-fall c =
-    first_fall c.args.tables.store.answers.items c.lists_of.result (subst (IsAscending IsKeyBelow) c.as_slice-2.ensures.value (c.answers_rise.ensures c.if-not-answers_rise.false)) c.lists_of.ensures.order
+    first_fall c.args.tables.store.answers.items c.lists_of.result (subst (IsAscending IsKeyBelow) c.as_slice-2.ensures.value (c.answers_rise.ensures c.if-not-answers_rise.false))
+    c.lists_of.ensures.order
 
 pub returns-clause-obeys : goal.returns-clause-obeys
 returns-clause-obeys c = rules_at c.args.tables.store c.args.tables.meta.items c.lists_of.result c.lists_of.ensures.obeys

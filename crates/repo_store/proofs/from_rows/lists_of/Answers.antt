@@ -68,5 +68,6 @@ returns-clause-obeys c =
     let rows = c.args.rows in
     let blobs = map blob_row c.in_ok-contents.contents in
     let fixes = subst (λ (l : List FileParts). AllByRecursion (IsFixRow blobs (map staged_row (map file_of l))) rows.fixes.items) c.as_slice.ensures.value c.in_ok-fixes.ensures.obeys in
-    lists_obey rows blobs (map staged_row (map file_of c.in_ok-staged.staged.items)) c.in_ok-contents.ensures.contents c.in_ok-staged.ensures.files c.in_ok-contents.ensures.obeys c.in_ok-staged.ensures.obeys
+    lists_obey rows blobs (map staged_row (map file_of c.in_ok-staged.staged.items)) c.in_ok-contents.ensures.contents c.in_ok-staged.ensures.files c.in_ok-contents.ensures.obeys
+    c.in_ok-staged.ensures.obeys
     fixes c.in_ok-history.ensures.obeys.0 c.in_ok-history.ensures.obeys.1 c.in_ok-answers.ensures.obeys

@@ -1,7 +1,7 @@
 use Rattle.std.proofs.Common.{List, [], arith}
 use Rattle.std.proofs.lemmas.Result.{err_from_is_err_and}
 use Rattle.store_tables.specs.declared.rows.MetaRow.{MetaRow}
-use Rattle.repo_store.specs.FromRows.{AreRowsWithin, AreUsesFor, rows_in}
+use Rattle.repo_store.specs.FromRows.{AreRowsWithin, AreUsesFor, tables_of_rows}
 use Rattle.repo_store.specs.RowRules.{AreStoreRows}
 use Rattle.repo_store.proofs.FromRowsLemmas.{damage_of}
 use Rattle.repo_store.proofs.VersionLemmas.{answers_count, complete_moved, same_moved, uses_for}
@@ -11,7 +11,8 @@ pub returns-in_err-lists-clause-broken : goal.returns-in_err-lists-clause-broken
 returns-in_err-lists-clause-broken c =
     let rows = c.args.rows in
     let p = err_from_is_err_and c.from_residual.result c.from_residual.ensures.1 in
-    rw (p.1, p.2) (damage_of ((meta : List MetaRow) → ¬ AreStoreRows (rows_in meta rows)) (¬ AreRowsWithin c.args.limit rows c.args.uses.now) c.in_err-lists.field-0.0 (λ breaks it. breaks [] it.store)
+    rw (p.1, p.2) (damage_of ((meta : List MetaRow) → ¬ AreStoreRows (tables_of_rows meta rows)) (¬ AreRowsWithin c.args.limit rows c.args.uses.now) c.in_err-lists.field-0.0
+    (λ breaks it. breaks [] it.store)
     c.in_err-lists.ensures.broken)
 
 pub returns-then-count_answers-limit-clause-broken : goal.returns-then-count_answers-limit-clause-broken
@@ -33,7 +34,8 @@ returns-in_err-follow_uses-clause-broken c =
 
 pub returns-clause-same : goal.returns-clause-same
 returns-clause-same c = λ meta.
-    same_moved (rows_in meta c.args.rows) meta c.in_ok-lists.lists.kept c.follow_uses.new.self.kept.answers c.follow_uses.new.self.kept c.follow_uses.ensures.others (c.in_ok-lists.ensures.same meta)
+    same_moved (tables_of_rows meta c.args.rows) meta c.in_ok-lists.lists.kept c.follow_uses.new.self.kept.answers c.follow_uses.new.self.kept c.follow_uses.ensures.others
+    (c.in_ok-lists.ensures.same meta)
     c.in_ok-follow_uses.ensures.moved
 
 pub returns-clause-complete : goal.returns-clause-complete

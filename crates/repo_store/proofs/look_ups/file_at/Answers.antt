@@ -7,7 +7,9 @@ use Rattle.repo_store.proofs.TreeLemmas.{got}
 use Rattle.repo_store.proofs.look_ups.file_at.Goals as goal
 
 pub returns-in-Ok : goal.returns-in-Ok
-returns-in-Ok c = ap (λ (o : Option FileParts). option_map entry_in o) (got c.args.files.now c.in-Ok.index c.get.result c.get.ensures.lookup) ∙ found_at c.args.path.now c.args.files.now c.in-Ok.index (c.in-Ok.ensures)
+returns-in-Ok c =
+    ap (λ (o : Option FileParts). option_map entry_in o) (got c.args.files.now c.in-Ok.index c.get.result c.get.ensures.lookup)
+    ∙ found_at c.args.path.now c.args.files.now c.in-Ok.index (c.in-Ok.ensures)
 
 pub returns-in-Err : goal.returns-in-Err
 returns-in-Err c = sym (entry_of-gap c.args.path.now (map file_of c.args.files.now) c.in-Err.field-0 (c.in-Err.ensures))

@@ -1,7 +1,7 @@
 use Rattle.std.proofs.Common.{Ok, Err, pos, reverse, take}
 use Rattle.std.proofs.lemmas.Result.{err_from_is_err_and}
 use Rattle.sqlite.specs.Effect.{Database}
-use Rattle.store_tables.specs.Tables.{AreKeyed, Holds, Tables, with_meta, with_new_meta}
+use Rattle.store_tables.specs.Tables.{AreKeyed, HoldsTables, Tables, with_meta, with_new_meta}
 use Rattle.store_tables.specs.Uses.{HoldsRows}
 use Rattle.store_tables.proofs.MakeLemmas.{made_then, stopped}
 use Rattle.store_tables.proofs.UsesStepLemmas.{replaced_as_made, step_as_made}
@@ -11,7 +11,7 @@ use Rattle.repo_store.specs.UsesOf.{key_rows, without_all, without_uses_of}
 use Rattle.repo_store.proofs.migrate.mark_in.Goals as goal
 
 abbrev First : Tables → Database → Type 0
-First t db = Holds db t × AreKeyed (db.trees 0)
+First t db = HoldsTables db t × AreKeyed (db.trees 0)
 
 pub returns-clause-made : goal.returns-clause-made
 returns-clause-made g c t =
@@ -34,7 +34,8 @@ returns-in_err-list_in-clause-made g c t =
     let keys = c.args.keys.now in
     let left = without_all (take c.args.dropped keys) t in
     let rows = without_uses_of (take c.args.dropped keys) (key_rows (reverse keys)) in
-    stopped g.S.Store c.args.tx.now.conn.now c.list_in.new.tx.conn.now c.in_err-list_in.field-0.0 p.0 c.from_residual.result (First t) (λ db. HoldsRows db left rows) (λ db. HoldsRows db (with_new_meta version_row (with_meta (limit_row (pos first_limit)) left)) rows) p.1
+    stopped g.S.Store c.args.tx.now.conn.now c.list_in.new.tx.conn.now c.in_err-list_in.field-0.0 p.0 c.from_residual.result (First t) (λ db. HoldsRows db left rows)
+    (λ db. HoldsRows db (with_new_meta version_row (with_meta (limit_row (pos first_limit)) left)) rows) p.1
     (c.in_err-list_in.ensures.made t)
 
 pub returns-in_err-put_meta-clause-made : goal.returns-in_err-put_meta-clause-made

@@ -1,5 +1,5 @@
 use Rattle.store_tables.specs.Schema.{no_more, store_schema}
-use Rattle.repo_store.specs.FromRows.{AreTablesShown, rows_in}
+use Rattle.repo_store.specs.FromRows.{AreTablesShown, tables_of_rows}
 use Rattle.repo_store.specs.Opening.{IsFoundFirst}
 use Rattle.repo_store.specs.Rows.{first_tables_of}
 use Rattle.repo_store.proofs.ListedLemmas.{first_decided, listed_from, listed_obey, unread}
@@ -22,4 +22,4 @@ returns-in-Ok-clause-listed g c =
 pub returns-in-Ok-clause-obeys : goal.returns-in-Ok-clause-obeys
 returns-in-Ok-clause-obeys g c =
     let tables = c.in-Ok.tables in
-    listed_obey first_tables_of (rows_in tables.meta.items tables.store) c.first_lists_of.result c.first_lists_of.ensures.same c.first_lists_of.ensures.obeys
+    listed_obey first_tables_of (tables_of_rows tables.meta.items tables.store) c.first_lists_of.result c.first_lists_of.ensures.same c.first_lists_of.ensures.obeys

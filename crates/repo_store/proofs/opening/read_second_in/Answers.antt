@@ -3,7 +3,7 @@ use Rattle.sqlite_trees.specs.Tree.{Trees}
 use Rattle.store_tables.specs.declared.rows.UseRow.{UseRow}
 use Rattle.store_tables.specs.Schema.{no_more, schema_with_uses, uses_then}
 use Rattle.store_tables.specs.Uses.{HoldsUses}
-use Rattle.repo_store.specs.FromRows.{AreTablesShown, rows_in}
+use Rattle.repo_store.specs.FromRows.{AreTablesShown, tables_of_rows}
 use Rattle.repo_store.specs.Opening.{IsFoundIn}
 use Rattle.repo_store.specs.Rows.{tables_of}
 use Rattle.repo_store.proofs.ListedLemmas.{listed_from, listed_obey, second_decided, unread, uses_read, uses_unread}
@@ -23,7 +23,8 @@ returns-in-Err-read_uses_by_tick-clause-listed g c =
     let old = c.args.tx.now.conn.now in
     let mid = c.read_tables.new.tx.conn.now in
     let first = reached_in (uses_then no_more) g.S.Store old mid tables AreTablesShown c.in-Ok.ensures.read in
-    uses_unread g.S.Store old mid c.read_uses_by_tick.new.tx.conn.now (AreTablesShown tables) first IsFoundIn c.in-Err-read_uses_by_tick.error UsesShown _ c.in-Err-read_uses_by_tick.ensures.read c.fault_of.ensures.why
+    uses_unread g.S.Store old mid c.read_uses_by_tick.new.tx.conn.now (AreTablesShown tables) first IsFoundIn c.in-Err-read_uses_by_tick.error UsesShown _ c.in-Err-read_uses_by_tick.ensures.read
+    c.fault_of.ensures.why
 
 pub returns-in-Ok-read_uses_by_tick-clause-listed : goal.returns-in-Ok-read_uses_by_tick-clause-listed
 returns-in-Ok-read_uses_by_tick-clause-listed g c =
@@ -41,4 +42,4 @@ returns-in-Ok-read_uses_by_tick-clause-listed g c =
 pub returns-in-Ok-read_uses_by_tick-clause-obeys : goal.returns-in-Ok-read_uses_by_tick-clause-obeys
 returns-in-Ok-read_uses_by_tick-clause-obeys g c =
     let tables = c.in-Ok.tables in
-    listed_obey tables_of (rows_in tables.meta.items tables.store) c.second_lists_of.result c.second_lists_of.ensures.same c.second_lists_of.ensures.obeys
+    listed_obey tables_of (tables_of_rows tables.meta.items tables.store) c.second_lists_of.result c.second_lists_of.ensures.same c.second_lists_of.ensures.obeys

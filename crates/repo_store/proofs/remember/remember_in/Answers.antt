@@ -25,7 +25,9 @@ returns-clause-made g c t rows =
     let words = c.digest-words.ensures ∙ ap sha256 c.words_record.ensures in
     let seen = c.digest-seen.ensures ∙ ap sha256 c.seen_record.ensures in
     let brought = λ (w s : List ℕ). with_use (record { words = w; seen = s; tick = pos c.args.tick }) (without_use w s rows) in
-    let used = subst₂ (λ (w s : List ℕ). IsMade g.S.Store mid new c.use_in.result (λ db. HoldsRows db (makes t) rows) (λ db. HoldsRows db (makes t) (brought w s))) words seen (c.use_in.ensures.made (makes t) rows) in
+    let used =
+    subst₂ (λ (w s : List ℕ). IsMade g.S.Store mid new c.use_in.result (λ db. HoldsRows db (makes t) rows) (λ db. HoldsRows db (makes t) (brought w s))) words seen
+    (c.use_in.ensures.made (makes t) rows) in
     made_then g.S.Store old mid new c.use_in.result (λ db. HoldsRows db t rows) (λ db. HoldsRows db (makes t) rows) (λ db. HoldsRows db (makes t) (brought (key_of answer).0 (key_of answer).1))
     (step_as_made g.S.Store old mid (Ok tt) t rows makes c.in_ok-put_in_place.ensures.step) used
 

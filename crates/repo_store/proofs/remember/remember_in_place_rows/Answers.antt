@@ -21,7 +21,8 @@ returns g c t front last key place first =
     let words = c.args.words.now in
     let seen = c.args.seen.now in
     let made = listed_as_made g.S.Store _ _ _ t (without_answer words seen (with_answer_row (answer_row answer) (with_blobs c.args.news.now t)))
-    (λ rows. without_use words seen (with_use (use_row answer tick) (without_use (key_of answer).0 (key_of answer).1 rows))) tick (tick + 1) (front ++ last ∷ []) (answer ∷ front) (c.in_ok-remember_in_place_in.ensures.made t)
+    (λ rows. without_use words seen (with_use (use_row answer tick) (without_use (key_of answer).0 (key_of answer).1 rows))) tick (tick + 1) (front ++ last ∷ []) (answer ∷ front)
+    (c.in_ok-remember_in_place_in.ensures.made t)
     (λ rows uses. subst (λ (k : Key). AreUsesOf (tick + 1) (without_use k.0 k.1 (with_use (use_row answer tick) (without_use (key_of answer).0 (key_of answer).1 rows))) (answer ∷ front)) key
     (uses_in_place answer last front tick rows first place uses)) in
     whole_call g.S.Store c.args.conn.now _ c.commit.result _ _ (g.met.S.Store.shut_if_dirty _) (search (rules, made))

@@ -36,7 +36,8 @@ returns-in_err-commits-clause-read g c =
     let r3 = next_read g.S.Store c.args.tx.now.conn.now c.read_blobs.new.tx.conn.now c.read_staged.new.tx.conn.now _ r2 c.in_ok-staged.staged _ c.in_ok-staged.ensures.read in
     let r4 = next_read g.S.Store c.args.tx.now.conn.now c.read_staged.new.tx.conn.now c.read_fixes.new.tx.conn.now _ r3 c.in_ok-fixes.fixes _ c.in_ok-fixes.ensures.read in
     let p = err_from_is_err_and c.from_residual-in_err-commits.result c.from_residual-in_err-commits.ensures.1 in
-    read_stops g.S.Store c.args.tx.now.conn.now c.read_fixes.new.tx.conn.now c.read_commits.new.tx.conn.now _ r4 _ p.0 _ c.from_residual-in_err-commits.result AreShown p.1 c.in_err-commits.ensures.read
+    read_stops g.S.Store c.args.tx.now.conn.now c.read_fixes.new.tx.conn.now c.read_commits.new.tx.conn.now _ r4 _ p.0 _ c.from_residual-in_err-commits.result AreShown p.1
+    c.in_err-commits.ensures.read
 
 pub returns-in_err-entries-clause-read : goal.returns-in_err-entries-clause-read
 returns-in_err-entries-clause-read g c =
@@ -46,7 +47,8 @@ returns-in_err-entries-clause-read g c =
     let r4 = next_read g.S.Store c.args.tx.now.conn.now c.read_staged.new.tx.conn.now c.read_fixes.new.tx.conn.now _ r3 c.in_ok-fixes.fixes _ c.in_ok-fixes.ensures.read in
     let r5 = next_read g.S.Store c.args.tx.now.conn.now c.read_fixes.new.tx.conn.now c.read_commits.new.tx.conn.now _ r4 c.in_ok-commits.commits _ c.in_ok-commits.ensures.read in
     let p = err_from_is_err_and c.from_residual-in_err-entries.result c.from_residual-in_err-entries.ensures.1 in
-    read_stops g.S.Store c.args.tx.now.conn.now c.read_commits.new.tx.conn.now c.read_entries.new.tx.conn.now _ r5 _ p.0 _ c.from_residual-in_err-entries.result AreShown p.1 c.in_err-entries.ensures.read
+    read_stops g.S.Store c.args.tx.now.conn.now c.read_commits.new.tx.conn.now c.read_entries.new.tx.conn.now _ r5 _ p.0 _ c.from_residual-in_err-entries.result AreShown p.1
+    c.in_err-entries.ensures.read
 
 pub returns-clause-read : goal.returns-clause-read
 returns-clause-read g c =

@@ -7,14 +7,16 @@ returns-then-has_tables g c =
     let it = c.has_tables.ensures in
     let new = c.read_store.new.conn in
     let read = c.read_store.ensures in
-    second_opened g.S.Store c.args.conn.now it.live it.settled new (g.met.S.Store.shut_if_dirty new.store) (it.ours.0 c.if-has_tables.true) (g.met.S.Store.settled c.args.conn.now.store) c.read_store.result read.read read.next read.complete read.obeys
+    second_opened g.S.Store c.args.conn.now it.live it.settled new (g.met.S.Store.shut_if_dirty new.store) (it.ours.0 c.if-has_tables.true) (g.met.S.Store.settled c.args.conn.now.store)
+    c.read_store.result read.read read.next read.complete read.obeys
 
 pub returns-then-has_first_tables : goal.returns-then-has_first_tables
 returns-then-has_first_tables g c =
     let it = c.has_first_tables.ensures in
     let new = c.take_over.new.conn in
     let taken = c.take_over.ensures in
-    first_opened g.S.Store c.args.conn.now it.live it.settled new (g.met.S.Store.shut_if_dirty new.store) (it.ours.0 c.if-has_first_tables.true) (g.met.S.Store.settled new.store) c.take_over.result taken.taken taken.next taken.complete taken.obeys
+    first_opened g.S.Store c.args.conn.now it.live it.settled new (g.met.S.Store.shut_if_dirty new.store) (it.ours.0 c.if-has_first_tables.true) (g.met.S.Store.settled new.store) c.take_over.result
+    taken.taken taken.next taken.complete taken.obeys
 
 pub returns : goal.returns
 returns g c =

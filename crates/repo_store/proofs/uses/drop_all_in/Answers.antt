@@ -16,7 +16,9 @@ keys-init g c = record {
 pub keys-preserved : goal.keys-preserved
 keys-preserved g c = record {
   same_reference = c.in_ok-drop_in.ensures.same_reference ∙ c.keys.invariant.same_reference;
-  made = drops_more g.S.Store c.args.tx.now.conn.now c.keys.tx.conn.now c.drop_in.new.tx.conn.now c.args.keys.now c.keys.key-index _ c.keys-test.true (in_place c.args.keys.now c.keys.key-index _ c.keys-test.true) c.keys.invariant.made c.in_ok-drop_in.ensures.made;
+  made =
+      drops_more g.S.Store c.args.tx.now.conn.now c.keys.tx.conn.now c.drop_in.new.tx.conn.now c.args.keys.now c.keys.key-index _ c.keys-test.true
+      (in_place c.args.keys.now c.keys.key-index _ c.keys-test.true) c.keys.invariant.made c.in_ok-drop_in.ensures.made;
 }
 
 pub returns-in_err-drop_in-clause-made : goal.returns-in_err-drop_in-clause-made
@@ -28,7 +30,8 @@ returns-in_err-drop_in-clause-made g c t rows =
     let new = c.drop_in.new.tx.conn.now in
     let front = take c.keys.key-index c.args.keys.now in
     stopped g.S.Store old new c.in_err-drop_in.field-0.0 p.0 r.result (λ db. HoldsRows db t rows) _ (λ db. HoldsRows db (without_all c.args.keys.now t) (without_uses_of c.args.keys.now rows)) p.1
-    (made_then g.S.Store old mid new (Err c.in_err-drop_in.field-0.0) (λ db. HoldsRows db t rows) (λ db. HoldsRows db (without_all front t) (without_uses_of front rows)) _ (c.keys.invariant.made t rows)
+    (made_then g.S.Store old mid new (Err c.in_err-drop_in.field-0.0) (λ db. HoldsRows db t rows) (λ db. HoldsRows db (without_all front t) (without_uses_of front rows)) _
+    (c.keys.invariant.made t rows)
     (c.in_err-drop_in.ensures.made (without_all front t) (without_uses_of front rows)))
 
 pub returns-clause-made : goal.returns-clause-made

@@ -16,12 +16,14 @@ returns-clause-made g c t rows =
     let left = without_all c.args.keys.now t in
     let uses = without_uses_of c.args.keys.now rows in
     made_then g.S.Store old mid new c.replace_meta.result (λ db. HoldsRows db t rows) (λ db. HoldsRows db left uses) (λ db. HoldsRows db (with_new_meta (limit_row (pos c.args.limit)) left) uses)
-    (c.in_ok-drop_all_in.ensures.made t rows) (replaced_as_made g.S.Store mid new c.replace_meta.result left uses (with_new_meta (limit_row (pos c.args.limit))) c.replace_meta.ensures.step c.replace_meta.ensures.only)
+    (c.in_ok-drop_all_in.ensures.made t rows) (replaced_as_made g.S.Store mid new c.replace_meta.result left uses (with_new_meta (limit_row (pos c.args.limit))) c.replace_meta.ensures.step
+    c.replace_meta.ensures.only)
 
 pub returns-in_err-drop_all_in-clause-made : goal.returns-in_err-drop_all_in-clause-made
 returns-in_err-drop_all_in-clause-made g c t rows =
     let p = err_from_is_err_and c.from_residual.result c.from_residual.ensures.1 in
     let left = without_all c.args.keys.now t in
     let uses = without_uses_of c.args.keys.now rows in
-    stopped g.S.Store c.args.tx.now.conn.now c.drop_all_in.new.tx.conn.now c.in_err-drop_all_in.field-0.0 p.0 c.from_residual.result (λ db. HoldsRows db t rows) (λ db. HoldsRows db left uses) (λ db. HoldsRows db (with_new_meta (limit_row (pos c.args.limit)) left) uses) p.1
+    stopped g.S.Store c.args.tx.now.conn.now c.drop_all_in.new.tx.conn.now c.in_err-drop_all_in.field-0.0 p.0 c.from_residual.result (λ db. HoldsRows db t rows) (λ db. HoldsRows db left uses)
+    (λ db. HoldsRows db (with_new_meta (limit_row (pos c.args.limit)) left) uses) p.1
     (c.in_err-drop_all_in.ensures.made t rows)

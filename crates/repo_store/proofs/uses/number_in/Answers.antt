@@ -20,7 +20,9 @@ keys-preserved g c = record {
   same_reference = c.in_ok-put_in.ensures.same_reference ∙ c.keys.invariant.same_reference;
   counted = ap (λ n. n + 1) c.keys.invariant.counted;
   few = c.keys.invariant.few;
-  made = numbers_more g.S.Store c.args.tx.now.conn.now c.keys.tx.conn.now c.put_in.new.tx.conn.now c.args.keys.now c.keys.key-index _ (c.keys.tick + 1) c.keys-test.true (in_place c.args.keys.now c.keys.key-index _ c.keys-test.true)
+  made =
+      numbers_more g.S.Store c.args.tx.now.conn.now c.keys.tx.conn.now c.put_in.new.tx.conn.now c.args.keys.now c.keys.key-index _ (c.keys.tick + 1) c.keys-test.true
+      (in_place c.args.keys.now c.keys.key-index _ c.keys-test.true)
       (ap (λ n. n + 1) c.keys.invariant.counted) c.keys.invariant.made c.in_ok-put_in.ensures.made;
 }
 

@@ -17,5 +17,7 @@ returns-clause-made g c t rows =
 pub returns-in_err-clear_uses-clause-made : goal.returns-in_err-clear_uses-clause-made
 returns-in_err-clear_uses-clause-made g c t rows =
     let p = err_from_is_err_and c.from_residual.result c.from_residual.ensures.1 in
-    stopped g.S.Store c.args.tx.now.conn.now c.clear_uses.new.tx.conn.now c.in_err-clear_uses.field-0.0 p.0 c.from_residual.result (λ db. HoldsRows db t rows) (λ db. HoldsRows db t []) (λ db. HoldsRows db t (key_rows (reverse c.args.keys.now))) p.1
-    (change_as_made g.S.Store c.args.tx.now.conn.now c.clear_uses.new.tx.conn.now (Err c.in_err-clear_uses.field-0.0) t rows without_uses c.in_err-clear_uses.ensures.step c.in_err-clear_uses.ensures.only)
+    stopped g.S.Store c.args.tx.now.conn.now c.clear_uses.new.tx.conn.now c.in_err-clear_uses.field-0.0 p.0 c.from_residual.result (λ db. HoldsRows db t rows) (λ db. HoldsRows db t [])
+    (λ db. HoldsRows db t (key_rows (reverse c.args.keys.now))) p.1
+    (change_as_made g.S.Store c.args.tx.now.conn.now c.clear_uses.new.tx.conn.now (Err c.in_err-clear_uses.field-0.0) t rows without_uses c.in_err-clear_uses.ensures.step
+    c.in_err-clear_uses.ensures.only)

@@ -21,5 +21,7 @@ returns-in_err-take_use-clause-made g c t rows =
     let p = err_from_is_err_and c.from_residual.result c.from_residual.ensures.1 in
     let row : UseRow = record { words = c.args.words.now; seen = c.args.seen.now; tick = pos c.args.tick } in
     let others = without_use c.args.words.now c.args.seen.now rows in
-    stopped g.S.Store c.args.tx.now.conn.now c.take_use.new.tx.conn.now c.in_err-take_use.field-0.0 p.0 c.from_residual.result (λ db. HoldsRows db t rows) (λ db. HoldsRows db t others) (λ db. HoldsRows db t (with_use row others)) p.1
-    (change_as_made g.S.Store c.args.tx.now.conn.now c.take_use.new.tx.conn.now (Err c.in_err-take_use.field-0.0) t rows (without_use c.args.words.now c.args.seen.now) c.in_err-take_use.ensures.step c.in_err-take_use.ensures.only)
+    stopped g.S.Store c.args.tx.now.conn.now c.take_use.new.tx.conn.now c.in_err-take_use.field-0.0 p.0 c.from_residual.result (λ db. HoldsRows db t rows) (λ db. HoldsRows db t others)
+    (λ db. HoldsRows db t (with_use row others)) p.1
+    (change_as_made g.S.Store c.args.tx.now.conn.now c.take_use.new.tx.conn.now (Err c.in_err-take_use.field-0.0) t rows (without_use c.args.words.now c.args.seen.now) c.in_err-take_use.ensures.step
+    c.in_err-take_use.ensures.only)

@@ -1,6 +1,6 @@
 use Rattle.std.proofs.Common.{◌≡◌, ◌∙◌, sym, subst, arith, true≢false}
 use Rattle.sqlite_wal.specs.Format.{part}
-use Rattle.sqlite_wal.proofs.PartLemmas.{part_held}
+use Rattle.repository_files.proofs.Kit.{part_held}
 use Rattle.repository_files.proofs.bare_log.is_of_another_database.Goals as goal
 
 pub returns-clause-unmarked : goal.returns-clause-unmarked

@@ -35,5 +35,6 @@ returns-else-is_option_name c =
 pub returns-in-None : goal.returns-in-None
 returns-in-None c =
     let found : None ≡ position is_equals c.args.text.now =
-    sym c.in-None.is ∙ position_from_yields_List is_equals _ _ c.position.result c.position.ensures.ran (YieldsList-from_slice c.args.text.now c.iter.ensures.rest) (λ x b q k. search (rules, tests)) in
+    sym c.in-None.is ∙ position_from_yields_List is_equals _ _ c.position.result c.position.ensures.ran (YieldsList-from_slice c.args.text.now c.iter.ensures.rest)
+    (λ x b q k. search (rules, tests)) in
     c.is_option_name-in-None.ensures ∙ ap (λ at. is_option_cut_at at c.args.text.now) found

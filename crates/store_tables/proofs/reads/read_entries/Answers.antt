@@ -9,13 +9,17 @@ use Rattle.store_tables.proofs.reads.read_entries.Goals as goal
 pub returns-in_err-shown-clause-read : goal.returns-in_err-shown-clause-read
 returns-in_err-shown-clause-read g c =
     let p = err_from_is_err_and c.from_residual.result c.from_residual.ensures.1 in
-    read_fails g.S.Store c.args.tx.now.conn.now c.query_all.new.self.conn.now _ (λ (v : Vec Rows.Row Global). v.items) c.query_all.result c.query_all.ensures.ok c.query_all.ensures.err c.query_all.ensures.survives c.from_residual.result p.0 p.1 (λ rows trees. Stored entry_cells (1 ∷ 2 ∷ 3 ∷ 4 ∷ []) rows.items (trees 9))
+    read_fails g.S.Store c.args.tx.now.conn.now c.query_all.new.self.conn.now _ (λ (v : Vec Rows.Row Global). v.items) c.query_all.result c.query_all.ensures.ok c.query_all.ensures.err
+    c.query_all.ensures.survives c.from_residual.result p.0 p.1 (λ rows trees. Stored entry_cells (1 ∷ 2 ∷ 3 ∷ 4 ∷ []) rows.items (trees 9))
 
 pub returns-in_err-_rowids-clause-read : goal.returns-in_err-_rowids-clause-read
 returns-in_err-_rowids-clause-read g c =
     let p = err_from_is_err_and c.from_residual-in_err-_rowids.result c.from_residual-in_err-_rowids.ensures.1 in
-    read_fails g.S.Store c.args.tx.now.conn.now c.query_all.new.self.conn.now _ (λ (v : Vec Rows.Row Global). v.items) c.query_all.result c.query_all.ensures.ok c.query_all.ensures.err c.query_all.ensures.survives c.from_residual-in_err-_rowids.result p.0 p.1 (λ rows trees. Stored entry_cells (1 ∷ 2 ∷ 3 ∷ 4 ∷ []) rows.items (trees 9))
+    read_fails g.S.Store c.args.tx.now.conn.now c.query_all.new.self.conn.now _ (λ (v : Vec Rows.Row Global). v.items) c.query_all.result c.query_all.ensures.ok c.query_all.ensures.err
+    c.query_all.ensures.survives c.from_residual-in_err-_rowids.result p.0 p.1 (λ rows trees. Stored entry_cells (1 ∷ 2 ∷ 3 ∷ 4 ∷ []) rows.items (trees 9))
 
 pub returns-clause-read : goal.returns-clause-read
 returns-clause-read g c =
-    read_ends g.S.Store c.args.tx.now.conn.now c.query_all.new.self.conn.now _ (λ (v : Vec Rows.Row Global). v.items) c.query_all.result c.query_all.ensures.ok c.query_all.ensures.err c.query_all.ensures.survives 9 _ _ _ text.all_entries_is c.in_ok-shown.shown c.in_ok-shown.was c.decoded.result (λ rows. rows.items) entry_cells (1 ∷ 2 ∷ 3 ∷ 4 ∷ []) 1 (λ row. refl) c.in_ok-shown.shown.items refl c.decoded.ensures
+    read_ends g.S.Store c.args.tx.now.conn.now c.query_all.new.self.conn.now _ (λ (v : Vec Rows.Row Global). v.items) c.query_all.result c.query_all.ensures.ok c.query_all.ensures.err
+    c.query_all.ensures.survives 9 _ _ _ text.all_entries_is c.in_ok-shown.shown c.in_ok-shown.was c.decoded.result (λ rows. rows.items) entry_cells (1 ∷ 2 ∷ 3 ∷ 4 ∷ []) 1 (λ row. refl)
+    c.in_ok-shown.shown.items refl c.decoded.ensures

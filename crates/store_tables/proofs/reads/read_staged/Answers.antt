@@ -9,8 +9,11 @@ use Rattle.store_tables.proofs.reads.read_staged.Goals as goal
 pub returns-in_err-shown-clause-read : goal.returns-in_err-shown-clause-read
 returns-in_err-shown-clause-read g c =
     let p = err_from_is_err_and c.from_residual.result c.from_residual.ensures.1 in
-    read_fails g.S.Store c.args.tx.now.conn.now c.query_all.new.self.conn.now _ (λ (v : Vec Rows.Row Global). v.items) c.query_all.result c.query_all.ensures.ok c.query_all.ensures.err c.query_all.ensures.survives c.from_residual.result p.0 p.1 (λ rows trees. Stored staged_cells (1 ∷ 2 ∷ 3 ∷ []) rows.items (trees 4) × AreKeyed (trees 4))
+    read_fails g.S.Store c.args.tx.now.conn.now c.query_all.new.self.conn.now _ (λ (v : Vec Rows.Row Global). v.items) c.query_all.result c.query_all.ensures.ok c.query_all.ensures.err
+    c.query_all.ensures.survives c.from_residual.result p.0 p.1 (λ rows trees. Stored staged_cells (1 ∷ 2 ∷ 3 ∷ []) rows.items (trees 4) × AreKeyed (trees 4))
 
 pub returns-clause-read : goal.returns-clause-read
 returns-clause-read g c =
-    read_keyed g.S.Store c.args.tx.now.conn.now c.query_all.new.self.conn.now _ (λ (v : Vec Rows.Row Global). v.items) c.query_all.result c.query_all.ensures.ok c.query_all.ensures.err c.query_all.ensures.survives 4 _ _ _ text.all_staged_is c.in_ok-shown.shown c.in_ok-shown.was c.decoded_apart.result (λ rows. rows.items) staged_cells (1 ∷ 2 ∷ 3 ∷ []) (λ row. refl) (λ row. refl) c.in_ok-shown.shown.items refl c.decoded_apart.ensures.rows c.decoded_apart.ensures.apart
+    read_keyed g.S.Store c.args.tx.now.conn.now c.query_all.new.self.conn.now _ (λ (v : Vec Rows.Row Global). v.items) c.query_all.result c.query_all.ensures.ok c.query_all.ensures.err
+    c.query_all.ensures.survives 4 _ _ _ text.all_staged_is c.in_ok-shown.shown c.in_ok-shown.was c.decoded_apart.result (λ rows. rows.items) staged_cells (1 ∷ 2 ∷ 3 ∷ []) (λ row. refl)
+    (λ row. refl) c.in_ok-shown.shown.items refl c.decoded_apart.ensures.rows c.decoded_apart.ensures.apart

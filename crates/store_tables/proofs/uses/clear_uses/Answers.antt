@@ -11,7 +11,8 @@ returns-clause-step g c =
     let new = c.execute.new.self.conn.now in
     let makes = without_uses in
     changes g.S.Store old new _ _ c.execute.result c.execute.ensures.ended c.execute.ensures.runs c.execute.ensures.survives (MakesUses makes) c.in_ok-execute.field-0 c.in_ok-execute.was
-    (λ listed has ran. told (store_with listed) (state g.S.Store old).now (state g.S.Store new).now makes has (λ more t rows h own. clear_uses more (state g.S.Store old) (state g.S.Store new) t rows _ h own ran))
+    (λ listed has ran. told (store_with listed) (state g.S.Store old).now (state g.S.Store new).now makes has
+    (λ more t rows h own. clear_uses more (state g.S.Store old) (state g.S.Store new) t rows _ h own ran))
 
 pub returns-clause-only : goal.returns-clause-only
 returns-clause-only g c =

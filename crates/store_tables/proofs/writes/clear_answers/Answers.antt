@@ -15,7 +15,8 @@ returns-clause-step g c =
     let new = c.execute.new.self.conn.now in
     finishes g.S.Store old new _ _ c.execute.result c.execute.ensures.ended c.execute.ensures.runs c.execute.ensures.survives (without_answers)
     c.in_ok-execute.field-0 c.in_ok-execute.was (λ more t h ran. clear_answers more (state g.S.Store old) (state g.S.Store new) t _ h ran)
-    (λ more has ran. only_keeps_more spec.answers more (state g.S.Store old).now (state g.S.Store new).now (omega arith) (only.clear_answers more (state g.S.Store old) (state g.S.Store new) _ has ran))
+    (λ more has ran. only_keeps_more spec.answers more (state g.S.Store old).now (state g.S.Store new).now (omega arith)
+    (only.clear_answers more (state g.S.Store old) (state g.S.Store new) _ has ran))
 
 pub returns-clause-only : goal.returns-clause-only
 returns-clause-only g c =

@@ -15,7 +15,8 @@ returns-clause-step g c =
     let old = c.args.tx.now.conn.now in
     let new = c.execute.new.self.conn.now in
     let row : BlobRow = record { digest = c.args.digest.now; bytes = c.args.bytes.now } in
-    finishes g.S.Store old new _ _ c.execute.result c.execute.ensures.ended (rw (c.params-to_sql.ensures, c.params-to_sql-2.ensures) at c.execute.ensures.runs) c.execute.ensures.survives (with_blob row)
+    finishes g.S.Store old new _ _ c.execute.result c.execute.ensures.ended (rw (c.params-to_sql.ensures, c.params-to_sql-2.ensures) at c.execute.ensures.runs) c.execute.ensures.survives
+    (with_blob row)
     c.in_ok-execute.field-0 c.in_ok-execute.was (λ more t h ran. put_blob more (state g.S.Store old) (state g.S.Store new) t row _ h ran)
     (λ more has ran. only_keeps_more spec.blobs more (state g.S.Store old).now (state g.S.Store new).now (omega arith) (only.put_blob more (state g.S.Store old) (state g.S.Store new) _ _ _ has ran))
 
@@ -23,5 +24,6 @@ pub returns-clause-only : goal.returns-clause-only
 returns-clause-only g c =
     let old = c.args.tx.now.conn.now in
     let new = c.execute.new.self.conn.now in
-    changes g.S.Store old new _ _ c.execute.result c.execute.ensures.ended (rw (c.params-to_sql.ensures, c.params-to_sql-2.ensures) at c.execute.ensures.runs) c.execute.ensures.survives (ChangesOnly spec.blobs)
+    changes g.S.Store old new _ _ c.execute.result c.execute.ensures.ended (rw (c.params-to_sql.ensures, c.params-to_sql-2.ensures) at c.execute.ensures.runs) c.execute.ensures.survives
+    (ChangesOnly spec.blobs)
     c.in_ok-execute.field-0 c.in_ok-execute.was (λ more has ran. only.put_blob more (state g.S.Store old) (state g.S.Store new) _ _ _ has ran)

@@ -15,13 +15,16 @@ returns-clause-step g c =
     let old = c.args.tx.now.conn.now in
     let new = c.execute.new.self.conn.now in
     let row : EntryRow = record { n = pos c.args.n; path = c.args.path.now; mode = pos c.args.mode; digest = c.args.digest.now } in
-    finishes g.S.Store old new _ _ c.execute.result c.execute.ensures.ended (rw (c.params-to_sql.ensures, c.params-to_sql-2.ensures, c.params-to_sql-3.ensures, c.params-to_sql-4.ensures) at c.execute.ensures.runs) c.execute.ensures.survives (with_entry row)
+    finishes g.S.Store old new _ _ c.execute.result c.execute.ensures.ended
+    (rw (c.params-to_sql.ensures, c.params-to_sql-2.ensures, c.params-to_sql-3.ensures, c.params-to_sql-4.ensures) at c.execute.ensures.runs) c.execute.ensures.survives (with_entry row)
     c.in_ok-execute.field-0 c.in_ok-execute.was (λ more t h ran. put_entry more (state g.S.Store old) (state g.S.Store new) t row _ h ran)
-    (λ more has ran. only_keeps_more spec.entries more (state g.S.Store old).now (state g.S.Store new).now (omega arith) (only.put_entry more (state g.S.Store old) (state g.S.Store new) _ _ _ _ _ has ran))
+    (λ more has ran. only_keeps_more spec.entries more (state g.S.Store old).now (state g.S.Store new).now (omega arith)
+    (only.put_entry more (state g.S.Store old) (state g.S.Store new) _ _ _ _ _ has ran))
 
 pub returns-clause-only : goal.returns-clause-only
 returns-clause-only g c =
     let old = c.args.tx.now.conn.now in
     let new = c.execute.new.self.conn.now in
-    changes g.S.Store old new _ _ c.execute.result c.execute.ensures.ended (rw (c.params-to_sql.ensures, c.params-to_sql-2.ensures, c.params-to_sql-3.ensures, c.params-to_sql-4.ensures) at c.execute.ensures.runs) c.execute.ensures.survives (ChangesOnly spec.entries)
+    changes g.S.Store old new _ _ c.execute.result c.execute.ensures.ended
+    (rw (c.params-to_sql.ensures, c.params-to_sql-2.ensures, c.params-to_sql-3.ensures, c.params-to_sql-4.ensures) at c.execute.ensures.runs) c.execute.ensures.survives (ChangesOnly spec.entries)
     c.in_ok-execute.field-0 c.in_ok-execute.was (λ more has ran. only.put_entry more (state g.S.Store old) (state g.S.Store new) _ _ _ _ _ has ran)

@@ -1,6 +1,6 @@
 use Rattle.std.proofs.Common.{arith}
 use Rattle.sqlite.specs.Held.{state}
-use Rattle.store_tables.specs.Tables.{with_fix, fix_row}
+use Rattle.store_tables.specs.Tables.{with_fix, fix_row_of_digest}
 use Rattle.store_tables.proofs.StepLemmas.{finishes, changes, only_keeps_more}
 use Rattle.store_tables.proofs.TableLemmas.{put_fix, fix_params}
 use Rattle.store_tables.specs.Schema as spec
@@ -13,14 +13,18 @@ pub returns-clause-step : goal.returns-clause-step
 returns-clause-step g c =
     let old = c.args.tx.now.conn.now in
     let new = c.execute.new.self.conn.now in
-    let row = fix_row c.args.path.now c.args.now in
-    finishes g.S.Store old new _ _ c.execute.result c.execute.ensures.ended (rw (c.params-to_sql.ensures, c.params-to_sql-2.ensures, c.params-to_sql-3.ensures, fix_params c.args.path.now c.args.now c.is_none.result c.is_none.ensures) at c.execute.ensures.runs)
+    let row = fix_row_of_digest c.args.path.now c.args.now in
+    finishes g.S.Store old new _ _ c.execute.result c.execute.ensures.ended
+    (rw (c.params-to_sql.ensures, c.params-to_sql-2.ensures, c.params-to_sql-3.ensures, fix_params c.args.path.now c.args.now c.is_none.result c.is_none.ensures) at c.execute.ensures.runs)
     c.execute.ensures.survives (with_fix row) c.in_ok-execute.field-0 c.in_ok-execute.was (λ more t h ran. put_fix more (state g.S.Store old) (state g.S.Store new) t row _ h ran)
-    (λ more has ran. only_keeps_more spec.fixes more (state g.S.Store old).now (state g.S.Store new).now (omega arith) (only.put_fix more (state g.S.Store old) (state g.S.Store new) (fix_row c.args.path.now c.args.now) _ has ran))
+    (λ more has ran. only_keeps_more spec.fixes more (state g.S.Store old).now (state g.S.Store new).now (omega arith)
+    (only.put_fix more (state g.S.Store old) (state g.S.Store new) (fix_row_of_digest c.args.path.now c.args.now) _ has ran))
 
 pub returns-clause-only : goal.returns-clause-only
 returns-clause-only g c =
     let old = c.args.tx.now.conn.now in
     let new = c.execute.new.self.conn.now in
-    changes g.S.Store old new _ _ c.execute.result c.execute.ensures.ended (rw (c.params-to_sql.ensures, c.params-to_sql-2.ensures, c.params-to_sql-3.ensures, fix_params c.args.path.now c.args.now c.is_none.result c.is_none.ensures) at c.execute.ensures.runs) c.execute.ensures.survives (ChangesOnly spec.fixes)
-    c.in_ok-execute.field-0 c.in_ok-execute.was (λ more has ran. only.put_fix more (state g.S.Store old) (state g.S.Store new) (fix_row c.args.path.now c.args.now) _ has ran)
+    changes g.S.Store old new _ _ c.execute.result c.execute.ensures.ended
+    (rw (c.params-to_sql.ensures, c.params-to_sql-2.ensures, c.params-to_sql-3.ensures, fix_params c.args.path.now c.args.now c.is_none.result c.is_none.ensures) at c.execute.ensures.runs)
+    c.execute.ensures.survives (ChangesOnly spec.fixes)
+    c.in_ok-execute.field-0 c.in_ok-execute.was (λ more has ran. only.put_fix more (state g.S.Store old) (state g.S.Store new) (fix_row_of_digest c.args.path.now c.args.now) _ has ran)

@@ -13,7 +13,8 @@ returns-clause-step g c =
     let mid = c.take_meta.new.tx.conn.now in
     let new = c.put_meta.new.tx.conn.now in
     let row : MetaRow = record { name = c.args.name.now; value = pos c.args.value } in
-    change_then g.S.Store old mid new c.put_meta.result (MakesIfKeyed spec.meta (without_meta row.name)) (λ listed x y. (t : Tables) → HoldsIn listed x t → HoldsIn listed y (with_meta row t)) (MakesIfKeyed spec.meta (with_new_meta row))
+    change_then g.S.Store old mid new c.put_meta.result (MakesIfKeyed spec.meta (without_meta row.name)) (λ listed x y. (t : Tables) → HoldsIn listed x t → HoldsIn listed y (with_meta row t))
+    (MakesIfKeyed spec.meta (with_new_meta row))
     (replaced row) c.in_ok-take_meta.ensures.step (step_as_change g.S.Store mid new c.put_meta.result (with_meta row) c.put_meta.ensures.step)
 
 pub returns-clause-only : goal.returns-clause-only

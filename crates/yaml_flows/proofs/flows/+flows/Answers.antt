@@ -43,7 +43,8 @@ list-items-preserved t c =
     let n = length c.after_gap-start.result.now in
     let found = c.in_ok-found.found in
     c.items.invariant
-    ∙ (part_read 93 node n c.items.counter c.items.rest.now (map view c.items.items.items) (record { value = view found.value; rest = found.rest.now }) c.items-test.true c.in_default.ensures c.in_ok-found.ensures
+    ∙ (part_read 93 node n c.items.counter c.items.rest.now (map view c.items.items.items) (record { value = view found.value; rest = found.rest.now }) c.items-test.true c.in_default.ensures
+    c.in_ok-found.ensures
     ∙ ap (λ (ms : List Meaning). prepend ms (parts_within 93 node (n - (c.items.counter + 1)) found.rest.now))
     (sym (map_push view c.items.items.items c.push.new.self.items found.value c.in_ok-push.ensures.items)))
 
@@ -87,7 +88,8 @@ pub table-returns-in-Some : goal.table-returns-in-Some
 table-returns-in-Some t c =
     let entry = flows.entry (flows.node c.args.room) in
     let end = c.in-Some.ensures in
-    ap as_table (c.rows.invariant.all ∙ rows_read entry (length c.after_gap-start.result.now) c.rows.counter c.rows.rest.now (map member_view c.rows.rows.items) c.rows-test.true end.0 c.rows.invariant.apart)
+    ap as_table (c.rows.invariant.all ∙ rows_read entry (length c.after_gap-start.result.now) c.rows.counter c.rows.rest.now (map member_view c.rows.rows.items) c.rows-test.true end.0
+    c.rows.invariant.apart)
     ∙ ap₂ found_node (sym (view-Table c.rows.rows)) (sym end.1)
 
 pub table-returns-in_err-found : goal.table-returns-in_err-found
@@ -96,7 +98,8 @@ table-returns-in_err-found t c =
     let p = err_from_is_err_and c.from_residual-in_err-found.result c.from_residual-in_err-found.ensures.1 in
     rw (p.1, p.2) (λ other.
     ap as_table (c.rows.invariant.all
-    ∙ row_refused entry (is_seen c.as_slice.result.now (contains_text c.rows.later)) (length c.after_gap-start.result.now) c.rows.counter c.rows.rest.now (map member_view c.rows.rows.items) c.rows-test.true c.in_default.ensures (λ q. ap (λ rs. is_seen rs (contains_text c.rows.later) q) c.as_slice.ensures.value ∙ c.rows.invariant.seen q) (c.in_err-found.ensures.given other)))
+    ∙ row_refused entry (is_seen c.as_slice.result.now (contains_text c.rows.later)) (length c.after_gap-start.result.now) c.rows.counter c.rows.rest.now (map member_view c.rows.rows.items)
+    c.rows-test.true c.in_default.ensures (λ q. ap (λ rs. is_seen rs (contains_text c.rows.later) q) c.as_slice.ensures.value ∙ c.rows.invariant.seen q) (c.in_err-found.ensures.given other)))
 
 pub table-rows-preserved : goal.table-rows-preserved
 table-rows-preserved t c =
@@ -125,4 +128,5 @@ table-rows-preserved t c =
 
 pub table-returns : goal.table-returns
 table-returns t c = λ _.
-    ap as_table (c.rows.invariant.all ∙ rows_end (flows.entry (flows.node c.args.room)) (length c.after_gap-start.result.now) c.rows.counter c.rows.rest.now (map member_view c.rows.rows.items) c.rows-test.false)
+    ap as_table (c.rows.invariant.all ∙ rows_end (flows.entry (flows.node c.args.room)) (length c.after_gap-start.result.now) c.rows.counter c.rows.rest.now (map member_view c.rows.rows.items)
+    c.rows-test.false)

@@ -2,7 +2,7 @@ use Rattle.std.proofs.Common.{◌≡◌, ℕ, ◌+◌, ◌*◌, ◌-◌, List, t
 use Rattle.std.specs.BTreeSet.{contains_text}
 use Rattle.yaml_lines.specs.View.{view, member_view}
 use Rattle.yaml_flows.specs.Flows as flows
-use Rattle.yaml_flows.specs.Flows.{parts, parts_within, distinct}
+use Rattle.yaml_flows.specs.Flows.{parts, parts_within, distinct_flow_rows}
 use Rattle.yaml_flows.specs.Keys.{keys_differ}
 use Rattle.yaml_flows.specs.Views.{is_seen}
 use Rattle.yaml_flows.proofs.Parts.{prepend}
@@ -38,7 +38,7 @@ abbrev pub invariant-table-rows : goal.invariant-table-rows
 invariant-table-rows l =
     let entry = flows.entry (flows.node l.room) in
     let found = map member_view l.rows.items in record {
-      all : option_and_then distinct (parts 125 entry l.inner) ≡ rows_with entry found (l.end - l.counter) l.rest;
+      all : option_and_then distinct_flow_rows (parts 125 entry l.inner) ≡ rows_with entry found (l.end - l.counter) l.rest;
       apart : keys_differ found ≡ true;
       seen : (q : List ℕ) → is_seen l.rows.items (contains_text l.later) q ≡ has_key q found;
     }

@@ -14,14 +14,16 @@ loop-line-preserved c =
     let ls = c.args.lines.now in
     let i = c.loop-line.line-index in
     let part = c.behind_margin-part.result.now in
-    let at : At ls i c.line-item.result m part c.count_end-ended.result = record { within = c.loop-line-test.true; is = c.line-item.is; behind = c.behind_margin-part.ensures; end = c.count_end-ended.ensures.value } in
+    let at : At ls i c.line-item.result m part c.count_end-ended.result =
+    record { within = c.loop-line-test.true; is = c.line-item.is; behind = c.behind_margin-part.ensures; end = c.count_end-ended.ensures.value } in
     elim c.if-is_empty.branch [
       | then-is_empty w ↦
           (let none : is_nil part ≡ true = nil_or_not part true (sym c.is_empty.ensures ∙ w.if-is_empty.true) in
           record {
             together =
                 c.loop-line.invariant.together
-                ∙ (ap (λ (xs : List ℕ). string_bytes c.loop-line.text ++ xs) (passed-empty h m c.loop-line.before c.loop-line.empties c.loop-line.ends ls i c.line-item.result part c.count_end-ended.result at none)
+                ∙ (ap (λ (xs : List ℕ). string_bytes c.loop-line.text ++ xs) (passed-empty h m c.loop-line.before c.loop-line.empties c.loop-line.ends ls i c.line-item.result part
+                c.count_end-ended.result at none)
                 ∙ cc);
             empty = omega (arith, w.empties-is);
             ended = omega (arith, w.ends-is, c.count_end-ended.ensures.small);
@@ -34,8 +36,10 @@ loop-line-preserved c =
           w.in_ok-push_between.ensures ∙ ap (λ (b : Bool). old ++ between h.folded c.loop-line.before c.loop-line.empties b) w.begins_blank-blank.ensures in
           record {
             together =
-                pushed (passed h None 0 0 (without_margins m ls)) old (string_bytes w.push_between.new.text) (string_bytes w.push_characters.new.text) first (encode_utf8_all part) (passed h (Some (begins_blank part)) 0 c.count_end-ended.result (without_margins m (drop (i + 1) ls)))
-                (c.loop-line.invariant.together ∙ ap (λ (xs : List ℕ). old ++ xs) (passed-text h m c.loop-line.before c.loop-line.empties c.loop-line.ends ls i c.line-item.result part c.count_end-ended.result at other))
+                pushed (passed h None 0 0 (without_margins m ls)) old (string_bytes w.push_between.new.text) (string_bytes w.push_characters.new.text) first (encode_utf8_all part)
+                (passed h (Some (begins_blank part)) 0 c.count_end-ended.result (without_margins m (drop (i + 1) ls)))
+                (c.loop-line.invariant.together ∙ ap (λ (xs : List ℕ). old ++ xs)
+                (passed-text h m c.loop-line.before c.loop-line.empties c.loop-line.ends ls i c.line-item.result part c.count_end-ended.result at other))
                 put w.in_ok-push_characters.ensures
                 ∙ cc;
             empty = omega (arith, w.empties-is);
@@ -46,4 +50,6 @@ loop-line-preserved c =
 pub returns : goal.returns
 returns c =
     c.in_ok-push_end.ensures
-    ∙ sym (sym (passed_gives c.args.header (without_margins c.args.margin c.args.lines.now)) ∙ c.loop-line.invariant.together ∙ ap (λ (xs : List ℕ). string_bytes c.loop-line.text ++ xs) (passed-end c.args.header c.args.margin c.loop-line.before c.loop-line.empties c.loop-line.ends c.args.lines.now c.loop-line.line-index c.loop-line-test.false))
+    ∙ sym (sym (passed_gives c.args.header (without_margins c.args.margin c.args.lines.now)) ∙ c.loop-line.invariant.together
+    ∙ ap (λ (xs : List ℕ). string_bytes c.loop-line.text ++ xs) (passed-end c.args.header c.args.margin c.loop-line.before c.loop-line.empties c.loop-line.ends c.args.lines.now
+    c.loop-line.line-index c.loop-line-test.false))

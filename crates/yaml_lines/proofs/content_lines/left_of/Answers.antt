@@ -17,7 +17,8 @@ pub returns-then-begins_with_tab-clause-meant : goal.returns-then-begins_with_ta
 returns-then-begins_with_tab-clause-meant c =
     let good : list_all is_allowed c.args.text.now ≡ true = cc in
     let some : comment_or_end (trim_start c.args.text.now) ≡ false = ap comment_or_end (sym c.after_blanks.ensures) ∙ (sym c.comment_or_end.ensures ∙ c.if-comment_or_end.false) in
-    let i : Indented c.args.text.now c.skip-content.result.now c.spaces-indent.result = record { good = good; some = some; counted = c.spaces-indent.ensures.counted; behind = c.skip-content.ensures } in
+    let i : Indented c.args.text.now c.skip-content.result.now c.spaces-indent.result =
+    record { good = good; some = some; counted = c.spaces-indent.ensures.counted; behind = c.skip-content.ensures } in
     let tab : begins_with 9 c.skip-content.result.now ≡ true = cc in
     λ _. left_of-some c.args.flow c.args.text.now c.skip-content.result.now c.args.later.now c.spaces-indent.result true i tab
 
@@ -25,6 +26,7 @@ pub returns-clause-meant : goal.returns-clause-meant
 returns-clause-meant c =
     let good : list_all is_allowed c.args.text.now ≡ true = cc in
     let some : comment_or_end (trim_start c.args.text.now) ≡ false = ap comment_or_end (sym c.after_blanks.ensures) ∙ (sym c.comment_or_end.ensures ∙ c.if-comment_or_end.false) in
-    let i : Indented c.args.text.now c.skip-content.result.now c.spaces-indent.result = record { good = good; some = some; counted = c.spaces-indent.ensures.counted; behind = c.skip-content.ensures } in
+    let i : Indented c.args.text.now c.skip-content.result.now c.spaces-indent.result =
+    record { good = good; some = some; counted = c.spaces-indent.ensures.counted; behind = c.skip-content.ensures } in
     let other : begins_with 9 c.skip-content.result.now ≡ false = cc in
     rw (left_of-some c.args.flow c.args.text.now c.skip-content.result.now c.args.later.now c.spaces-indent.result false i other) c.with_flow.ensures.meant

@@ -1,9 +1,9 @@
 use Rattle.std.proofs.Common.{◌≡◌, ◌∙◌, arith, length-drop, ◌&&◌, ◌++◌, ◌∷◌, [], ◌+◌, ◌-◌, ◌<◌, get_or, sym, ap, ℕ, Bool, List, Option, Some, None, true, false, drop, length, take, true≢false}
 use Rattle.std.proofs.lemmas.List.{take_rest}
 use Rattle.yaml_lines.specs.BlockTexts.{LineText}
-use Rattle.yaml_lines.specs.declared.standing.Standing.{Standing}
+use Rattle.yaml_lines.specs.declared.line_state.LineState.{LineState}
 use Rattle.yaml_lines.specs.Entries.{ContentLine}
-use Rattle.yaml_lines.specs.Lines.{Left, standing, is_mark, is_start, left_at}
+use Rattle.yaml_lines.specs.Lines.{Left, standing, is_mark, is_start, left_at_line}
 use Rattle.yaml_lines.specs.declared.flow_state.FlowState.{FlowState}
 use Rattle.yaml_lines.proofs.Walks.{Stands, walked, walked_start, walked_end, walked_fault, walked_nothing, walked_place, walked_mark, walked_begin}
 use Rattle.yaml_lines.proofs.content_lines.read_lines.Goals as goal
@@ -15,11 +15,12 @@ loop-i-init c =
     ∙ ap (λ (f : FlowState). walked c.new-lines.result.items true (standing 0 f) c.args.raws.now 0) (sym c.outside.ensures)
 
 -- what the line at i leaves, by the code's slices
-stands : (at : Standing) (ls : List LineText) (i : ℕ) (l : LineText) (text : List ℕ) (o : Option Left) → i < length ls → l ≡ get_or ls i l → text ≡ l.text → left_at at text (take (length ls - (i + 1)) (drop (i + 1) ls)) ≡ o → Stands at ls i l o
+stands : (at : LineState) (ls : List LineText) (i : ℕ) (l : LineText) (text : List ℕ) (o : Option Left) → i < length ls → l ≡ get_or ls i l → text ≡ l.text
+    → left_at_line at text (take (length ls - (i + 1)) (drop (i + 1) ls)) ≡ o → Stands at ls i l o
 stands at ls i l text o within is t e = record {
   within = within;
   is = is;
-  left = ap (λ (cs : List ℕ). left_at at cs (drop (i + 1) ls)) (sym t) ∙ (ap (left_at at text) (sym (take_rest ls (i + 1))) ∙ e);
+  left = ap (λ (cs : List ℕ). left_at_line at cs (drop (i + 1) ls)) (sym t) ∙ (ap (left_at_line at text) (sym (take_rest ls (i + 1))) ∙ e);
 }
 
 pub returns-in-Err-clause-meant : goal.returns-in-Err-clause-meant
@@ -30,7 +31,8 @@ returns-in-Err-clause-meant c =
           rw w.result-is
           (c.loop-i.invariant
           ∙ walked_fault c.loop-i.lines.items c.loop-i.fresh c.loop-i.at c.args.raws.now c.loop-i.i c.index-raws-i.result
-          (stands c.loop-i.at c.args.raws.now c.loop-i.i c.index-raws-i.result c.text.result.now None c.loop-i-test.true c.index-raws-i.is c.text.ensures.characters (c.in-Err.ensures.meant w.in_default.not-OutOfMemory)))
+          (stands c.loop-i.at c.args.raws.now c.loop-i.i c.index-raws-i.result c.text.result.now None c.loop-i-test.true c.index-raws-i.is c.text.ensures.characters
+          (c.in-Err.ensures.meant w.in_default.not-OutOfMemory)))
     ]
 
 -- how many lines are left behind line i

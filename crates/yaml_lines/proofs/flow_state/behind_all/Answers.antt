@@ -12,7 +12,8 @@ returns-then-is_over c =
     let next : Behind = record { state = c.behind_token-in-loop.inside.state; rest = c.behind_token-in-loop.inside.rest.now } in
     let is : next ≡ behind_token c.loop.state c.loop.left.now = c.behind_token-in-loop.view_is ∙ c.behind_token.ensures in
     sym (c.loop.invariant
-    ∙ open_over (length c.args.text.now) c.loop.counter c.loop.state c.loop.left.now next c.loop-test.true (sym c.is_empty.ensures ∙ c.if-is_empty.false) is (sym c.is_over.ensures ∙ c.if-is_over.true))
+    ∙ open_over (length c.args.text.now) c.loop.counter c.loop.state c.loop.left.now next c.loop-test.true (sym c.is_empty.ensures ∙ c.if-is_empty.false) is
+    (sym c.is_over.ensures ∙ c.if-is_over.true))
 
 pub loop-preserved : goal.loop-preserved
 loop-preserved c =

@@ -13,7 +13,8 @@ returns-then-comment_or_end c =
     let p = c.args.line.now in
     let n = c.blanks-blanks.result in
     let rest = c.skip-rest.result.now in
-    let b : Behind p c.content.result.now rest (take n rest) c.skip-content.result.now n = record { same = c.content.ensures.characters; behind = c.skip-rest.ensures; counted = c.blanks-blanks.ensures.counted; follow = c.skip-content.ensures } in
+    let b : Behind p c.content.result.now rest (take n rest) c.skip-content.result.now n =
+    record { same = c.content.ensures.characters; behind = c.skip-rest.ensures; counted = c.blanks-blanks.ensures.counted; follow = c.skip-content.ensures } in
     let over : comment_or_end c.skip-content.result.now ≡ true = cc in
     item_of-behind p c.content.result.now rest (take n rest) c.skip-content.result.now n b refl
     ∙ ap (λ (o : Bool). cond o (Some []) (cond (list_all is_space (take n rest)) (Some (record { indent = p.indent + 1 + n; content = c.skip-content.result.now; block = p.block } ∷ [])) None)) over
@@ -23,7 +24,8 @@ returns-then-not-all_spaces c =
     let p = c.args.line.now in
     let n = c.blanks-blanks.result in
     let rest = c.skip-rest.result.now in
-    let b : Behind p c.content.result.now rest c.front.result.now c.skip-content.result.now n = record { same = c.content.ensures.characters; behind = c.skip-rest.ensures; counted = c.blanks-blanks.ensures.counted; follow = c.skip-content.ensures } in
+    let b : Behind p c.content.result.now rest c.front.result.now c.skip-content.result.now n =
+    record { same = c.content.ensures.characters; behind = c.skip-rest.ensures; counted = c.blanks-blanks.ensures.counted; follow = c.skip-content.ensures } in
     let over : comment_or_end c.skip-content.result.now ≡ false = cc in
     let tab : list_all is_space c.front.result.now ≡ false = cc in
     let place : Option (List ContentLine) = Some (record { indent = p.indent + 1 + n; content = c.skip-content.result.now; block = p.block } ∷ []) in
@@ -35,7 +37,8 @@ returns c =
     let p = c.args.line.now in
     let n = c.blanks-blanks.result in
     let rest = c.skip-rest.result.now in
-    let b : Behind p c.content.result.now rest c.front.result.now c.skip-content.result.now n = record { same = c.content.ensures.characters; behind = c.skip-rest.ensures; counted = c.blanks-blanks.ensures.counted; follow = c.skip-content.ensures } in
+    let b : Behind p c.content.result.now rest c.front.result.now c.skip-content.result.now n =
+    record { same = c.content.ensures.characters; behind = c.skip-rest.ensures; counted = c.blanks-blanks.ensures.counted; follow = c.skip-content.ensures } in
     let over : comment_or_end c.skip-content.result.now ≡ false = cc in
     let spaces : list_all is_space c.front.result.now ≡ true = cc in
     let place : ℕ → Option (List ℕ) → Option (List ContentLine) = λ at block. Some (record { indent = at; content = c.skip-content.result.now; block = block } ∷ []) in

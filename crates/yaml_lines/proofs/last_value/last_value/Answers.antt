@@ -1,7 +1,7 @@
 use Rattle.std.proofs.Common.{◌≡◌, ◌∙◌, ◌+◌, ◌&&◌, eqb, sym, ap, ℕ, List, Option, None, true, false, drop}
 use Rattle.std.proofs.lemmas.Result.{IfOk-weaker}
 use Rattle.yaml_lines.specs.Characters.{is_blank, blank_or_end}
-use Rattle.yaml_lines.specs.Entries.{entry_of}
+use Rattle.yaml_lines.specs.Entries.{entry_of_line}
 use Rattle.yaml_lines.specs.Lines.{ColumnValue, value_at, last_value}
 use Rattle.yaml_lines.proofs.Left.{OnLine, last_value-blank, last_value-dash, last_value-value, last_value-end, no_dash, dash_in_word}
 use Rattle.yaml_lines.proofs.last_value.last_value.Goals as goal
@@ -20,9 +20,9 @@ returns-then-not-is_blank c =
       | else-c-eq45-via-then-c-eq45+else-blank_or_end w ↦ dash_in_word x (blank_or_end rest) (ap blank_or_end (sym w.skip.ensures) ∙ (sym w.blank_or_end.ensures ∙ w.if-blank_or_end.false))
       | else-c-eq45-via-else-c-eq45 w ↦ no_dash x (blank_or_end rest) w.if-c-eq45.false
     ] in
-    let all : last_value c.args.indent None t ≡ value_at (c.args.indent + i) c.loop-i.dash (drop i t) (entry_of (drop i t)) =
+    let all : last_value c.args.indent None t ≡ value_at (c.args.indent + i) c.loop-i.dash (drop i t) (entry_of_line (drop i t)) =
     c.loop-i.invariant ∙ last_value-value c.args.indent c.loop-i.dash t i x on blank word in
-    let f : List ℕ → Option ColumnValue = λ cs. value_at (c.args.indent + i) c.loop-i.dash cs (entry_of cs) in
+    let f : List ℕ → Option ColumnValue = λ cs. value_at (c.args.indent + i) c.loop-i.dash cs (entry_of_line cs) in
     IfOk-weaker c.value_at.result _ _ (λ v h. h ∙ (ap f c.skip-then-not-is_blank.ensures ∙ sym all)) c.value_at.ensures
 
 pub loop-i-preserved : goal.loop-i-preserved

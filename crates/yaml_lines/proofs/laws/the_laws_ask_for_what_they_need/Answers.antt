@@ -1,8 +1,8 @@
 -- Each clause is computed.
 use Rattle.std.proofs.Common.{refl}
 use Rattle.yaml_lines.specs.BlockTexts.{header_of, margin_of, is_ragged, joined}
-use Rattle.yaml_lines.specs.Entries.{entry_of}
-use Rattle.yaml_lines.specs.Lines.{last_value, with_text, with_value, with_flow, left_of, left_at, all_content_lines, document, content_lines_from}
+use Rattle.yaml_lines.specs.Entries.{entry_of_line}
+use Rattle.yaml_lines.specs.Lines.{last_value, with_text, with_value, with_flow, left_of, left_at_line, all_content_lines, document, content_lines_from}
 use Rattle.yaml_lines.specs.Plain.{begins_plain, uncommented, trim_end, sides_of, plain_of}
 use Rattle.yaml_lines.specs.Quoted.{single_step, double_step, escaped, named, quoted_within, quoted_of}
 use Rattle.yaml_lines.specs.Scalars.{scalar_meaning}
@@ -25,11 +25,11 @@ unfolding scalar_meaning quoted_of quoted_within single_step
 returns-clause-feed c = refl
 
 pub returns-clause-key : goal.returns-clause-key
-unfolding entry_of quoted_of quoted_within single_step
+unfolding entry_of_line quoted_of quoted_within single_step
 returns-clause-key c = refl
 
 pub returns-clause-colon : goal.returns-clause-colon
-unfolding entry_of plain_of begins_plain sides_of uncommented trim_end lib.Utf8.encode
+unfolding entry_of_line plain_of begins_plain sides_of uncommented trim_end lib.Utf8.encode
 returns-clause-colon c = (record { plain = refl; without_comment = refl; without_blanks = refl }, refl)
 
 pub returns-clause-behind : goal.returns-clause-behind
@@ -41,9 +41,10 @@ unfolding scalar_meaning plain_of begins_plain sides_of uncommented trim_end lib
 returns-clause-hash c = refl
 
 pub returns-clause-block_line : goal.returns-clause-block_line
-unfolding content_lines_from all_content_lines left_at left_of with_flow with_value with_text last_value entry_of begins_plain sides_of trim_end header_of margin_of is_ragged joined document lib.Utf8.encode
+unfolding content_lines_from all_content_lines left_at_line left_of with_flow with_value with_text last_value entry_of_line begins_plain sides_of trim_end header_of margin_of is_ragged joined document
+    lib.Utf8.encode
 returns-clause-block_line c = refl
 
 pub returns-clause-without_it : goal.returns-clause-without_it
-unfolding content_lines_from all_content_lines left_at left_of with_flow with_value with_text last_value entry_of begins_plain sides_of trim_end header_of margin_of is_ragged joined document
+unfolding content_lines_from all_content_lines left_at_line left_of with_flow with_value with_text last_value entry_of_line begins_plain sides_of trim_end header_of margin_of is_ragged joined document
 returns-clause-without_it c = refl

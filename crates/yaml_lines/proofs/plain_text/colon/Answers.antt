@@ -6,7 +6,8 @@ use Rattle.yaml_lines.proofs.plain_text.colon.Goals.{else-free-via-then-free+els
 
 pub returns-then-c-eq35 : goal.returns-then-c-eq35
 returns-then-c-eq35 c =
-    c.loop-i.invariant ∙ sides_from_hash c.args.content.now c.loop-i.free c.loop-i.i c.index-content-i.result c.loop-i-test.true c.index-content-i.is (is_hash c.loop-i.free c.index-content-i.result c.if-free.true c.if-c-eq35.true)
+    c.loop-i.invariant ∙ sides_from_hash c.args.content.now c.loop-i.free c.loop-i.i c.index-content-i.result c.loop-i-test.true c.index-content-i.is
+    (is_hash c.loop-i.free c.index-content-i.result c.if-free.true c.if-c-eq35.true)
 
 pub returns-then-blank_or_end : goal.returns-then-blank_or_end
 returns-then-blank_or_end c =

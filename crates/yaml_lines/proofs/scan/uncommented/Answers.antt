@@ -5,16 +5,19 @@ use Rattle.yaml_lines.proofs.scan.uncommented.Goals.{else-free-via-then-free+els
 
 pub returns-then-c-eq35-clause-value : goal.returns-then-c-eq35-clause-value
 returns-then-c-eq35-clause-value c =
-    c.front.ensures ∙ sym (c.loop-i.invariant ∙ uncommented_from_hash c.args.text.now c.loop-i.free c.loop-i.i c.index-text-i.result c.loop-i-test.true c.index-text-i.is (is_hash c.loop-i.free c.index-text-i.result c.if-free.true c.if-c-eq35.true))
+    c.front.ensures ∙ sym (c.loop-i.invariant ∙ uncommented_from_hash c.args.text.now c.loop-i.free c.loop-i.i c.index-text-i.result c.loop-i-test.true c.index-text-i.is
+    (is_hash c.loop-i.free c.index-text-i.result c.if-free.true c.if-c-eq35.true))
 
 pub loop-i-preserved : goal.loop-i-preserved
 loop-i-preserved c =
     let same = ap (λ (b : Bool). uncommented_from c.args.text.now b (c.loop-i.i + 1)) (sym c.is_blank-free.ensures) in
     elim c.else-free.branch [
       | else-free-via-then-free+else-c-eq35 w ↦
-          c.loop-i.invariant ∙ (uncommented_from_other c.args.text.now c.loop-i.free c.loop-i.i c.index-text-i.result c.loop-i-test.true c.index-text-i.is (no_hash c.loop-i.free c.index-text-i.result w.if-c-eq35.false) ∙ same)
+          c.loop-i.invariant ∙ (uncommented_from_other c.args.text.now c.loop-i.free c.loop-i.i c.index-text-i.result c.loop-i-test.true c.index-text-i.is
+          (no_hash c.loop-i.free c.index-text-i.result w.if-c-eq35.false) ∙ same)
       | else-free-via-else-free w ↦
-          c.loop-i.invariant ∙ (uncommented_from_other c.args.text.now c.loop-i.free c.loop-i.i c.index-text-i.result c.loop-i-test.true c.index-text-i.is (not_free c.loop-i.free c.index-text-i.result w.if-free.false) ∙ same)
+          c.loop-i.invariant ∙ (uncommented_from_other c.args.text.now c.loop-i.free c.loop-i.i c.index-text-i.result c.loop-i-test.true c.index-text-i.is
+          (not_free c.loop-i.free c.index-text-i.result w.if-free.false) ∙ same)
     ]
 
 pub returns-clause-value : goal.returns-clause-value

@@ -4,7 +4,7 @@ use Rattle.std.specs.BTreeSet.{contains_text}
 use Rattle.yaml_lines.specs.View.{view, member_view}
 use Rattle.yaml_flows.specs.Keys.{keys_differ}
 use Rattle.yaml_profile.specs.Blocks as blocks
-use Rattle.yaml_profile.specs.Blocks.{all_of, parts, is_deeper, is_below_key, list_of, table_of}
+use Rattle.yaml_profile.specs.Blocks.{all_of, parts, is_deeper, is_below_key, list_meaning, table_meaning}
 use Rattle.yaml_lines.specs.ViewLemmas.{view-List, view-Table}
 use Rattle.yaml_profile.proofs.Lists.{prepend, one_more, refused, all_read}
 use Rattle.yaml_profile.proofs.Nodes.{node-no_room, node-list, node-table, node-line}
@@ -33,7 +33,8 @@ items-items-init t c =
           ∙ ap (λ ps. prepend [] (all_of (blocks.item node indent) ps)) (begun (is_deeper indent) _ _ _ _ _ refl c.split_deeper.ensures.below c.split_deeper.ensures.rest)
           ∙ one_more (blocks.item node indent) [] _ _ (view c.in_ok-item.field-0) c.in_ok-item.ensures
           ∙ ap (λ vs. prepend vs (all_of (blocks.item node indent) (parts (is_deeper indent) c.split_deeper.result.1.now)))
-          (sym (map_push view c.new-found.result.items c.push.new.self.items c.in_ok-item.field-0 c.in_ok-push.ensures.items ∙ ap (λ vs. map view vs ++ view c.in_ok-item.field-0 ∷ []) c.new-found.ensures.items)),
+          (sym (map_push view c.new-found.result.items c.push.new.self.items c.in_ok-item.field-0 c.in_ok-push.ensures.items
+          ∙ ap (λ vs. map view vs ++ view c.in_ok-item.field-0 ∷ []) c.new-found.ensures.items)),
     )
 
 pub items-returns-in_err-item-2 : goal.items-returns-in_err-item-2
@@ -80,12 +81,12 @@ node-returns-in_err-found t c =
     let p = err_from_is_err_and c.from_residual.result c.from_residual.ensures.1 in
     rw (p.1, p.2) (λ other.
     node-list c.args.room c.args.first.now c.args.later.now (omega arith) (grind arith)
-    ∙ ap list_of (c.in_err-found.ensures other))
+    ∙ ap list_meaning (c.in_err-found.ensures other))
 
 pub node-returns-then-is_item : goal.node-returns-then-is_item
 node-returns-then-is_item t c =
     node-list c.args.room c.args.first.now c.args.later.now (omega arith) (grind arith)
-    ∙ ap list_of c.in_ok-found.ensures
+    ∙ ap list_meaning c.in_ok-found.ensures
     ∙ ap (λ m. Some m) (sym (view-List c.in_ok-found.found))
 
 pub node-returns-in_err-found-2 : goal.node-returns-in_err-found-2
@@ -93,12 +94,12 @@ node-returns-in_err-found-2 t c =
     let p = err_from_is_err_and c.from_residual-in_err-found-2.result c.from_residual-in_err-found-2.ensures.1 in
     rw (p.1, p.2) (λ other.
     node-table c.args.room c.args.first.now c.args.later.now (omega arith) (grind arith) (grind arith)
-    ∙ ap table_of (c.in_err-found-2.ensures other))
+    ∙ ap table_meaning (c.in_err-found-2.ensures other))
 
 pub node-returns-then-is_some : goal.node-returns-then-is_some
 node-returns-then-is_some t c =
     node-table c.args.room c.args.first.now c.args.later.now (omega arith) (grind arith) (grind arith)
-    ∙ ap table_of c.in_ok-found-2.ensures
+    ∙ ap table_meaning c.in_ok-found-2.ensures
     ∙ ap (λ m. Some m) (sym (view-Table c.in_ok-found-2.found))
 
 pub node-returns : goal.node-returns

@@ -10,4 +10,5 @@ returns-in_default-mode_and_digest-clause-unread c =
 pub returns-in_err-path-clause-unread : goal.returns-in_err-path-clause-unread
 returns-in_err-path-clause-unread c =
     let p = err_from_is_err_and c.from_residual.result c.from_residual.ensures.1 in
-    rw (p.1, p.2) (unread_weaker _ _ c.in_err-path.field-0.0 (seen_other_path c.args.bytes.now c.in-Some.path.now c.in-Some.rest.now c.in-Some.ensures.few c.in-Some.ensures.found) c.in_err-path.ensures.unread)
+    rw (p.1, p.2) (unread_weaker _ _ c.in_err-path.field-0.0 (seen_other_path c.args.bytes.now c.in-Some.path.now c.in-Some.rest.now c.in-Some.ensures.few c.in-Some.ensures.found)
+    c.in_err-path.ensures.unread)

@@ -10,4 +10,5 @@ returns-in_err-number-clause-command g c =
 
 pub returns-clause-command : goal.returns-clause-command
 returns-clause-command g c =
-    accept_done g.S.Store c.args.self.now.store c.args.self.now.store c.accept.new.self refl (λ none. search rules) c.in_ok-number.number c.in_ok-number.ensures.change.done c.in_ok-number.ensures.transaction _
+    accept_done g.S.Store c.args.self.now.store c.args.self.now.store c.accept.new.self refl (λ none. search rules) c.in_ok-number.number c.in_ok-number.ensures.change.done
+    c.in_ok-number.ensures.transaction _

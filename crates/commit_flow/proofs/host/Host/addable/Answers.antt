@@ -6,4 +6,5 @@ use Rattle.commit_flow.proofs.host.Host.addable.Goals as goal
 pub returns-in_err-path-clause-refused : goal.returns-in_err-path-clause-refused
 returns-in_err-path-clause-refused g c =
     let p = err_from_is_err_and c.from_residual.result c.from_residual.ensures.1 in
-    rw (p.1, p.2) (read_refused (IsUnaddable c.args.self.now.store.kept.repo c.args.path.now c.args.bytes.now) c.args.path.now (λ fault is. is) (λ legal. legal) c.in_err-path.field-0.0 c.in_err-path.ensures.refused)
+    rw (p.1, p.2) (read_refused (IsUnaddable c.args.self.now.store.kept.repo c.args.path.now c.args.bytes.now) c.args.path.now (λ fault is. is) (λ legal. legal) c.in_err-path.field-0.0
+    c.in_err-path.ensures.refused)

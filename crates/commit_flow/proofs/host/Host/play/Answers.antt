@@ -44,11 +44,13 @@ returns-clause-run g c =
     let children = g.C.Children in
     let from = moment (children.call_count c.args.children.now) (children.fault_count c.args.children.now) (remembered_by c.args.self.now.store.kept) in
     let to = moment (children.call_count c.commands.children) (children.fault_count c.commands.children) (remembered_by c.commands.self.store.kept) in
-    play_of_safe g.S.Store (children.tells c.args.children.now) from to c.args.self.now.store c.commands.self.store c.args.commands.now c.commands.replies.items (rw (take_all c.commands.command-index c.args.commands.now (omega (arith, c.commands-test.false))) at c.commands.invariant.safe)
+    play_of_safe g.S.Store (children.tells c.args.children.now) from to c.args.self.now.store c.commands.self.store c.args.commands.now c.commands.replies.items
+    (rw (take_all c.commands.command-index c.args.commands.now (omega (arith, c.commands-test.false))) at c.commands.invariant.safe)
 
 pub returns-clause-stands : goal.returns-clause-stands
 returns-clause-stands g c =
     let children = g.C.Children in
     let from = moment (children.call_count c.args.children.now) (children.fault_count c.args.children.now) (remembered_by c.args.self.now.store.kept) in
     let to = moment (children.call_count c.commands.children) (children.fault_count c.commands.children) (remembered_by c.commands.self.store.kept) in
-    safe_stands g.S.Store (children.tells c.args.children.now) from to c.args.self.now.store c.commands.self.store c.args.commands.now c.commands.replies.items (rw (take_all c.commands.command-index c.args.commands.now (omega (arith, c.commands-test.false))) at c.commands.invariant.safe)
+    safe_stands g.S.Store (children.tells c.args.children.now) from to c.args.self.now.store c.commands.self.store c.args.commands.now c.commands.replies.items
+    (rw (take_all c.commands.command-index c.args.commands.now (omega (arith, c.commands-test.false))) at c.commands.invariant.safe)

@@ -14,8 +14,10 @@ returns-in-Add-clause-played g c =
     let faults = children.fault_count c.args.children.now in
     let old = c.args.self.now.store in
     let new = c.play_add.new.self.store in
-    rw c.in-Add.is (runless_safely g.S.Store tells (moment calls faults (remembered_by old.kept)) (moment calls faults (remembered_by new.kept)) old new refl refl _ c.play_add.result (λ runs. runs) c.play_add.ensures.step
-    (unmade_of tells reuse.All calls faults (remembered_by old.kept) (remembered_by new.kept) (same_remembered old.kept new.kept c.play_add.ensures.answers c.play_add.ensures.limit)) c.play_add.ensures.one)
+    rw c.in-Add.is (runless_safely g.S.Store tells (moment calls faults (remembered_by old.kept)) (moment calls faults (remembered_by new.kept)) old new refl refl _ c.play_add.result (λ runs. runs)
+    c.play_add.ensures.step
+    (unmade_of tells reuse.All calls faults (remembered_by old.kept) (remembered_by new.kept) (same_remembered old.kept new.kept c.play_add.ensures.answers c.play_add.ensures.limit))
+    c.play_add.ensures.one)
 
 pub returns-in-Remove-clause-played : goal.returns-in-Remove-clause-played
 returns-in-Remove-clause-played g c =
@@ -25,8 +27,10 @@ returns-in-Remove-clause-played g c =
     let faults = children.fault_count c.args.children.now in
     let old = c.args.self.now.store in
     let new = c.play_remove.new.self.store in
-    rw c.in-Remove.is (runless_safely g.S.Store tells (moment calls faults (remembered_by old.kept)) (moment calls faults (remembered_by new.kept)) old new refl refl _ c.play_remove.result (λ runs. runs) c.play_remove.ensures.step
-    (unmade_of tells reuse.All calls faults (remembered_by old.kept) (remembered_by new.kept) (same_remembered old.kept new.kept c.play_remove.ensures.answers c.play_remove.ensures.limit)) c.play_remove.ensures.one)
+    rw c.in-Remove.is (runless_safely g.S.Store tells (moment calls faults (remembered_by old.kept)) (moment calls faults (remembered_by new.kept)) old new refl refl _ c.play_remove.result
+    (λ runs. runs) c.play_remove.ensures.step
+    (unmade_of tells reuse.All calls faults (remembered_by old.kept) (remembered_by new.kept) (same_remembered old.kept new.kept c.play_remove.ensures.answers c.play_remove.ensures.limit))
+    c.play_remove.ensures.one)
 
 pub returns-in-Accept-clause-played : goal.returns-in-Accept-clause-played
 returns-in-Accept-clause-played g c =
@@ -36,8 +40,10 @@ returns-in-Accept-clause-played g c =
     let faults = children.fault_count c.args.children.now in
     let old = c.args.self.now.store in
     let new = c.play_accept.new.self.store in
-    rw c.in-Accept.is (runless_safely g.S.Store tells (moment calls faults (remembered_by old.kept)) (moment calls faults (remembered_by new.kept)) old new refl refl _ c.play_accept.result (λ runs. runs) c.play_accept.ensures.step
-    (unmade_of tells reuse.All calls faults (remembered_by old.kept) (remembered_by new.kept) (same_remembered old.kept new.kept c.play_accept.ensures.answers c.play_accept.ensures.limit)) c.play_accept.ensures.one)
+    rw c.in-Accept.is (runless_safely g.S.Store tells (moment calls faults (remembered_by old.kept)) (moment calls faults (remembered_by new.kept)) old new refl refl _ c.play_accept.result
+    (λ runs. runs) c.play_accept.ensures.step
+    (unmade_of tells reuse.All calls faults (remembered_by old.kept) (remembered_by new.kept) (same_remembered old.kept new.kept c.play_accept.ensures.answers c.play_accept.ensures.limit))
+    c.play_accept.ensures.one)
 
 pub returns-in-Forget-clause-played : goal.returns-in-Forget-clause-played
 returns-in-Forget-clause-played g c =
@@ -46,5 +52,6 @@ returns-in-Forget-clause-played g c =
     let faults = children.fault_count c.args.children.now in
     let old = c.args.self.now.store in
     let new = c.play_forget.new.self.store in
-    rw c.in-Forget.is (runless_safely g.S.Store (children.tells c.args.children.now) (moment calls faults (remembered_by old.kept)) (moment calls faults (remembered_by new.kept)) old new refl refl _ c.play_forget.result (λ runs. runs) c.play_forget.ensures.step
+    rw c.in-Forget.is (runless_safely g.S.Store (children.tells c.args.children.now) (moment calls faults (remembered_by old.kept)) (moment calls faults (remembered_by new.kept)) old new refl refl _
+    c.play_forget.result (λ runs. runs) c.play_forget.ensures.step
     (refl, record { forgotten = c.play_forget.ensures.forgotten; called = refl; faulted = refl }) c.play_forget.ensures.one)

@@ -10,14 +10,16 @@ returns-in_err-stage_all-clause-refused g c =
 pub returns-in_err-stage_all-clause-command : goal.returns-in_err-stage_all-clause-command
 returns-in_err-stage_all-clause-command g c =
     let p = err_from_is_err_and c.from_residual.result c.from_residual.ensures.1 in
-    rw p.1 (edits_refused g.S.Store c.args.self.now.store c.stage_all.new.self c.args.edits.now c.in_err-stage_all.field-0.0 p.0 c.in_err-stage_all.ensures.asked c.in_err-stage_all.ensures.transaction)
+    rw p.1 (edits_refused g.S.Store c.args.self.now.store c.stage_all.new.self c.args.edits.now c.in_err-stage_all.field-0.0 p.0 c.in_err-stage_all.ensures.asked
+    c.in_err-stage_all.ensures.transaction)
 
 pub returns-clause-steps : goal.returns-clause-steps
 returns-clause-steps g c = rw c.in_ok-stage_all.ensures.change.done (all_steps c.args.edits.now c.args.self.now.store.kept c.in_ok-stage_all.ensures.editable)
 
 pub returns-clause-command : goal.returns-clause-command
 returns-clause-command g c =
-    edits_done g.S.Store c.args.self.now.store c.stage_all.new.self c.args.edits.now tt tt c.in_ok-stage_all.ensures.editable c.in_ok-stage_all.ensures.change.done c.in_ok-stage_all.ensures.transaction
+    edits_done g.S.Store c.args.self.now.store c.stage_all.new.self c.args.edits.now tt tt c.in_ok-stage_all.ensures.editable c.in_ok-stage_all.ensures.change.done
+    c.in_ok-stage_all.ensures.transaction
 
 pub returns-clause-apart : goal.returns-clause-apart
 returns-clause-apart g c = none_collides c.args.edits.now c.args.self.now.store.kept c.in_ok-stage_all.ensures.editable

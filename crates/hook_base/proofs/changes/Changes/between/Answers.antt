@@ -22,11 +22,13 @@ rows-preserved c =
     let left = ap (λ (rows : List File). changes_between rows after) rest in
     let more = c.in_ok-add_change.ensures ∙ ap (λ (now : Option FileEntry). c.rows.changes.items ++ change_to row now) c.reach-reached.ensures.entry in
     let at = get_or_from_slice_get before k row row c.entry-row.ensures.row in (
-      walk_step c.rows.changes.items c.add_change.new.changes.items (change_to row (entry_of row.path after)) (changes_between (drop (k + 1) before) after) (changes_between (drop k before) after) (changes_between before after) more left c.rows.invariant.0,
+      walk_step c.rows.changes.items c.add_change.new.changes.items (change_to row (entry_of row.path after)) (changes_between (drop (k + 1) before) after) (changes_between (drop k before) after)
+          (changes_between before after) more left c.rows.invariant.0,
       λ d within.
           let step : suc k < length before = omega arith in
           let below = subst (λ (n : ℕ). IsBelow (get_or before k row).path (get_or before n d).path) next (rising_next path_of before k row d step c.entry-row.ensures.rising) in
-          UpTo-later row.path (get_or before (k + 1) d).path after c.reach-reached.result.index (subst (λ (first : File). IsBelow first.path (get_or before (k + 1) d).path) at below) c.reach-reached.ensures.passed,
+          UpTo-later row.path (get_or before (k + 1) d).path after c.reach-reached.result.index (subst (λ (first : File). IsBelow first.path (get_or before (k + 1) d).path) at below)
+          c.reach-reached.ensures.passed,
     )
 
 pub invariant_of-result : goal.invariant_of-result

@@ -14,4 +14,5 @@ invariant_of-result c =
 
 pub returns : goal.returns
 returns c =
-    ap (λ (base : List File). live_rows base c.in_ok-states.states.items) c.in_ok-base.ensures ∙ (ap (λ (states : List RowState). live_rows c.args.rows.items states) c.in_ok-states.ensures ∙ live_rows-kept c.args.rows.items)
+    ap (λ (base : List File). live_rows base c.in_ok-states.states.items) c.in_ok-base.ensures
+    ∙ (ap (λ (states : List RowState). live_rows c.args.rows.items states) c.in_ok-states.ensures ∙ live_rows-kept c.args.rows.items)

@@ -13,7 +13,9 @@ remove-gone-requires c =
 
 pub set_state-requires : goal.set_state-requires
 set_state-requires c =
-    let is = chosen c.self.inside.base c.self.inside.states.items c.self.inside.live.items c.args.self.now c.args.index c.remove-gone.result c.self.invariant.1 c.self.invariant.2 c.self.view_is c.requires c.remove-gone.ensures.value in
+    let is =
+    chosen c.self.inside.base c.self.inside.states.items c.self.inside.live.items c.args.self.now c.args.index c.remove-gone.result c.self.invariant.1 c.self.invariant.2 c.self.view_is c.requires
+    c.remove-gone.ensures.value in
     nth-within c.self.inside.states.items c.args.index c.remove-gone.result is
 
 pub invariant_of-self : goal.invariant_of-self
@@ -22,8 +24,12 @@ invariant_of-self c =
     let states = c.self.inside.states.items in
     let k = c.remove-gone.result in
     let is = chosen base states c.self.inside.live.items c.args.self.now c.args.index k c.self.invariant.1 c.self.invariant.2 c.self.view_is c.requires c.remove-gone.ensures.value in
-    let live = ap (λ (indices : List ℕ). remove indices c.args.index) c.self.invariant.2 ∙ sym (live_indices-removed 0 states c.args.index k is) in
-    (c.self.invariant.0, subst (λ (states : List RowState). AreStatesOf base states) (sym c.set_state.ensures) (states-set base states k Gone c.self.invariant.1 (λ d. tt)), c.remove-gone.ensures.items ∙ (live ∙ ap (λ (states : List RowState). live_indices 0 states) (sym c.set_state.ensures)))
+    let live = ap (λ (indices : List ℕ). remove indices c.args.index) c.self.invariant.2 ∙ sym (live_indices-removed 0 states c.args.index k is) in (
+      c.self.invariant.0,
+      subst (λ (states : List RowState). AreStatesOf base states) (sym c.set_state.ensures) (states-set base states k Gone c.self.invariant.1 (λ d. tt)),
+      c.remove-gone.ensures.items
+          ∙ (live ∙ ap (λ (states : List RowState). live_indices 0 states) (sym c.set_state.ensures)),
+    )
 
 pub returns : goal.returns
 returns c =
@@ -31,4 +37,5 @@ returns c =
     let states = c.self.inside.states.items in
     let k = c.remove-gone.result in
     let is = chosen base states c.self.inside.live.items c.args.self.now c.args.index k c.self.invariant.1 c.self.invariant.2 c.self.view_is c.requires c.remove-gone.ensures.value in
-    ap (λ (states : List RowState). live_rows base states) c.set_state.ensures ∙ (live_rows-removed base states c.args.index k c.self.invariant.1 is ∙ ap (λ (rows : List File). remove rows c.args.index) c.self.view_is)
+    ap (λ (states : List RowState). live_rows base states) c.set_state.ensures
+    ∙ (live_rows-removed base states c.args.index k c.self.invariant.1 is ∙ ap (λ (rows : List File). remove rows c.args.index) c.self.view_is)

@@ -14,7 +14,9 @@ index-requires c =
 
 pub standing_row-requires-clause-row : goal.standing_row-requires-clause-row
 standing_row-requires-clause-row c =
-    let is = chosen c.self.inside.base c.self.inside.states.items c.self.inside.live.items c.args.self.now c.args.index c.index.result.now c.self.invariant.1 c.self.invariant.2 c.self.view_is c.requires c.index.ensures in
+    let is =
+    chosen c.self.inside.base c.self.inside.states.items c.self.inside.live.items c.args.self.now c.args.index c.index.result.now c.self.invariant.1 c.self.invariant.2 c.self.view_is c.requires
+    c.index.ensures in
     let within = nth-within c.self.inside.states.items c.args.index c.index.result.now is in
     let same = states-length c.self.inside.base c.self.inside.states.items c.self.invariant.1 in
     let shown = ap length c.as_slice.ensures in
@@ -22,7 +24,9 @@ standing_row-requires-clause-row c =
 
 pub standing_row-requires-clause-state : goal.standing_row-requires-clause-state
 standing_row-requires-clause-state c =
-    let is = chosen c.self.inside.base c.self.inside.states.items c.self.inside.live.items c.args.self.now c.args.index c.index.result.now c.self.invariant.1 c.self.invariant.2 c.self.view_is c.requires c.index.ensures in
+    let is =
+    chosen c.self.inside.base c.self.inside.states.items c.self.inside.live.items c.args.self.now c.args.index c.index.result.now c.self.invariant.1 c.self.invariant.2 c.self.view_is c.requires
+    c.index.ensures in
     let within = nth-within c.self.inside.states.items c.args.index c.index.result.now is in
     let shown = ap length c.as_slice-2.ensures.value in
     omega arith

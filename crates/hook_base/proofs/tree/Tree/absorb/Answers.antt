@@ -21,8 +21,11 @@ returns-in_err-base-clause-rising c =
 pub invariant_of-self : goal.invariant_of-self
 invariant_of-self c =
     let before = rising_now c.self.inside.added.items c.self.inside.base c.args.self.now c.self.invariant.1 c.self.view_is in
-    let is = c.in_ok-base.ensures ∙ ap (λ (rows : List File). apply_changes c.args.changes.items rows) c.in_ok-as_base.ensures in
-    (subst IsRising (sym c.new-added.ensures.items) tt, subst IsRising (sym is) (IsRising-apply_changes c.args.changes.items c.args.self.now before), subst (λ (rows : List File). AreApart rows c.in_ok-base.base) (sym c.new-added.ensures.items) (apart_none c.in_ok-base.base))
+    let is = c.in_ok-base.ensures ∙ ap (λ (rows : List File). apply_changes c.args.changes.items rows) c.in_ok-as_base.ensures in (
+      subst IsRising (sym c.new-added.ensures.items) tt,
+      subst IsRising (sym is) (IsRising-apply_changes c.args.changes.items c.args.self.now before),
+      subst (λ (rows : List File). AreApart rows c.in_ok-base.base) (sym c.new-added.ensures.items) (apart_none c.in_ok-base.base),
+    )
 
 pub returns-clause-rising : goal.returns-clause-rising
 returns-clause-rising c =

@@ -9,4 +9,5 @@ pub returns-then-len-eq0 : goal.returns-then-len-eq0
 returns-then-len-eq0 c =
     let added = c.self.inside.added.items in
     let none = empty_list c.self.inside.base (sym c.len.ensures.count ∙ c.if-len-eq0.true) in
-    ap (λ (rows : List File). put_rows rows c.in_ok-base.base) c.new-added.ensures.items ∙ (c.in_ok-base.ensures ∙ (c.in_ok-copy_rows.ensures ∙ (sym (put_rows-none added c.self.invariant.0) ∙ (ap (λ (rows : List File). put_rows added rows) (sym none) ∙ c.self.view_is))))
+    ap (λ (rows : List File). put_rows rows c.in_ok-base.base) c.new-added.ensures.items
+    ∙ (c.in_ok-base.ensures ∙ (c.in_ok-copy_rows.ensures ∙ (sym (put_rows-none added c.self.invariant.0) ∙ (ap (λ (rows : List File). put_rows added rows) (sym none) ∙ c.self.view_is))))

@@ -27,8 +27,12 @@ invariant_of-self c =
     let added = c.self.inside.added.items in
     let at = is_at c.as_file.result.now c.args.file base c.in-At.index c.as_file.ensures c.in-At.ensures.place in
     let is = c.replace.ensures ∙ sym (put_row-at c.args.file base c.in-At.index at) in
-    let absent = absent_at c.args.file.path added base c.in-At.index c.self.invariant.2 at in
-    (c.self.invariant.0, subst IsRising (sym is) (IsRising-put_row c.args.file base c.self.invariant.1), subst (λ (rows : List File). AreApart added rows) (sym is) (apart-put_rows c.args.file added base c.self.invariant.2 absent))
+    let absent = absent_at c.args.file.path added base c.in-At.index c.self.invariant.2 at in (
+      c.self.invariant.0,
+      subst IsRising (sym is) (IsRising-put_row c.args.file base c.self.invariant.1),
+      subst (λ (rows : List File). AreApart added rows) (sym is)
+          (apart-put_rows c.args.file added base c.self.invariant.2 absent),
+    )
 
 pub returns-in-At-clause-put : goal.returns-in-At-clause-put
 returns-in-At-clause-put c =
@@ -37,7 +41,8 @@ returns-in-At-clause-put c =
     let at = is_at c.as_file.result.now c.args.file base c.in-At.index c.as_file.ensures c.in-At.ensures.place in
     let is = c.replace.ensures ∙ sym (put_row-at c.args.file base c.in-At.index at) in
     let absent = absent_at c.args.file.path added base c.in-At.index c.self.invariant.2 at in
-    ap (λ (rows : List File). put_rows added rows) is ∙ (put_row-rows c.args.file added base c.self.invariant.0 c.self.invariant.1 absent ∙ ap (λ (rows : List File). put_row c.args.file rows) c.self.view_is)
+    ap (λ (rows : List File). put_rows added rows) is ∙ (put_row-rows c.args.file added base c.self.invariant.0 c.self.invariant.1 absent
+    ∙ ap (λ (rows : List File). put_row c.args.file rows) c.self.view_is)
 
 pub returns-in-At-clause-rising : goal.returns-in-At-clause-rising
 returns-in-At-clause-rising c =
@@ -63,7 +68,8 @@ pub returns-in-Before-clause-put : goal.returns-in-Before-clause-put
 returns-in-Before-clause-put c =
     let base = c.self.inside.base in
     where_ok c.put_row.result c.put_row.ensures.put (λ put.
-    ap (λ (rows : List File). put_rows rows base) put ∙ (put_row-added c.args.file c.self.inside.added.items base c.self.invariant.0 c.self.invariant.1 ∙ ap (λ (rows : List File). put_row c.args.file rows) c.self.view_is))
+    ap (λ (rows : List File). put_rows rows base) put ∙ (put_row-added c.args.file c.self.inside.added.items base c.self.invariant.0 c.self.invariant.1
+    ∙ ap (λ (rows : List File). put_row c.args.file rows) c.self.view_is))
 
 pub returns-in-Before-clause-rising : goal.returns-in-Before-clause-rising
 returns-in-Before-clause-rising c = IsRising-put_rows c.put_row.new.rows.items c.self.inside.base c.self.invariant.1

@@ -7,7 +7,8 @@ pub invariant_of-self : goal.invariant_of-self
 invariant_of-self c =
     let old = c.self.inside.cache in
     let it = c.self.invariant in
-    listed_now c.pop_mru-first.new.self (drop 1 old.entries) old.cap _ c.pop_mru-first.ensures.entries (dropped old.entries it.keys 1) c.self.inside.limit c.self.inside.next it.unbounded it.limited it.ticking
+    listed_now c.pop_mru-first.new.self (drop 1 old.entries) old.cap _ c.pop_mru-first.ensures.entries (dropped old.entries it.keys 1) c.self.inside.limit c.self.inside.next it.unbounded it.limited
+    it.ticking
 
 pub returns : goal.returns
 returns c =

@@ -7,7 +7,8 @@ use Rattle.repo_store.proofs.contents.Contents.keep_under.Goals as goal
 
 pub returns-in-Some-clause-kept : goal.returns-in-Some-clause-kept
 returns-in-Some-clause-kept c =
-    IfOk-weaker c.shared.result _ _ (λ made same. kept_known c.args.bytes.now c.args.self.now (known c.args.bytes.now c.in-Some.content.now c.args.self.now (c.in-Some.ensures).found same.1)) c.shared.ensures.same
+    IfOk-weaker c.shared.result _ _ (λ made same. kept_known c.args.bytes.now c.args.self.now (known c.args.bytes.now c.in-Some.content.now c.args.self.now (c.in-Some.ensures).found same.1))
+    c.shared.ensures.same
 
 pub returns-clause-kept : goal.returns-clause-kept
 returns-clause-kept c = (c.in_ok-content.ensures).kept ∙ kept_unknown c.args.bytes.now c.args.self.now (unknown c.args.bytes.now c.args.self.now (rw (← c.requires) (c.in_default.ensures).absent))

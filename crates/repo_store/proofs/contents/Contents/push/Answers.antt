@@ -27,5 +27,6 @@ invariant_of-self-else-is_err c =
     let updates = ok_part c.insert.result done c.insert.ensures.updates in
     let place : c.len-place.result ≡ length items = omega arith in
     subst (λ (l : List (List ℕ)). IsIndexed c.insert.new.self l) (sym (c.in_ok-push.ensures).items)
-    (index_pushed c.self.inside.places c.insert.new.self items c.args.content c.self.invariant (subst (λ (l : List (List ℕ)). has_digest (sha256 c.args.content) l ≡ false) (sym c.self.view_is) c.requires)
+    (index_pushed c.self.inside.places c.insert.new.self items c.args.content c.self.invariant
+    (subst (λ (l : List (List ℕ)). has_digest (sha256 c.args.content) l ≡ false) (sym c.self.view_is) c.requires)
     (λ q. updates.0 q ∙ ap₂ (λ (d : List ℕ) (n : ℕ). cond (bytes_eq d q) (Some n) (get bytes_eq c.self.inside.places q)) c.digest-digest.ensures place))

@@ -10,7 +10,8 @@ add_shared-requires c = subst (λ (digest : List ℕ). has_digest digest c.args.
 
 pub returns-in-Some-clause-kept : goal.returns-in-Some-clause-kept
 returns-in-Some-clause-kept c =
-    IfOk-weaker c.shared.result _ _ (λ made same. kept_known c.args.content.now c.args.self.now (known c.args.content.now c.in-Some.kept.now c.args.self.now (c.in-Some.ensures).found (same.1 ∙ c.as_slice.ensures))) c.shared.ensures.same
+    IfOk-weaker c.shared.result _ _ (λ made same. kept_known c.args.content.now c.args.self.now
+    (known c.args.content.now c.in-Some.kept.now c.args.self.now (c.in-Some.ensures).found (same.1 ∙ c.as_slice.ensures))) c.shared.ensures.same
 
 pub returns-clause-kept : goal.returns-clause-kept
 returns-clause-kept c =
@@ -18,7 +19,8 @@ returns-clause-kept c =
     (c.in_ok-content.ensures).kept ∙ kept_unknown c.args.content.now c.args.self.now (unknown c.args.content.now c.args.self.now absent)
 
 pub returns-in-Some-clause-apart : goal.returns-in-Some-clause-apart
-returns-in-Some-clause-apart c = IfOk-weaker c.shared.result _ _ (λ made same. subst (λ (b : List ℕ). ¬ Collides b c.args.self.now) (same.1 ∙ c.as_slice.ensures) (c.in-Some.ensures).alone) c.shared.ensures.same
+returns-in-Some-clause-apart c =
+    IfOk-weaker c.shared.result _ _ (λ made same. subst (λ (b : List ℕ). ¬ Collides b c.args.self.now) (same.1 ∙ c.as_slice.ensures) (c.in-Some.ensures).alone) c.shared.ensures.same
 
 pub returns-clause-apart : goal.returns-clause-apart
 returns-clause-apart c = none_under c.args.content.now c.args.self.now (subst (λ (digest : List ℕ). has_digest digest c.args.self.now ≡ false) c.digest.ensures (c.in_default.ensures).absent)

@@ -17,7 +17,8 @@ use Rattle.repo_store.proofs.from_rows.answers.answers_of.Goals as goal
 pub returns-in_err-answer-clause-broken : goal.returns-in_err-answer-clause-broken
 returns-in_err-answer-clause-broken c =
     let p = err_from_is_err_and c.from_residual-in_err-answer.result c.from_residual-in_err-answer.ensures.1 in
-    rw (p.1, p.2) (damage_middle (IsAnswerRow (map blob_row c.args.contents.now)) c.rows.yielded c.in-Some.row _ _ c.args.rows.items _ c.rows.invariant.left (c.in-Some.ensures.steps.0) c.in_err-answer.ensures.broken)
+    rw (p.1, p.2) (damage_middle (IsAnswerRow (map blob_row c.args.contents.now)) c.rows.yielded c.in-Some.row _ _ c.args.rows.items _ c.rows.invariant.left (c.in-Some.ensures.steps.0)
+    c.in_err-answer.ensures.broken)
 
 pub rows-preserved : goal.rows-preserved
 rows-preserved c =
@@ -45,5 +46,7 @@ returns-clause-obeys c =
     let contents = c.args.contents.now in
     let all : c.rows.yielded ≡ c.args.rows.items = grind (arith, common_steps) in
     let rows = c.args.rows.items in
-    let turned = subst (AllByRecursion (IsAnswerRow (map blob_row contents))) (c.rows.invariant.rows ∙ ap reverse all) (answer_rows contents c.rows.answers.answers c.rows.invariant.sound c.rows.invariant.records) in
+    let turned =
+    subst (AllByRecursion (IsAnswerRow (map blob_row contents))) (c.rows.invariant.rows ∙ ap reverse all)
+    (answer_rows contents c.rows.answers.answers c.rows.invariant.sound c.rows.invariant.records) in
     all_same (IsAnswerRow (map blob_row contents)) (reverse rows) rows (IsPermutation-sym rows (reverse rows) (IsPermutation-reverse rows)) turned

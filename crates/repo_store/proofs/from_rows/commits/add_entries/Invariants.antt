@@ -10,4 +10,12 @@ use Rattle.repo_store.specs.RowRules.{IsEntryRow}
 use Rattle.repo_store.proofs.from_rows.commits.add_entries.Given as goal
 
 abbrev pub invariant-rows : goal.invariant-rows
-invariant-rows l = record { left : l.yielded ++ into_iter_items l.row-iterator ≡ l.fn.rows.items; entered : AreEntered (map commit_of l.initial.history.items) (map commit_of l.history.items) l.yielded; among : AllByRecursion (λ (commit : Commit). HaveContents l.contents commit.tree) (map commit_of l.history.items); count : length l.history.items ≡ length l.initial.history.items; obeys : AllByRecursion (IsEntryRow (map blob_row l.contents) (length l.initial.history.items)) l.yielded }
+invariant-rows l =
+    record {
+      left : l.yielded ++ into_iter_items l.row-iterator ≡ l.fn.rows.items;
+      entered : AreEntered (map commit_of l.initial.history.items) (map commit_of l.history.items) l.yielded;
+      among : AllByRecursion (λ (commit : Commit). HaveContents l.contents commit.tree) (map commit_of l.history.items);
+      count : length l.history.items
+          ≡ length l.initial.history.items;
+      obeys : AllByRecursion (IsEntryRow (map blob_row l.contents) (length l.initial.history.items)) l.yielded;
+    }

@@ -2,17 +2,18 @@ use Rattle.std.proofs.Common.{◌≡◌, ℕ, ◌+◌, ◌≤◌, pos, [], ◌�
 use Rattle.std.proofs.lemmas.Grind.{common_steps}
 use Rattle.std.proofs.lemmas.Result.{err_from_is_err_and}
 use Rattle.std.specs.Vec.Iter.{into_iter_items}
-use Rattle.store_tables.specs.Rowids.{IsRising as IsRisingNumbers}
+use Rattle.store_tables.specs.Rowids.{AreRisingRowids as IsRisingNumbers}
 use Rattle.store_faults.specs.Limits.{most_commits}
-use Rattle.repo_store.specs.RowRules.{number_in}
+use Rattle.repo_store.specs.RowRules.{commit_number_in}
 use Rattle.repo_store.proofs.FromRowsLemmas.{AreNumbered, bare_more, commits_obey, history_broken, history_more, numbered_more}
 use Rattle.repo_store.proofs.from_rows.commits.history_of.Goals as goal
 
 pub returns-in_err-commit-clause-broken : goal.returns-in_err-commit-clause-broken
 returns-in_err-commit-clause-broken c =
-    let rises = subst (λ l. IsRisingNumbers (map number_in l)) c.as_slice.ensures.value (c.if-not-commits_rise.ensures refl) in
+    let rises = subst (λ l. IsRisingNumbers (map commit_number_in l)) c.as_slice.ensures.value (c.if-not-commits_rise.ensures refl) in
     let p = err_from_is_err_and c.from_residual.result c.from_residual.ensures.1 in
-    rw (p.1, p.2) (history_broken c.rows.yielded c.in-Some.row _ _ c.args.rows.items c.len-in-rows.result _ rises c.rows.invariant.left (c.in-Some.ensures.steps.0) (let long = c.len-in-rows.ensures in let obeys = c.rows.history.ok.0 in let count = c.rows.invariant.count in omega arith) c.in_err-commit.ensures.broken)
+    rw (p.1, p.2) (history_broken c.rows.yielded c.in-Some.row _ _ c.args.rows.items c.len-in-rows.result _ rises c.rows.invariant.left (c.in-Some.ensures.steps.0)
+    (let long = c.len-in-rows.ensures in let obeys = c.rows.history.ok.0 in let count = c.rows.invariant.count in omega arith) c.in_err-commit.ensures.broken)
 
 pub rows-preserved : goal.rows-preserved
 rows-preserved c =

@@ -9,4 +9,13 @@ use Rattle.repo_store.specs.RowRules.{IsFixRow}
 use Rattle.repo_store.proofs.from_rows.fixes.fixes_of.Given as goal
 
 abbrev pub invariant-rows : goal.invariant-rows
-invariant-rows l = record { left : l.yielded ++ into_iter_items l.row-iterator ≡ l.fn.rows.items; fixes : map fix_row (map fix_of l.fixes.items) ≡ l.yielded; rising : IsRisingChanges (map fix_of l.fixes.items); among : HaveNewContents l.contents (map fix_of l.fixes.items); obeys : AllByRecursion (IsFixRow (map blob_row l.contents) (map staged_row (map file_of l.staged))) l.yielded }
+invariant-rows l =
+    record {
+      left : l.yielded ++ into_iter_items l.row-iterator ≡ l.fn.rows.items;
+      fixes : map fix_row (map fix_of l.fixes.items)
+          ≡ l.yielded;
+      rising : IsRisingChanges (map fix_of l.fixes.items);
+      among : HaveNewContents l.contents (map fix_of l.fixes.items);
+      obeys : AllByRecursion
+          (IsFixRow (map blob_row l.contents) (map staged_row (map file_of l.staged))) l.yielded;
+    }

@@ -14,7 +14,8 @@ use Rattle.repo_store.proofs.from_rows.seen_files.seen_files_at.Goals as goal
 pub returns-in_err-record-clause-broken : goal.returns-in_err-record-clause-broken
 returns-in_err-record-clause-broken c =
     let p = err_from_is_err_and c.from_residual.result c.from_residual.ensures.1 in
-    rw (p.1, p.2) (damage_of _ _ c.in_err-record.field-0.0 (λ absent value kept _. not_kept (IsSeenRecord value) c.args.digest.now (map blob_row c.args.contents.now) absent kept) c.in_err-record.ensures.missing)
+    rw (p.1, p.2) (damage_of _ _ c.in_err-record.field-0.0 (λ absent value kept _. not_kept (IsSeenRecord value) c.args.digest.now (map blob_row c.args.contents.now) absent kept)
+    c.in_err-record.ensures.missing)
 
 pub returns-in_default-clause-broken : goal.returns-in_default-clause-broken
 returns-in_default-clause-broken c =
@@ -34,4 +35,5 @@ pub returns-clause-only : goal.returns-clause-only
 returns-clause-only c =
     let named = one_decoded IsSeenRecord c.as_slice.result.now c.in_ok-record.record c.in_ok-named.field-0 c.in-Some.named c.as_slice.ensures c.in-Some.is c.in_ok-named.ensures in
     let told = subst (λ (l : List SeenFile). IsSeenRecord l c.in_ok-record.record) (sym (c.in_ok-part.ensures.files ∙ c.into_vec.ensures)) named in
-    one_told IsSeenRecord c.args.digest.now c.in_ok-record.record c.args.contents.now c.in_ok-record.ensures.found c.in_ok-record.ensures.alone one_seen (seen_of_files (map file_of c.in_ok-part.part.items)) told
+    one_told IsSeenRecord c.args.digest.now c.in_ok-record.record c.args.contents.now c.in_ok-record.ensures.found c.in_ok-record.ensures.alone one_seen
+    (seen_of_files (map file_of c.in_ok-part.part.items)) told

@@ -12,5 +12,7 @@ pub returns-clause-rising : goal.returns-clause-rising
 returns-clause-rising c =
     let old = c.args.files.now.items in
     let pushed = ap (map file_of) c.in_ok-push.ensures.items ∙ map-append file_of old (c.args.file ∷ []) in
-    let follows = subst (λ l. AllByRecursion (λ y. IsBelow (path_of y) c.args.file.path) (map file_of l)) c.as_slice.ensures.value (subst (λ (p : List ℕ). AllByRecursion (λ (file : File). IsBelow file.path p) (map file_of c.as_slice.result.now)) c.path.ensures (c.if-not-follows_files.ensures refl)) in
+    let follows =
+    subst (λ l. AllByRecursion (λ y. IsBelow (path_of y) c.args.file.path) (map file_of l)) c.as_slice.ensures.value
+    (subst (λ (p : List ℕ). AllByRecursion (λ (file : File). IsBelow file.path p) (map file_of c.as_slice.result.now)) c.path.ensures (c.if-not-follows_files.ensures refl)) in
     subst (IsRisingBy path_of) (sym pushed) (rising_pushed path_of (map file_of old) (file_of c.args.file) c.requires follows)

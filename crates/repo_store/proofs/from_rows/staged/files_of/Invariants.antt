@@ -9,4 +9,12 @@ use Rattle.repo_store.specs.RowRules.{IsStagedRow}
 use Rattle.repo_store.proofs.from_rows.staged.files_of.Given as goal
 
 abbrev pub invariant-rows : goal.invariant-rows
-invariant-rows l = record { left : l.yielded ++ into_iter_items l.row-iterator ≡ l.fn.rows.items; files : map staged_row (map file_of l.files.items) ≡ l.yielded; rising : IsRising (map file_of l.files.items); among : HaveContents l.contents (map file_of l.files.items); obeys : AllByRecursion (IsStagedRow (map blob_row l.contents)) l.yielded }
+invariant-rows l =
+    record {
+      left : l.yielded ++ into_iter_items l.row-iterator ≡ l.fn.rows.items;
+      files : map staged_row (map file_of l.files.items)
+          ≡ l.yielded;
+      rising : IsRising (map file_of l.files.items);
+      among : HaveContents l.contents (map file_of l.files.items);
+      obeys : AllByRecursion (IsStagedRow (map blob_row l.contents)) l.yielded;
+    }

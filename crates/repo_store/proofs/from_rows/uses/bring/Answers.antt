@@ -12,4 +12,5 @@ returns-in_default-digest_in-clause-moved c = moved_not c.args.answers.now.answe
 
 pub returns-clause-moved : goal.returns-clause-moved
 returns-clause-moved c =
-    subst (AreMoved c.args.answers.now.answers) (sym (ap (λ (l : ListedAnswers). l.answers) c.bring.ensures)) (brought_moved (c.in-Some.words.now, c.in-Some-digest_in.seen.now) c.args.answers.now.answers)
+    subst (AreMoved c.args.answers.now.answers) (sym (ap (λ (l : ListedAnswers). l.answers) c.bring.ensures))
+    (brought_moved (c.in-Some.words.now, c.in-Some-digest_in.seen.now) c.args.answers.now.answers)

@@ -33,4 +33,5 @@ returns-clause-moved c =
     let now = c.bring_each.new.answers in
     let old = c.args.answers.now.answers in
     let keys : map key_of_use uses ≡ map key_of (reverse now.answers) = c.have_keys.ensures c.if-not-have_keys.false ∙ c.as_slice.ensures.value ∙ c.in_ok-keys.ensures in
-    subst (λ (l : ListedAnswers). IsPermutation l.answers old) (sym c.set_next.ensures) (as_before uses old now.answers (c.have_answers.ensures.count c.if-not-have_answers.false) keys c.bring_each.ensures.moved)
+    subst (λ (l : ListedAnswers). IsPermutation l.answers old) (sym c.set_next.ensures)
+    (as_before uses old now.answers (c.have_answers.ensures.count c.if-not-have_answers.false) keys c.bring_each.ensures.moved)

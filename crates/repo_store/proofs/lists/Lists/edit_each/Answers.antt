@@ -13,7 +13,8 @@ returns-in-Err-clause-longer c =
 
 pub returns-in-Err-clause-refused : goal.returns-in-Err-clause-refused
 returns-in-Err-clause-refused c =
-    refused_here c.args.edits.now c.args.self.now.kept c.edits.at c.index-edits-at.result c.edits-test.true c.index-edits-at.is c.edits.self.kept c.in-Err.fault c.edits.invariant.edited c.edits.invariant.editable (c.in-Err.ensures).refused
+    refused_here c.args.edits.now c.args.self.now.kept c.edits.at c.index-edits-at.result c.edits-test.true c.index-edits-at.is c.edits.self.kept c.in-Err.fault c.edits.invariant.edited
+    c.edits.invariant.editable (c.in-Err.ensures).refused
 
 pub edits-preserved : goal.edits-preserved
 edits-preserved c =
@@ -25,7 +26,9 @@ edits-preserved c =
     let one = c.in_default.ensures in
     record {
       edited = edited_next all kept at edit c.edits-test.true c.index-edits-at.is c.edits.self.kept c.edit_onto.new.self.kept before.edited one.edited;
-      made = made_next all kept at edit c.edits-test.true c.index-edits-at.is c.edits.self.kept (map edit_of c.edits.made.items) (map edit_of c.edit_onto.new.made.items) before.edited before.made one.made;
+      made =
+          made_next all kept at edit c.edits-test.true c.index-edits-at.is c.edits.self.kept (map edit_of c.edits.made.items) (map edit_of c.edit_onto.new.made.items) before.edited before.made
+          one.made;
       editable = editable_next all kept at edit c.edits-test.true c.index-edits-at.is c.edits.self.kept before.edited before.editable one.editable;
     }
 

@@ -21,4 +21,5 @@ returns-in-len1-up-clause-rising c =
     let n = length c.as_slice.result.now in
     let read = subst (λ (l : List SharedCommit). c.commit-item.result ≡ get_or l (n - 1) c.commit-item.result) c.as_slice.ensures.value c.commit-item.is in
     let within : n - 1 < length c.self.inside.history.items = let same = ap length c.as_slice.ensures.value in omega arith in
-    subst (λ (l : List FileParts). IsRising (map file_of l)) (sym c.as_slice-in-len1-up.ensures.value) (rising_at c.self.inside.history.items (n - 1) c.commit-item.result c.self.invariant.sound.trees_rise within read)
+    subst (λ (l : List FileParts). IsRising (map file_of l)) (sym c.as_slice-in-len1-up.ensures.value)
+    (rising_at c.self.inside.history.items (n - 1) c.commit-item.result c.self.invariant.sound.trees_rise within read)

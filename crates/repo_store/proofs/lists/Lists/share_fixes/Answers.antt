@@ -26,7 +26,8 @@ returns-in-Err-clause-front c =
 
 pub returns-clause-front : goal.returns-clause-front
 returns-clause-front c =
-    changes_before (staged_changes (take c.changes.change-index c.args.changes.now) c.args.self.now.kept.repo.staged) c.args.self.now.kept.contents c.changes.self.kept.contents c.changes.invariant.contents
+    changes_before (staged_changes (take c.changes.change-index c.args.changes.now) c.args.self.now.kept.repo.staged) c.args.self.now.kept.contents c.changes.self.kept.contents
+    c.changes.invariant.contents
 
 pub returns-in-Err-clause-why : goal.returns-in-Err-clause-why
 returns-in-Err-clause-why c =
@@ -36,7 +37,8 @@ returns-in-Err-clause-why c =
     let change = c.change-item.result in
     let front = staged_changes (take i all) old.repo.staged in
     let rest = staged_changes (drop (i + 1) all) old.repo.staged in
-    let staged : is_some (entry_of change.path old.repo.staged) ≡ true = ap (λ (r : Repository). is_some (entry_of change.path r.staged)) (sym c.changes.invariant.repo) ∙ sym c.is_staged.ensures ∙ c.if-is_staged.true in
+    let staged : is_some (entry_of change.path old.repo.staged) ≡ true =
+    ap (λ (r : Repository). is_some (entry_of change.path r.staged)) (sym c.changes.invariant.repo) ∙ sym c.is_staged.ensures ∙ c.if-is_staged.true in
     let around = staged_around all old.repo.staged i change c.changes-test.true c.change-item.is staged in
     refusal_weaker (large_among front change rest (staged_changes all old.repo.staged) around) (λ h. h)
     (λ collides. collides_among front change old.contents rest (staged_changes all old.repo.staged) around (subst (λ (l : List (List ℕ)). CollidesIn change l) c.changes.invariant.contents collides))
@@ -60,10 +62,16 @@ changes-preserved c =
             repo = ap (λ (m : Mirror). m.kept.repo) w.self-is ∙ ap (λ (k : Kept). k.repo) held ∙ inv.repo;
             answers = ap (λ (m : Mirror). m.kept.answers) w.self-is ∙ ap (λ (k : Kept). k.answers) held ∙ inv.answers;
             limit = ap (λ (m : Mirror). m.kept.limit) w.self-is ∙ ap (λ (k : Kept). k.limit) held ∙ inv.limit;
-            fixes = rw w.fixes-is (ap (map fix_of) pushed ∙ map-append fix_of c.changes.fixes.items (w.in-Ok.fix ∷ []) ∙ ap₂ (λ (a : List Change) (b : Change). a ++ b ∷ []) inv.fixes (w.in-Ok.ensures).fix ∙ sym one);
-            contents = ap (λ (m : Mirror). m.kept.contents) w.self-is ∙ ap (λ (k : Kept). k.contents) held ∙ ap (with_new change.now) inv.contents ∙ sym (ap (λ (l : List Change). with_changes l old.contents) one ∙ with_changes-push front change old.contents);
+            fixes =
+                rw w.fixes-is (ap (map fix_of) pushed ∙ map-append fix_of c.changes.fixes.items (w.in-Ok.fix ∷ []) ∙ ap₂ (λ (a : List Change) (b : Change). a ++ b ∷ []) inv.fixes (w.in-Ok.ensures).fix
+                ∙ sym one);
+            contents =
+                ap (λ (m : Mirror). m.kept.contents) w.self-is ∙ ap (λ (k : Kept). k.contents) held ∙ ap (with_new change.now) inv.contents
+                ∙ sym (ap (λ (l : List Change). with_changes l old.contents) one ∙ with_changes-push front change old.contents);
             within = none_large front change (staged_changes (take (i + 1) all) old.repo.staged) one inv.within (w.in-Ok.ensures).within;
-            apart = none_collide front change old.contents (staged_changes (take (i + 1) all) old.repo.staged) one inv.apart (subst (λ (l : List (List ℕ)). ¬ CollidesIn change l) inv.contents (w.in-Ok.ensures).apart);
+            apart =
+                none_collide front change old.contents (staged_changes (take (i + 1) all) old.repo.staged) one inv.apart
+                (subst (λ (l : List (List ℕ)). ¬ CollidesIn change l) inv.contents (w.in-Ok.ensures).apart);
           }
       | else-is_staged w ↦
           let none = none_staged all old.repo.staged i change c.changes-test.true c.change-item.is (sym staged ∙ w.if-is_staged.false) in

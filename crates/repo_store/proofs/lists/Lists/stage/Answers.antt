@@ -6,7 +6,7 @@ use Rattle.hook_base.specs.Trees.{put_file}
 use Rattle.repo_store.specs.Kept.{Mirror, Kept}
 use Rattle.store_faults.specs.Limits.{Fits, path_bytes}
 use Rattle.repo_store.specs.Lists.{repository_of}
-use Rattle.repo_store.specs.Repository.{with_staged}
+use Rattle.repo_store.specs.Repository.{with_staged_file}
 use Rattle.repo_store.specs.Sound.{IsSound}
 use Rattle.repo_store.proofs.SoundLemmas.{sound_staged}
 use Rattle.repo_store.proofs.lists.Lists.stage.Goals as goal
@@ -23,7 +23,8 @@ invariant_of-self c =
     let entry : FileEntry = record { mode = c.args.file.mode; bytes = c.args.file.content } in
     let repo = repository_of inside.history.items inside.staged.items inside.fixes.items in
     let fits = subst (λ (m : Mirror). Fits (put_file path entry m.kept.repo.staged)) (sym c.self.view_is) c.requires.fits in
-    let same : with_staged path entry repo ≡ repository_of inside.history.items c.put_file-added.new.files.items c.clear.new.self.items = rw (c.put_file-added.ensures.files, c.clear.ensures.items) refl in
+    let same : with_staged_file path entry repo ≡ repository_of inside.history.items c.put_file-added.new.files.items c.clear.new.self.items =
+    rw (c.put_file-added.ensures.files, c.clear.ensures.items) refl in
     let more = c.put_file-added.ensures.bytes in
     let counted = c.self.invariant.counted in
     record { sound = subst IsSound same (sound_staged path entry repo c.self.invariant.sound fits); counted = omega arith }
@@ -41,5 +42,5 @@ overflow_add-self c =
 pub returns : goal.returns
 returns c =
     let entry : FileEntry = record { mode = c.args.file.mode; bytes = c.args.file.content } in
-    let after : Mirror → Kept = λ m. record m.kept { repo = with_staged c.args.file.path entry m.kept.repo } in
+    let after : Mirror → Kept = λ m. record m.kept { repo = with_staged_file c.args.file.path entry m.kept.repo } in
     rw (c.put_file-added.ensures.files, c.clear.ensures.items) (ap after c.self.view_is)

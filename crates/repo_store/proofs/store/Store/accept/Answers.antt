@@ -18,11 +18,13 @@ invariant_of-self g c =
     let new = c.accept_rows.new.conn in
     let kept = c.self.inside.lists.kept in
     let files : HaveSameFixed kept.repo.fixes (map file_of c.as_slice.result.now) (apply_changes kept.repo.fixes kept.repo.staged) =
-    subst (λ (l : List FileParts). HaveSameFixed kept.repo.fixes (map file_of l) (apply_changes kept.repo.fixes kept.repo.staged)) (sym c.as_slice.ensures) (accepted_same kept.repo.fixes kept.repo.staged c.in_ok-accepted.accepted c.in_ok-accepted.ensures.accepted) in
+    subst (λ (l : List FileParts). HaveSameFixed kept.repo.fixes (map file_of l) (apply_changes kept.repo.fixes kept.repo.staged)) (sym c.as_slice.ensures)
+    (accepted_same kept.repo.fixes kept.repo.staged c.in_ok-accepted.accepted c.in_ok-accepted.ensures.accepted) in
     let same = accepting_handed (map file_of c.as_slice.result.now) (map fix_of c.shared_fixes-fixes.result.now) kept c.self.invariant.complete.sound files c.shared_fixes-fixes.ensures in
     let complete = complete_accepted kept c.self.invariant.complete in
     let obeys = obeys_accepted kept c.self.invariant.obeys complete in
-    refused_stands g.S.Store c.self.inside.conn new c.self.inside.next c.self.inside.next kept (accepting kept) _ c.self.invariant same (g.met.S.Store.shut_if_dirty new.store) complete obeys (c.self.invariant.first, c.self.invariant.last) c.self.inside.next refl
+    refused_stands g.S.Store c.self.inside.conn new c.self.inside.next c.self.inside.next kept (accepting kept) _ c.self.invariant same (g.met.S.Store.shut_if_dirty new.store) complete obeys
+    (c.self.invariant.first, c.self.invariant.last) c.self.inside.next refl
     kept refl c.in-Err.error (c.in-Err.ensures (tables_of kept) c.self.inside.next kept.answers)
 
 pub returns-in-Err-clause-change : goal.returns-in-Err-clause-change
@@ -35,24 +37,29 @@ returns-in-Err-clause-transaction g c =
     let new = c.accept_rows.new.conn in
     let kept = c.self.inside.lists.kept in
     let files : HaveSameFixed kept.repo.fixes (map file_of c.as_slice.result.now) (apply_changes kept.repo.fixes kept.repo.staged) =
-    subst (λ (l : List FileParts). HaveSameFixed kept.repo.fixes (map file_of l) (apply_changes kept.repo.fixes kept.repo.staged)) (sym c.as_slice.ensures) (accepted_same kept.repo.fixes kept.repo.staged c.in_ok-accepted.accepted c.in_ok-accepted.ensures.accepted) in
+    subst (λ (l : List FileParts). HaveSameFixed kept.repo.fixes (map file_of l) (apply_changes kept.repo.fixes kept.repo.staged)) (sym c.as_slice.ensures)
+    (accepted_same kept.repo.fixes kept.repo.staged c.in_ok-accepted.accepted c.in_ok-accepted.ensures.accepted) in
     let same = accepting_handed (map file_of c.as_slice.result.now) (map fix_of c.shared_fixes-fixes.result.now) kept c.self.invariant.complete.sound files c.shared_fixes-fixes.ensures in
     let complete = complete_accepted kept c.self.invariant.complete in
     let obeys = obeys_accepted kept c.self.invariant.obeys complete in
     subst (λ (s : Shown g.row.S.Denot). IsOneTransaction g.S.Store s (record { conn = new; kept = kept; next = c.self.inside.next }) (Err c.fault_of.result) (accepting s.kept)) c.self.view_is
-    (refused_transaction g.S.Store c.self.inside.conn new c.self.inside.next c.self.inside.next kept (accepting kept) _ c.self.invariant same (g.met.S.Store.shut_if_dirty new.store) complete obeys (c.self.invariant.first, c.self.invariant.last) c.self.inside.next refl
-    kept refl c.in-Err.error (c.in-Err.ensures (tables_of kept) c.self.inside.next kept.answers) c.fault_of.result _ _ _ _ (c.in-Err.ensures (unnamed_in kept) c.self.inside.next kept.answers) (λ (h : 2 ≡ 0). let never : ⊥ = omega arith in never))
+    (refused_transaction g.S.Store c.self.inside.conn new c.self.inside.next c.self.inside.next kept (accepting kept) _ c.self.invariant same (g.met.S.Store.shut_if_dirty new.store) complete obeys
+    (c.self.invariant.first, c.self.invariant.last) c.self.inside.next refl
+    kept refl c.in-Err.error (c.in-Err.ensures (tables_of kept) c.self.inside.next kept.answers) c.fault_of.result _ _ _ _ (c.in-Err.ensures (unnamed_in kept) c.self.inside.next kept.answers)
+    (λ (h : 2 ≡ 0). let never : ⊥ = omega arith in never))
 
 pub invariant_of-self-2 : goal.invariant_of-self-2
 invariant_of-self-2 g c =
     let new = c.accept_rows.new.conn in
     let kept = c.self.inside.lists.kept in
     let files : HaveSameFixed kept.repo.fixes (map file_of c.as_slice.result.now) (apply_changes kept.repo.fixes kept.repo.staged) =
-    subst (λ (l : List FileParts). HaveSameFixed kept.repo.fixes (map file_of l) (apply_changes kept.repo.fixes kept.repo.staged)) (sym c.as_slice.ensures) (accepted_same kept.repo.fixes kept.repo.staged c.in_ok-accepted.accepted c.in_ok-accepted.ensures.accepted) in
+    subst (λ (l : List FileParts). HaveSameFixed kept.repo.fixes (map file_of l) (apply_changes kept.repo.fixes kept.repo.staged)) (sym c.as_slice.ensures)
+    (accepted_same kept.repo.fixes kept.repo.staged c.in_ok-accepted.accepted c.in_ok-accepted.ensures.accepted) in
     let same = accepting_handed (map file_of c.as_slice.result.now) (map fix_of c.shared_fixes-fixes.result.now) kept c.self.invariant.complete.sound files c.shared_fixes-fixes.ensures in
     let complete = complete_accepted kept c.self.invariant.complete in
     let obeys = obeys_accepted kept c.self.invariant.obeys complete in
-    done_stands g.S.Store c.self.inside.conn new c.self.inside.next c.self.inside.next kept (accepting kept) _ c.self.invariant same (g.met.S.Store.shut_if_dirty new.store) complete obeys (c.self.invariant.first, c.self.invariant.last) c.self.inside.next refl
+    done_stands g.S.Store c.self.inside.conn new c.self.inside.next c.self.inside.next kept (accepting kept) _ c.self.invariant same (g.met.S.Store.shut_if_dirty new.store) complete obeys
+    (c.self.invariant.first, c.self.invariant.last) c.self.inside.next refl
     c.accept.new.self.kept c.accept.ensures c.in_default.field-0 (c.in_default.ensures (tables_of kept) c.self.inside.next kept.answers)
 
 pub returns-clause-change : goal.returns-clause-change
@@ -64,10 +71,14 @@ returns-clause-transaction g c =
     let new = c.accept_rows.new.conn in
     let kept = c.self.inside.lists.kept in
     let files : HaveSameFixed kept.repo.fixes (map file_of c.as_slice.result.now) (apply_changes kept.repo.fixes kept.repo.staged) =
-    subst (λ (l : List FileParts). HaveSameFixed kept.repo.fixes (map file_of l) (apply_changes kept.repo.fixes kept.repo.staged)) (sym c.as_slice.ensures) (accepted_same kept.repo.fixes kept.repo.staged c.in_ok-accepted.accepted c.in_ok-accepted.ensures.accepted) in
+    subst (λ (l : List FileParts). HaveSameFixed kept.repo.fixes (map file_of l) (apply_changes kept.repo.fixes kept.repo.staged)) (sym c.as_slice.ensures)
+    (accepted_same kept.repo.fixes kept.repo.staged c.in_ok-accepted.accepted c.in_ok-accepted.ensures.accepted) in
     let same = accepting_handed (map file_of c.as_slice.result.now) (map fix_of c.shared_fixes-fixes.result.now) kept c.self.invariant.complete.sound files c.shared_fixes-fixes.ensures in
     let complete = complete_accepted kept c.self.invariant.complete in
     let obeys = obeys_accepted kept c.self.invariant.obeys complete in
-    subst (λ (s : Shown g.row.S.Denot). IsOneTransaction g.S.Store s (record { conn = new; kept = c.accept.new.self.kept; next = c.self.inside.next }) (Ok c.count_fixes-number.result) (accepting s.kept)) c.self.view_is
-    (done_transaction g.S.Store c.self.inside.conn new c.self.inside.next c.self.inside.next kept (accepting kept) _ c.self.invariant same (g.met.S.Store.shut_if_dirty new.store) complete obeys (c.self.invariant.first, c.self.invariant.last)
-    (g.met.S.Store.settled new.store) c.self.inside.next refl c.accept.new.self.kept c.accept.ensures c.in_default.field-0 (c.in_default.ensures (tables_of kept) c.self.inside.next kept.answers) c.count_fixes-number.result _ _ _ _ (c.in_default.ensures (unnamed_in kept) c.self.inside.next kept.answers) (λ (h : 2 ≡ 0). let never : ⊥ = omega arith in never))
+    subst (λ (s : Shown g.row.S.Denot). IsOneTransaction g.S.Store s (record { conn = new; kept = c.accept.new.self.kept; next = c.self.inside.next }) (Ok c.count_fixes-number.result)
+    (accepting s.kept)) c.self.view_is
+    (done_transaction g.S.Store c.self.inside.conn new c.self.inside.next c.self.inside.next kept (accepting kept) _ c.self.invariant same (g.met.S.Store.shut_if_dirty new.store) complete obeys
+    (c.self.invariant.first, c.self.invariant.last)
+    (g.met.S.Store.settled new.store) c.self.inside.next refl c.accept.new.self.kept c.accept.ensures c.in_default.field-0 (c.in_default.ensures (tables_of kept) c.self.inside.next kept.answers)
+    c.count_fixes-number.result _ _ _ _ (c.in_default.ensures (unnamed_in kept) c.self.inside.next kept.answers) (λ (h : 2 ≡ 0). let never : ⊥ = omega arith in never))

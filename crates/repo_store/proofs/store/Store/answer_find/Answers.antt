@@ -34,8 +34,10 @@ returns-in_err-use_answer-clause-transaction g c =
     let p = err_from_is_err_and c.from_residual-in_err-use_answer.result c.from_residual-in_err-use_answer.ensures.1 in
     let used = used_so c.args.words.now c.args.seen.now c.self.inside.lists.kept key c.self.invariant.complete have in
     let shown = ap (λ (s : Shown g.row.S.Denot). s.kept) c.self.view_is in
-    let asked : bringing key mid.kept ≡ using c.args.words.now c.args.seen.now old.kept = ap (bringing key) (c.leave_a_tick.ensures.same ∙ sym shown) ∙ used ∙ ap (using c.args.words.now c.args.seen.now) shown in
-    rw p.1 (inr (use_refused g.S.Store old mid new _ _ (bringing key mid.kept) (using c.args.words.now c.args.seen.now old.kept) c.leave_a_tick.ensures.numbered asked c.in_err-use_answer.ensures.transaction))
+    let asked : bringing key mid.kept ≡ using c.args.words.now c.args.seen.now old.kept =
+    ap (bringing key) (c.leave_a_tick.ensures.same ∙ sym shown) ∙ used ∙ ap (using c.args.words.now c.args.seen.now) shown in
+    rw p.1 (inr (use_refused g.S.Store old mid new _ _ (bringing key mid.kept) (using c.args.words.now c.args.seen.now old.kept) c.leave_a_tick.ensures.numbered asked
+    c.in_err-use_answer.ensures.transaction))
 
 pub returns-clause-change : goal.returns-clause-change
 returns-clause-change g c =
@@ -48,7 +50,9 @@ returns-clause-change g c =
     elim c.if-not-is_first_answer.branch [
       | then-not-is_first_answer+in_ok-leave_a_tick+in_ok-use_answer w ↦
           record {
-            done = ap (λ (s : Shown g.row.S.Denot). s.kept) w.self-is ∙ w.in_ok-use_answer.ensures.change.done ∙ ap (bringing key) (w.leave_a_tick.ensures.same ∙ sym shown) ∙ used ∙ ap (using c.args.words.now c.args.seen.now) shown;
+            done =
+                ap (λ (s : Shown g.row.S.Denot). s.kept) w.self-is ∙ w.in_ok-use_answer.ensures.change.done ∙ ap (bringing key) (w.leave_a_tick.ensures.same ∙ sym shown) ∙ used
+                ∙ ap (using c.args.words.now c.args.seen.now) shown;
             same = tt;
           }
       | else-not-is_first_answer w ↦
@@ -68,7 +72,8 @@ returns-clause-transaction g c =
       | then-not-is_first_answer+in_ok-leave_a_tick+in_ok-use_answer w ↦
           let mid = w.leave_a_tick.new.self in
           let new = w.use_answer.new.self in
-          let asked : bringing key mid.kept ≡ using c.args.words.now c.args.seen.now old.kept = ap (bringing key) (w.leave_a_tick.ensures.same ∙ sym shown) ∙ used ∙ ap (using c.args.words.now c.args.seen.now) shown in
+          let asked : bringing key mid.kept ≡ using c.args.words.now c.args.seen.now old.kept =
+          ap (bringing key) (w.leave_a_tick.ensures.same ∙ sym shown) ∙ used ∙ ap (using c.args.words.now c.args.seen.now) shown in
           inr (subst (λ (s : Shown g.row.S.Denot). IsOneUse {E = StoreFault} g.S.Store old s (Ok (Some c.in-Some.found.answer)) (using c.args.words.now c.args.seen.now old.kept)) (sym w.self-is)
           (use_done g.S.Store old mid new _ _ (bringing key mid.kept) (using c.args.words.now c.args.seen.now old.kept) w.leave_a_tick.ensures.numbered asked w.in_ok-use_answer.ensures.transaction))
       | else-not-is_first_answer w ↦ inl w.self-is

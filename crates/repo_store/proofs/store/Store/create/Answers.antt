@@ -8,7 +8,8 @@ use Rattle.repo_store.proofs.store.Store.create.Goals as goal
 
 pub invariant_of-result : goal.invariant_of-result
 invariant_of-result g c =
-    made_stands g.S.Store c.args.conn c.make.new.conn c.in-Ok.lists.kept 1 c.in-Ok-make.field-0 c.in-Ok-make.ensures (c.if-not-has_no_tables.ensures.bare refl) (g.met.S.Store.shut_if_dirty c.make.new.conn.store) c.in-Ok.ensures refl
+    made_stands g.S.Store c.args.conn c.make.new.conn c.in-Ok.lists.kept 1 c.in-Ok-make.field-0 c.in-Ok-make.ensures (c.if-not-has_no_tables.ensures.bare refl)
+    (g.met.S.Store.shut_if_dirty c.make.new.conn.store) c.in-Ok.ensures refl
 
 pub returns-in-Ok-make-clause-stands : goal.returns-in-Ok-make-clause-stands
 returns-in-Ok-make-clause-stands g c = stands_of g.S.Store c.make.new.conn c.in-Ok.lists.kept 1 (invariant_of-result g c)

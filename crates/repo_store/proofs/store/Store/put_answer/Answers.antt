@@ -29,7 +29,8 @@ put_prepared-requires-clause-told g c =
     let kept = c.self.inside.lists.kept in
     let answer = copied_answer c.args.words.now c.args.seen.now c.args.answer in
     let prepared = c.in_ok-answer.ensures in
-    subst (λ (k : Kept). TellKeys (c.in_ok-answer.answer ∷ k.answers)) (sym prepared.kept) (tell_keys_handed answer kept c.self.invariant.complete prepared.sound prepared.all.apart c.in_ok-answer.answer prepared.answer)
+    subst (λ (k : Kept). TellKeys (c.in_ok-answer.answer ∷ k.answers)) (sym prepared.kept)
+    (tell_keys_handed answer kept c.self.invariant.complete prepared.sound prepared.all.apart c.in_ok-answer.answer prepared.answer)
 
 pub invariant_of-self-in-Err : goal.invariant_of-self-in-Err
 invariant_of-self-in-Err g c =
@@ -44,16 +45,22 @@ invariant_of-self-in-Err g c =
     let same = remembering_handed answer kept inv.complete prepared.sound prepared.all.apart news answer refl refl in
     let complete = complete_remembered answer kept inv.complete prepared.sound prepared.all.apart in
     let obeys = obeys_remembered answer kept inv.complete prepared.sound prepared.all.apart inv.obeys prepared.all.small in
-    let now = forgotten_answer (contents_for answer) kept c.put_prepared.new.lists.kept c.forget_since.new.self.kept c.count-before.result c.count-before.ensures (c.in-Err.ensures.same ∙ prepared.kept) (ap (λ (m : Mirror). m.kept) c.forget_since.ensures) in
-    refused_stands g.S.Store c.self.inside.conn new next (next + 1) kept (remembering answer kept) _ inv same (g.met.S.Store.shut_if_dirty new.store) complete obeys (omega arith, omega arith) next refl
-    c.forget_since.new.self.kept now c.in-Err.fault (put_goes g.S.Store c.self.inside.conn new (Err c.in-Err.fault) c.count-before.result next c.prepare_answer.new.self.kept kept c.in_ok-answer.answer answer (with_contents (contents_for answer) kept.contents) prepared.kept prepared.answer c.count-before.ensures c.in-Err.ensures.rows (tables_of kept))
+    let now =
+    forgotten_answer (contents_for answer) kept c.put_prepared.new.lists.kept c.forget_since.new.self.kept c.count-before.result c.count-before.ensures (c.in-Err.ensures.same ∙ prepared.kept)
+    (ap (λ (m : Mirror). m.kept) c.forget_since.ensures) in
+    refused_stands g.S.Store c.self.inside.conn new next (next + 1) kept (remembering answer kept) _ inv same (g.met.S.Store.shut_if_dirty new.store) complete obeys (omega arith, omega arith) next
+    refl
+    c.forget_since.new.self.kept now c.in-Err.fault (put_goes g.S.Store c.self.inside.conn new (Err c.in-Err.fault) c.count-before.result next c.prepare_answer.new.self.kept kept c.in_ok-answer.answer
+    answer (with_contents (contents_for answer) kept.contents) prepared.kept prepared.answer c.count-before.ensures c.in-Err.ensures.rows (tables_of kept))
 
 pub returns-in-Err-clause-change : goal.returns-in-Err-clause-change
 returns-in-Err-clause-change g c =
     let kept = c.self.inside.lists.kept in
     let answer = copied_answer c.args.words.now c.args.seen.now c.args.answer in
     let prepared = c.in_ok-answer.ensures in
-    let now = forgotten_answer (contents_for answer) kept c.put_prepared.new.lists.kept c.forget_since.new.self.kept c.count-before.result c.count-before.ensures (c.in-Err.ensures.same ∙ prepared.kept) (ap (λ (m : Mirror). m.kept) c.forget_since.ensures) in
+    let now =
+    forgotten_answer (contents_for answer) kept c.put_prepared.new.lists.kept c.forget_since.new.self.kept c.count-before.result c.count-before.ensures (c.in-Err.ensures.same ∙ prepared.kept)
+    (ap (λ (m : Mirror). m.kept) c.forget_since.ensures) in
     subst (λ (s : Shown g.row.S.Denot). IsAllOrNothing s.kept c.forget_since.new.self.kept (Err c.in-Err.fault) (remembering answer s.kept)) c.self.view_is (record { done = tt; same = now })
 
 pub returns-in-Err-clause-transaction : goal.returns-in-Err-clause-transaction
@@ -69,10 +76,16 @@ returns-in-Err-clause-transaction g c =
     let same = remembering_handed answer kept inv.complete prepared.sound prepared.all.apart news answer refl refl in
     let complete = complete_remembered answer kept inv.complete prepared.sound prepared.all.apart in
     let obeys = obeys_remembered answer kept inv.complete prepared.sound prepared.all.apart inv.obeys prepared.all.small in
-    let now = forgotten_answer (contents_for answer) kept c.put_prepared.new.lists.kept c.forget_since.new.self.kept c.count-before.result c.count-before.ensures (c.in-Err.ensures.same ∙ prepared.kept) (ap (λ (m : Mirror). m.kept) c.forget_since.ensures) in
-    let goes = put_goes g.S.Store c.self.inside.conn new (Err c.in-Err.fault) c.count-before.result next c.prepare_answer.new.self.kept kept c.in_ok-answer.answer answer (with_contents (contents_for answer) kept.contents) prepared.kept prepared.answer c.count-before.ensures c.in-Err.ensures.rows in
-    subst (λ (s : Shown g.row.S.Denot). IsOneTransaction g.S.Store s (record { conn = new; kept = c.forget_since.new.self.kept; next = next }) (Err c.in-Err.fault) (remembering answer s.kept)) c.self.view_is
-    (refused_transaction g.S.Store c.self.inside.conn new next (next + 1) kept (remembering answer kept) _ inv same (g.met.S.Store.shut_if_dirty new.store) complete obeys (omega arith, omega arith) next refl
+    let now =
+    forgotten_answer (contents_for answer) kept c.put_prepared.new.lists.kept c.forget_since.new.self.kept c.count-before.result c.count-before.ensures (c.in-Err.ensures.same ∙ prepared.kept)
+    (ap (λ (m : Mirror). m.kept) c.forget_since.ensures) in
+    let goes =
+    put_goes g.S.Store c.self.inside.conn new (Err c.in-Err.fault) c.count-before.result next c.prepare_answer.new.self.kept kept c.in_ok-answer.answer answer
+    (with_contents (contents_for answer) kept.contents) prepared.kept prepared.answer c.count-before.ensures c.in-Err.ensures.rows in
+    subst (λ (s : Shown g.row.S.Denot). IsOneTransaction g.S.Store s (record { conn = new; kept = c.forget_since.new.self.kept; next = next }) (Err c.in-Err.fault) (remembering answer s.kept))
+    c.self.view_is
+    (refused_transaction g.S.Store c.self.inside.conn new next (next + 1) kept (remembering answer kept) _ inv same (g.met.S.Store.shut_if_dirty new.store) complete obeys (omega arith, omega arith)
+    next refl
     c.forget_since.new.self.kept now c.in-Err.fault (goes (tables_of kept)) c.in-Err.fault _ _ _ _ (goes (unnamed_in kept)) (puts_apart kept answer news))
 
 pub invariant_of-self-2 : goal.invariant_of-self-2
@@ -89,8 +102,10 @@ invariant_of-self-2 g c =
     let complete = complete_remembered answer kept inv.complete prepared.sound prepared.all.apart in
     let obeys = obeys_remembered answer kept inv.complete prepared.sound prepared.all.apart inv.obeys prepared.all.small in
     let now = c.in_default.ensures.done ∙ ap₂ (λ (a : KeptAnswer) (k : Kept). record k { answers = with_answer_within k.limit a k.answers }) prepared.answer prepared.kept in
-    done_stands g.S.Store c.self.inside.conn new next (next + 1) kept (remembering answer kept) _ inv same (g.met.S.Store.shut_if_dirty new.store) complete obeys (omega arith, omega arith) (next + 1) refl
-    c.put_prepared.new.lists.kept now c.in_default.field-0 (put_goes g.S.Store c.self.inside.conn new (Ok c.in_default.field-0) c.count-before.result next c.prepare_answer.new.self.kept kept c.in_ok-answer.answer answer (with_contents (contents_for answer) kept.contents) prepared.kept prepared.answer c.count-before.ensures c.in_default.ensures.rows (tables_of kept))
+    done_stands g.S.Store c.self.inside.conn new next (next + 1) kept (remembering answer kept) _ inv same (g.met.S.Store.shut_if_dirty new.store) complete obeys (omega arith, omega arith) (next + 1)
+    refl
+    c.put_prepared.new.lists.kept now c.in_default.field-0 (put_goes g.S.Store c.self.inside.conn new (Ok c.in_default.field-0) c.count-before.result next c.prepare_answer.new.self.kept kept
+    c.in_ok-answer.answer answer (with_contents (contents_for answer) kept.contents) prepared.kept prepared.answer c.count-before.ensures c.in_default.ensures.rows (tables_of kept))
 
 pub returns-clause-transaction : goal.returns-clause-transaction
 returns-clause-transaction g c =
@@ -106,7 +121,10 @@ returns-clause-transaction g c =
     let complete = complete_remembered answer kept inv.complete prepared.sound prepared.all.apart in
     let obeys = obeys_remembered answer kept inv.complete prepared.sound prepared.all.apart inv.obeys prepared.all.small in
     let now = c.in_default.ensures.done ∙ ap₂ (λ (a : KeptAnswer) (k : Kept). record k { answers = with_answer_within k.limit a k.answers }) prepared.answer prepared.kept in
-    let goes = put_goes g.S.Store c.self.inside.conn new (Ok c.in_default.field-0) c.count-before.result next c.prepare_answer.new.self.kept kept c.in_ok-answer.answer answer (with_contents (contents_for answer) kept.contents) prepared.kept prepared.answer c.count-before.ensures c.in_default.ensures.rows in
+    let goes =
+    put_goes g.S.Store c.self.inside.conn new (Ok c.in_default.field-0) c.count-before.result next c.prepare_answer.new.self.kept kept c.in_ok-answer.answer answer
+    (with_contents (contents_for answer) kept.contents) prepared.kept prepared.answer c.count-before.ensures c.in_default.ensures.rows in
     subst (λ (s : Shown g.row.S.Denot). IsOneTransaction g.S.Store s (record { conn = new; kept = c.put_prepared.new.lists.kept; next = next + 1 }) (Ok tt) (remembering answer s.kept)) c.self.view_is
-    (done_transaction g.S.Store c.self.inside.conn new next (next + 1) kept (remembering answer kept) _ inv same (g.met.S.Store.shut_if_dirty new.store) complete obeys (omega arith, omega arith) (g.met.S.Store.settled new.store) (next + 1) refl
+    (done_transaction g.S.Store c.self.inside.conn new next (next + 1) kept (remembering answer kept) _ inv same (g.met.S.Store.shut_if_dirty new.store) complete obeys (omega arith, omega arith)
+    (g.met.S.Store.settled new.store) (next + 1) refl
     c.put_prepared.new.lists.kept now c.in_default.field-0 (goes (tables_of kept)) tt _ _ _ _ (goes (unnamed_in kept)) (puts_apart kept answer news))

@@ -61,7 +61,8 @@ invariant_of-self-2 g c =
     let obeys = obeys_limited kept inv.obeys limit complete in
     let same = limited_rows limit kept keys inv.complete behind in
     done_stands g.S.Store c.self.inside.conn new next next kept (limiting limit kept) _ inv same (g.met.S.Store.shut_if_dirty new.store) complete obeys (inv.first, inv.last) next refl
-    c.limit_answers.new.self.kept c.limit_answers.ensures c.in_default.field-0 (limit_goes g.S.Store c.self.inside.conn new (Ok c.in_default.field-0) kept limit next keys inv.complete behind c.in_default.ensures (tables_of kept))
+    c.limit_answers.new.self.kept c.limit_answers.ensures c.in_default.field-0
+    (limit_goes g.S.Store c.self.inside.conn new (Ok c.in_default.field-0) kept limit next keys inv.complete behind c.in_default.ensures (tables_of kept))
 
 pub returns-clause-transaction : goal.returns-clause-transaction
 returns-clause-transaction g c =
@@ -80,5 +81,6 @@ returns-clause-transaction g c =
     let same = limited_rows limit kept keys inv.complete behind in
     let goes = limit_goes g.S.Store c.self.inside.conn new (Ok c.in_default.field-0) kept limit next keys inv.complete behind c.in_default.ensures in
     subst (λ (s : Shown g.row.S.Denot). IsOneTransaction g.S.Store s (record { conn = new; kept = c.limit_answers.new.self.kept; next = next }) (Ok tt) (limiting limit s.kept)) c.self.view_is
-    (done_transaction g.S.Store c.self.inside.conn new next next kept (limiting limit kept) _ inv same (g.met.S.Store.shut_if_dirty new.store) complete obeys (inv.first, inv.last) (g.met.S.Store.settled new.store) next refl
+    (done_transaction g.S.Store c.self.inside.conn new next next kept (limiting limit kept) _ inv same (g.met.S.Store.shut_if_dirty new.store) complete obeys (inv.first, inv.last)
+    (g.met.S.Store.settled new.store) next refl
     c.limit_answers.new.self.kept c.limit_answers.ensures c.in_default.field-0 (goes (tables_of kept)) tt _ _ _ _ (goes (unnamed_in kept)) (limits_apart limit kept keys))

@@ -21,7 +21,8 @@ invariant_of-self g c =
     let left : next ≤ greatest_tick = subst (λ (s : Shown g.row.S.Denot). s.next ≤ greatest_tick) (sym c.self.view_is) c.requires.left in
     let there = subst (λ (s : Shown g.row.S.Denot). Any (λ (answer : KeptAnswer). key_of answer ≡ key) s.kept.answers) (sym c.self.view_is) c.requires.there in
     let complete = complete_brought key kept inv.complete in
-    refused_stands g.S.Store c.self.inside.conn new next (next + 1) kept (bringing key kept) (tables_of kept) inv (bringing_same key kept inv.complete) (g.met.S.Store.shut_if_dirty new.store) complete (obeys_brought kept inv.obeys key complete) (omega arith, omega arith) next refl
+    refused_stands g.S.Store c.self.inside.conn new next (next + 1) kept (bringing key kept) (tables_of kept) inv (bringing_same key kept inv.complete) (g.met.S.Store.shut_if_dirty new.store) complete
+    (obeys_brought kept inv.obeys key complete) (omega arith, omega arith) next refl
     kept refl c.in-Err.error (use_goes g.S.Store c.self.inside.conn new (Err c.in-Err.error) kept key next inv.complete there inv.first c.in-Err.ensures (tables_of kept))
 
 pub returns-in-Err-clause-transaction : goal.returns-in-Err-clause-transaction
@@ -36,7 +37,8 @@ returns-in-Err-clause-transaction g c =
     let complete = complete_brought key kept inv.complete in
     let goes = use_goes g.S.Store c.self.inside.conn new (Err c.in-Err.error) kept key next inv.complete there inv.first c.in-Err.ensures in
     subst (λ (s : Shown g.row.S.Denot). IsOneTransaction g.S.Store s (record { conn = new; kept = kept; next = next }) (Err c.fault_of.result) (bringing key s.kept)) c.self.view_is
-    (refused_transaction g.S.Store c.self.inside.conn new next (next + 1) kept (bringing key kept) (tables_of kept) inv (bringing_same key kept inv.complete) (g.met.S.Store.shut_if_dirty new.store) complete (obeys_brought kept inv.obeys key complete) (omega arith, omega arith) next refl
+    (refused_transaction g.S.Store c.self.inside.conn new next (next + 1) kept (bringing key kept) (tables_of kept) inv (bringing_same key kept inv.complete) (g.met.S.Store.shut_if_dirty new.store)
+    complete (obeys_brought kept inv.obeys key complete) (omega arith, omega arith) next refl
     kept refl c.in-Err.error (goes (tables_of kept)) c.fault_of.result _ _ _ _ (goes (unnamed_in kept)) (λ (h : 2 ≡ 0). let never : ⊥ = omega arith in never))
 
 pub invariant_of-self-2 : goal.invariant_of-self-2
@@ -49,8 +51,10 @@ invariant_of-self-2 g c =
     let left : next ≤ greatest_tick = subst (λ (s : Shown g.row.S.Denot). s.next ≤ greatest_tick) (sym c.self.view_is) c.requires.left in
     let there = subst (λ (s : Shown g.row.S.Denot). Any (λ (answer : KeptAnswer). key_of answer ≡ key) s.kept.answers) (sym c.self.view_is) c.requires.there in
     let complete = complete_brought key kept inv.complete in
-    done_stands g.S.Store c.self.inside.conn new next (next + 1) kept (bringing key kept) (tables_of kept) inv (bringing_same key kept inv.complete) (g.met.S.Store.shut_if_dirty new.store) complete (obeys_brought kept inv.obeys key complete) (omega arith, omega arith) (next + 1) refl
-    c.bring_answer.new.self.kept c.bring_answer.ensures c.in_default.field-0 (use_goes g.S.Store c.self.inside.conn new (Ok c.in_default.field-0) kept key next inv.complete there inv.first c.in_default.ensures (tables_of kept))
+    done_stands g.S.Store c.self.inside.conn new next (next + 1) kept (bringing key kept) (tables_of kept) inv (bringing_same key kept inv.complete) (g.met.S.Store.shut_if_dirty new.store) complete
+    (obeys_brought kept inv.obeys key complete) (omega arith, omega arith) (next + 1) refl
+    c.bring_answer.new.self.kept c.bring_answer.ensures c.in_default.field-0
+    (use_goes g.S.Store c.self.inside.conn new (Ok c.in_default.field-0) kept key next inv.complete there inv.first c.in_default.ensures (tables_of kept))
 
 pub returns-clause-transaction : goal.returns-clause-transaction
 returns-clause-transaction g c =
@@ -64,5 +68,7 @@ returns-clause-transaction g c =
     let complete = complete_brought key kept inv.complete in
     let goes = use_goes g.S.Store c.self.inside.conn new (Ok c.in_default.field-0) kept key next inv.complete there inv.first c.in_default.ensures in
     subst (λ (s : Shown g.row.S.Denot). IsOneTransaction g.S.Store s (record { conn = new; kept = c.bring_answer.new.self.kept; next = next + 1 }) (Ok tt) (bringing key s.kept)) c.self.view_is
-    (done_transaction g.S.Store c.self.inside.conn new next (next + 1) kept (bringing key kept) (tables_of kept) inv (bringing_same key kept inv.complete) (g.met.S.Store.shut_if_dirty new.store) complete (obeys_brought kept inv.obeys key complete) (omega arith, omega arith)
-    (g.met.S.Store.settled new.store) (next + 1) refl c.bring_answer.new.self.kept c.bring_answer.ensures c.in_default.field-0 (goes (tables_of kept)) tt _ _ _ _ (goes (unnamed_in kept)) (λ (h : 2 ≡ 0). let never : ⊥ = omega arith in never))
+    (done_transaction g.S.Store c.self.inside.conn new next (next + 1) kept (bringing key kept) (tables_of kept) inv (bringing_same key kept inv.complete) (g.met.S.Store.shut_if_dirty new.store)
+    complete (obeys_brought kept inv.obeys key complete) (omega arith, omega arith)
+    (g.met.S.Store.settled new.store) (next + 1) refl c.bring_answer.new.self.kept c.bring_answer.ensures c.in_default.field-0 (goes (tables_of kept)) tt _ _ _ _ (goes (unnamed_in kept))
+    (λ (h : 2 ≡ 0). let never : ⊥ = omega arith in never))

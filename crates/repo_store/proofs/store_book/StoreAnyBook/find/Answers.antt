@@ -5,11 +5,13 @@ use Rattle.repo_store.proofs.store_book.StoreAnyBook.find.Goals as goal
 
 pub returns-in_err-found-clause-left : goal.returns-in_err-found-clause-left
 returns-in_err-found-clause-left g c =
-    left_found g.S.Store (λ shown. g.met.S.Store.stays shown.conn.store) c.args.self.now c.answer_find.new.self c.answer_find.result c.args.words.now c.args.seen.now c.answer_find.ensures.transaction c.answer_find.ensures.keys
+    left_found g.S.Store (λ shown. g.met.S.Store.stays shown.conn.store) c.args.self.now c.answer_find.new.self c.answer_find.result c.args.words.now c.args.seen.now c.answer_find.ensures.transaction
+    c.answer_find.ensures.keys
 
 pub returns-in_err-found-clause-rest : goal.returns-in_err-found-clause-rest
 returns-in_err-found-clause-rest g c =
-    rest_found g.S.Store (λ shown. g.met.S.Store.stays shown.conn.store) c.args.self.now c.answer_find.new.self c.answer_find.result c.args.words.now c.args.seen.now c.answer_find.ensures.transaction c.answer_find.ensures.change
+    rest_found g.S.Store (λ shown. g.met.S.Store.stays shown.conn.store) c.args.self.now c.answer_find.new.self c.answer_find.result c.args.words.now c.args.seen.now c.answer_find.ensures.transaction
+    c.answer_find.ensures.change
 
 pub returns-clause-found : goal.returns-clause-found
 returns-clause-found g c =
@@ -21,8 +23,10 @@ returns-clause-after g c =
 
 pub returns-clause-left : goal.returns-clause-left
 returns-clause-left g c =
-    left_found g.S.Store (λ shown. g.met.S.Store.stays shown.conn.store) c.args.self.now c.answer_find.new.self c.answer_find.result c.args.words.now c.args.seen.now c.answer_find.ensures.transaction c.answer_find.ensures.keys
+    left_found g.S.Store (λ shown. g.met.S.Store.stays shown.conn.store) c.args.self.now c.answer_find.new.self c.answer_find.result c.args.words.now c.args.seen.now c.answer_find.ensures.transaction
+    c.answer_find.ensures.keys
 
 pub returns-clause-rest : goal.returns-clause-rest
 returns-clause-rest g c =
-    rest_found g.S.Store (λ shown. g.met.S.Store.stays shown.conn.store) c.args.self.now c.answer_find.new.self c.answer_find.result c.args.words.now c.args.seen.now c.answer_find.ensures.transaction c.answer_find.ensures.change
+    rest_found g.S.Store (λ shown. g.met.S.Store.stays shown.conn.store) c.args.self.now c.answer_find.new.self c.answer_find.result c.args.words.now c.args.seen.now c.answer_find.ensures.transaction
+    c.answer_find.ensures.change

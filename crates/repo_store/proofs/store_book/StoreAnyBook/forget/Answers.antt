@@ -7,7 +7,9 @@ pub returns-in_err-count-clause-left : goal.returns-in_err-count-clause-left
 returns-in_err-count-clause-left g c = left_forgotten g.S.Store c.args.self.now c.answers_forget.new.self c.answers_forget.result c.answers_forget.ensures.transaction
 
 pub returns-in_err-count-clause-rest : goal.returns-in_err-count-clause-rest
-returns-in_err-count-clause-rest g c = rest_forgotten g.S.Store c.args.self.now c.answers_forget.new.self c.answers_forget.result c.answers_forget.ensures.transaction (g.met.S.Store.stays c.args.self.now.conn.store) c.answers_forget.ensures.change
+returns-in_err-count-clause-rest g c =
+    rest_forgotten g.S.Store c.args.self.now c.answers_forget.new.self c.answers_forget.result c.answers_forget.ensures.transaction (g.met.S.Store.stays c.args.self.now.conn.store)
+    c.answers_forget.ensures.change
 
 pub returns-clause-after : goal.returns-clause-after
 returns-clause-after g c = after_forgetting c.args.self.now.kept (remembered_by c.answers_forget.new.self.kept) (ap remembered_by c.in_ok-count.ensures.change.done)
@@ -16,4 +18,6 @@ pub returns-clause-left : goal.returns-clause-left
 returns-clause-left g c = left_forgotten g.S.Store c.args.self.now c.answers_forget.new.self c.answers_forget.result c.answers_forget.ensures.transaction
 
 pub returns-clause-rest : goal.returns-clause-rest
-returns-clause-rest g c = rest_forgotten g.S.Store c.args.self.now c.answers_forget.new.self c.answers_forget.result c.answers_forget.ensures.transaction (g.met.S.Store.stays c.args.self.now.conn.store) c.answers_forget.ensures.change
+returns-clause-rest g c =
+    rest_forgotten g.S.Store c.args.self.now c.answers_forget.new.self c.answers_forget.result c.answers_forget.ensures.transaction (g.met.S.Store.stays c.args.self.now.conn.store)
+    c.answers_forget.ensures.change
