@@ -43,7 +43,6 @@ LIMITS = [
     ("staged tree of a store", "8 MiB ({} bytes) together", "store_faults", "most_tree_path_bytes", 0),
     ("commits of a store", "{}", "store_faults", "most_commits", 0),
     ("remembered answers of a store", "{}", "store_faults", "most_answers", 0),
-    ("remembered answers of a store", "{}", "command_line", "most_limit", 0),
     ("remembered answers of a store", "{} in a new store", "store_faults", "first_limit", 0),
     ("number that tells how lately an answer was used", "{}", "repo_store", "greatest_tick", 0),
     ("exit code of a remembered answer", "{}", "store_faults", "most_status", 0),

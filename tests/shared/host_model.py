@@ -377,11 +377,14 @@ class HooksFailed(NamedTuple):
 
 
 class Limited(NamedTuple):
-    """At most so many answers are cached, which is no command of `Host::play`."""
+    """How many answers are left after a limit is set."""
     left: int
 
     def printed(self):
         return ended(0, f"remembered: {self.left}\n".encode())
+
+    def told(self):
+        return f"limited {self.left}\n".encode()
 
 
 class Forgot(NamedTuple):
@@ -399,6 +402,15 @@ class Rejected(NamedTuple):
 
     def told(self):
         return f"refused {self.why}\n".encode()
+
+
+class EditRefused(NamedTuple):
+    """One of several changes is refused, and so all of them."""
+    why: str
+    at: int
+
+    def told(self):
+        return f"refused {self.why}\nat {self.at}\n".encode()
 
 
 def told_changes(name, changes):
@@ -491,6 +503,19 @@ class Machine:
         self.staged, self.fixes = {other: file for other, file in self.staged.items() if other != path}, {}
         return Staged("removed")
 
+    def stage(self, count, *words):
+        """Several changes, all or none."""
+        before, left = (self.staged, self.fixes), list(words)
+        for at in range(int(count)):
+            taken = 4 if left[0] == "add" else 2
+            (word, *given), left = left[:taken], left[taken:]
+            try:
+                getattr(self, word)(*given)
+            except Refused as refused:
+                self.staged, self.fixes = before
+                return EditRefused(str(refused), at)
+        return Staged("staged")
+
     def accept(self):
         if not self.fixes:
             raise Refused("11 NoFixes")
@@ -504,7 +529,7 @@ class Machine:
 
     def limit(self, number):
         self.refuse_command()
-        self.memory.book.keep_to(number)
+        self.memory.book.keep_to(int(number))
         return Limited(len(self.memory.book))
 
     def run(self, stage, files, only, is_fresh, skip):

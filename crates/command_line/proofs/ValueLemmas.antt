@@ -17,7 +17,7 @@ use Rattle.command_line.specs.declared.line.ColorChoice.TheVariants.{Auto}
 use Rattle.command_line.specs.declared.line.FileVersion.{FileVersion}
 use Rattle.command_line.specs.declared.line.FileVersion.TheVariants.{Staged, Fixed, Committed}
 use Rattle.command_line.specs.declared.line.StageChoice.TheVariants.{PreCommit, Manual}
-use Rattle.command_line.specs.AnswerLimit.{IsAnswerLimit, most_limit}
+use Rattle.store_faults.specs.Limits.{IsLimit, most_answers}
 use Rattle.command_line.specs.CommandLine.{IsValueOf, color_in, limit_in, limit_number, mode_in, number_in, asked_stage_in, value_fault, version_in}
 
 pub text_or : (found : Option (Bor (List ℕ))) (empty : Bor (List ℕ)) (text : List ℕ) (rows : Option (List ℕ))
@@ -74,21 +74,21 @@ number-refused text {E} parsed refused error reads is kind =
 -- ---- the limit
 
 pub limit-read : (text : Text) {E : Type 0} (parsed : Result ℕ E) (number : ℕ) (read : Option ℕ) → ParsesUnsigned 32 10 text parsed → parsed ≡ Ok number
-    → IfSome read (λ limit. (limit ≡ number) × IsAnswerLimit number) → (read ≡ None → ¬ IsAnswerLimit number) → read ≡ limit_number text
+    → IfSome read (λ limit. (limit ≡ number) × IsLimit number) → (read ≡ None → ¬ IsLimit number) → read ≡ limit_number text
 limit-read text {E} parsed number (Some limit) reads is taken refused =
     let ok : ParsesUnsigned {E = E} 32 10 text (Ok number) = subst (ParsesUnsigned {E = E} 32 10 text) is reads in
     let fits = ok.0.1 in
     let told = ok.1 in
     let least = taken.1.at_least in
     let most = taken.1.at_most in
-    let passes : is_unsigned_in 1 most_limit text ≡ true =
-    Accepts-accepts false (Unsigned 1 most_limit) text (ok.0.0, omega (arith, fits), omega (arith, told, least), omega (arith, told, most)) in
+    let passes : is_unsigned_in 1 most_answers text ≡ true =
+    Accepts-accepts false (Unsigned 1 most_answers) text (ok.0.0, omega (arith, fits), omega (arith, told, least), omega (arith, told, most)) in
     rw (passes, taken.0, ok.1) refl
 limit-read text {E} parsed number None reads is taken refused =
     let ok : ParsesUnsigned {E = E} 32 10 text (Ok number) = subst (ParsesUnsigned {E = E} 32 10 text) is reads in
     let told = ok.1 in
-    let fails : is_unsigned_in 1 most_limit text ≡ false = false_from_ne_true _ (λ e.
-    let accepted = accepts-Accepts false (Unsigned 1 most_limit) text e in
+    let fails : is_unsigned_in 1 most_answers text ≡ false = false_from_ne_true _ (λ e.
+    let accepted = accepts-Accepts false (Unsigned 1 most_answers) text e in
     let least = accepted.2 in
     let most = accepted.3 in
     refused refl (record { at_least = omega (arith, told, least); at_most = omega (arith, told, most) })) in
@@ -98,8 +98,8 @@ pub limit-unread : (text : Text) {E : Type 0} (parsed : Result ℕ E) (refused :
     → None ≡ limit_number text
 limit-unread text {E} parsed refused reads is =
     let none : ParsesUnsigned {E = E} 32 10 text (Err refused) = subst (ParsesUnsigned {E = E} 32 10 text) is reads in
-    let fails : is_unsigned_in 1 most_limit text ≡ false = false_from_ne_true _ (λ e.
-    let accepted = accepts-Accepts false (Unsigned 1 most_limit) text e in
+    let fails : is_unsigned_in 1 most_answers text ≡ false = false_from_ne_true _ (λ e.
+    let accepted = accepts-Accepts false (Unsigned 1 most_answers) text e in
     let most = accepted.3 in
     none (accepted.0, omega (arith, most))) in
     rw fails refl

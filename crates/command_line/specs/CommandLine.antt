@@ -13,7 +13,7 @@ use Rattle.clap.specs.declared.error.Error.{Error}
 use Rattle.clap.specs.declared.error.kind.ErrorKind.TheVariants.{InvalidValue}
 use Rattle.hook_base.specs.declared.file.Mode.{Mode}
 use Rattle.hook_base.specs.declared.file.Mode.TheVariants.{Executable}
-use Rattle.command_line.specs.AnswerLimit.{most_limit}
+use Rattle.store_faults.specs.Limits.{most_answers}
 use Rattle.command_line.specs.MessageWords.{words_for_clap}
 use Rattle.command_line.specs.declared.line.ColorChoice.{ColorChoice}
 use Rattle.command_line.specs.declared.line.ColorChoice.TheVariants.{Auto, Always, Never}
@@ -243,7 +243,7 @@ number_in text =
 -- the limit that a text writes: decimal digits, which a `+` may precede, of a number from 1 to 100,000
 abbrev pub limit_number : Text → Option ℕ
 limit_number text =
-    if is_unsigned_in 1 most_limit text then Some (digits_value 10 (without_leading_plus text)) else None
+    if is_unsigned_in 1 most_answers text then Some (digits_value 10 (without_leading_plus text)) else None
 
 -- the limit that `--limit` asks for. `Some None` means that it is left out, `None` that its value can't be
 -- taken

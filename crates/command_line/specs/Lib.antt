@@ -1,4 +1,3 @@
-pub mod AnswerLimit
 pub mod CommandLine
 pub mod HelpLengths
 pub mod MessageWords

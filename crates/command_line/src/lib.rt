@@ -1,11 +1,9 @@
 //! The command line of `hookhost`: what a line of words asks for (`line_of`), as a value (`CommandLine`), and the
 //! help. A line that limits the cached results holds an `AnswerLimit`.
 //!
-//! The contracts cite `specs/CommandLine.antt`, which states the command line as `clap` sees it, and
-//! `specs/AnswerLimit.antt`.
+//! The contracts cite `specs/CommandLine.antt`, which states the command line as `clap` sees it.
 #![tactic(auto)]
 
-mod answer_limit;
 mod command_line;
 mod commands;
 mod help;
@@ -17,9 +15,9 @@ mod repository_help;
 mod values;
 mod version;
 
-pub use answer_limit::AnswerLimit;
 pub use command_line::line_of;
 pub use line::{
     ColorChoice, CommandLine, FileChoice, FileVersion, LookUp, PathSource, RunChoice, StageChoice,
     Standalone, Update,
 };
+pub use store_faults::AnswerLimit;

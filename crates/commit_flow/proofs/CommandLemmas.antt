@@ -1,5 +1,5 @@
 -- What a command leaves, from what the store's call leaves.
-use Rattle.std.proofs.Common.{◌≡◌, ℕ, List, length, Option, Ok, Err, ap, inl, refl, sym, subst, arith}
+use Rattle.std.proofs.Common.{◌≡◌, ℕ, List, [], length, Option, Ok, Err, ap, inl, refl, sym, subst, arith}
 use Rattle.std.proofs.lemmas.List.{length-map, take-map}
 use Rattle.sqlite_trees.specs.declared.store.Store.{Ghosts}
 use Rattle.sqlite_trees.specs.Tree.{Trees}
@@ -12,22 +12,24 @@ use Rattle.store_faults.specs.declared.fault.StoreFault.{StoreFault}
 use Rattle.store_faults.specs.declared.fault.StoreFault.TheVariants as store
 use Rattle.repo_store.specs.Contents.{Collides}
 use Rattle.store_faults.specs.Faults.{IsRefusal}
-use Rattle.store_faults.specs.Limits.{Fits, IsSmall}
+use Rattle.store_faults.specs.Limits.{Fits, IsLimit, IsSmall}
 use Rattle.repo_store.specs.Kept.{Kept, accepting, forgetting, limiting, staging, unstaging}
+use Rattle.repo_store.specs.Repository.{Repository}
 use Rattle.repo_store.specs.Shown.{IsOneTransaction, Leaves, LeavesOnly, Shown}
 use Rattle.result_book.specs.Calls.{AfterForget}
-use Rattle.result_book.specs.Contents.{count_of, with_rows}
+use Rattle.result_book.specs.Contents.{Contents, count_of, with_rows}
 use Rattle.repo_store.specs.StoreBooks.{remembered_by, row_of}
 use Rattle.commit_flow.specs.declared.command.Command.{Command}
-use Rattle.commit_flow.specs.declared.command.Command.TheVariants.{Add, Remove, Accept, Forget}
+use Rattle.commit_flow.specs.declared.command.Command.TheVariants.{Add, Remove, Accept, Forget, Limit}
 use Rattle.commit_flow.specs.declared.host_refusal.HostRefusal.{HostRefusal}
 use Rattle.commit_flow.specs.declared.host_refusal.HostRefusal.TheVariants.{Collision}
 use Rattle.commit_flow.specs.declared.reply.Reply.{Reply}
-use Rattle.commit_flow.specs.declared.reply.Reply.TheVariants.{Added, Removed, Accepted, Forgot, Refused}
+use Rattle.commit_flow.specs.declared.reply.Reply.TheVariants.{Added, Removed, Accepted, Forgot, Limited, Refused}
 use Rattle.commit_flow.specs.AnswerLimits.{IsLimitRefusal, IsLimitedTo}
 use Rattle.commit_flow.specs.Refusals.{of_store}
 use Rattle.commit_flow.specs.StagedPaths.{IsLegal, IsStaged}
-use Rattle.commit_flow.specs.Steps.{HasFixes, IsAddable, entry_to_add, mode_to_add}
+use Rattle.commit_flow.specs.Plays.{HasLimited}
+use Rattle.commit_flow.specs.Steps.{HasFixes, IsAddable, Step, entry_to_add, mode_to_add}
 use Rattle.commit_flow.specs.Stops.{IsOneCommand, LeavesDone}
 
 -- where nothing happens, a crash leaves what it could leave
@@ -160,6 +162,40 @@ pub limited_so : (limit : ℕ) (old new : Kept) → new ≡ limiting limit old �
 limited_so limit old new same =
     subst (λ (kept : Kept). IsLimitedTo limit (remembered_by old) (remembered_by kept)) (sym same)
     (ap (with_rows limit) (sym (take-map row_of limit old.answers)))
+
+limit_reached : (most : ℕ) (kept : Kept) (trees : Trees) → Leaves (limiting most kept) trees → LeavesDone kept (Limit most) trees
+limit_reached most kept trees leaves = record {
+  kept = limiting most kept;
+  reply = Limited most;
+  done = tt;
+  step = (refl, refl);
+  remembers = limited_so most kept (limiting most kept) refl;
+  leaves = leaves;
+}
+
+-- the limit is set, whatever number is answered
+module _ {S : Type 0} (g : Ghosts S) (old new : Shown S) (most : ℕ) where
+  pub limit_not_set : {A E : Type 0} (fault : E) (refusal : HostRefusal) → IsOneTransaction {A = A} g old new (Err fault) (limiting most old.kept)
+      → IsOneCommand g old new (Limit most) (Refused refusal)
+  limit_not_set fault refusal one = refused_command g old new (Limit most) (limiting most old.kept) (limiting most old.kept) refl (limit_reached most old.kept) fault refusal one
+
+  pub limit_set : {A E : Type 0} (x : A) (number : ℕ) → new.kept ≡ limiting most old.kept → IsOneTransaction {E = E} g old new (Ok x) (limiting most old.kept)
+      → IsOneCommand g old new (Limit most) (Limited number)
+  limit_set x number same one = done_command g old new (Limit most) (limiting most old.kept) (limiting most old.kept) refl (limit_reached most old.kept) x (Limited number) same one
+
+-- a limit that is read as a number
+pub limit_fits : (most taken : ℕ) → taken ≡ most → IsLimit most → IsLimit taken
+limit_fits most taken is within = subst IsLimit (sym is) within
+
+module _ (most taken : ℕ) (is : taken ≡ most) where
+  pub limit_step : (before after : Repository) (reply : Reply) → Step before (Limit taken) reply [] after → Step before (Limit most) reply [] after
+  limit_step before after reply step = subst (λ (n : ℕ). Step before (Limit n) reply [] after) is step
+
+  pub limit_one : {S : Type 0} (g : Ghosts S) (old new : Shown S) (reply : Reply) → IsOneCommand g old new (Limit taken) reply → IsOneCommand g old new (Limit most) reply
+  limit_one g old new reply one = subst (λ (n : ℕ). IsOneCommand g old new (Limit n) reply) is one
+
+  pub limit_made : (before after : Contents) (number : ℕ) → number ≡ count_of after → IsLimitedTo taken before after → HasLimited most before after (Limited number)
+  limit_made before after number counted limited = (counted, subst (λ (n : ℕ). IsLimitedTo n before after) is limited)
 
 pub limit_refusal : (fault : StoreFault) → IsRefusal ⊥ ⊥ ⊥ fault → IsLimitRefusal (of_store fault)
 limit_refusal (store.Sql error) why = tt

@@ -1,6 +1,7 @@
 -- Changes of the staged files as steps of the host, from what the store's call says of them.
-use Rattle.std.proofs.Common.{◌≡◌, ◌⊎◌, ℕ, List, [], ◌∷◌, take, Option, None, Some, Ok, Err, refl, sym, subst, inl, inr}
+use Rattle.std.proofs.Common.{◌≡◌, ◌⊎◌, ℕ, List, [], ◌∷◌, take, Option, None, Some, Result, Ok, Err, refl, sym, subst, ap, inl, inr}
 use Rattle.sqlite_trees.specs.declared.store.Store.{Ghosts}
+use Rattle.sqlite_trees.specs.Tree.{Trees}
 use Rattle.sqlite.specs.Held.{Held, state}
 use Rattle.sqlite.specs.State.{Survives}
 use Rattle.commit_flow.proofs.Kit.{survives_weaker}
@@ -11,14 +12,21 @@ use Rattle.repo_store.specs.declared.staging_edit.StagingEdit.TheVariants as sta
 use Rattle.repo_store.specs.declared.staging_refusal.StagingFault.{StagingFault}
 use Rattle.repo_store.specs.declared.staging_refusal.StagingFault.TheVariants.{BadPath, NotStaged, Clash, Store}
 use Rattle.repo_store.specs.declared.staging_refusal.StagingRefusal.{StagingRefusal}
+use Rattle.repo_store.specs.StoreBooks.{remembered_by}
 use Rattle.repo_store.specs.Edits.{AreEditable, IsAddFault, IsEditFault, IsEditable, IsRefusedFor, IsRemoveFault, IsStagingRefusal, all_edited, edited}
 use Rattle.repo_store.specs.Kept.{Kept}
+use Rattle.repo_store.specs.Repository.{Repository}
 use Rattle.repo_store.specs.Shown.{IsOneTransaction, Leaves, LeavesOnly, Shown}
-use Rattle.commit_flow.specs.declared.reply.Reply.TheVariants.{Refused}
+use Rattle.commit_flow.specs.declared.command.Command.TheVariants.{Stage}
+use Rattle.commit_flow.specs.declared.host_refusal.HostRefusal.{HostRefusal}
+use Rattle.commit_flow.specs.declared.host_refusal.HostRefusal.TheVariants as refusal
+use Rattle.commit_flow.specs.declared.reply.Reply.TheVariants.{EditRefused, Refused, Staged}
 use Rattle.commit_flow.specs.declared.staging_stop.StagingStop.{StagingStop}
+use Rattle.commit_flow.specs.Commands.{reply_of_staging}
 use Rattle.commit_flow.specs.EditSteps.{AreOneCommand, AreSteps, IsStoppedFor, IsStagingStop, LeavesEdited, NoEditCollides, edit_command, edit_reply}
 use Rattle.commit_flow.specs.Refusals.{of_staging, stop_of}
-use Rattle.commit_flow.specs.Steps.{IsAddRefusal, IsRemoveRefusal, Step}
+use Rattle.commit_flow.specs.Steps.{AreEditsMade, AreEditsStopped, IsAddRefusal, IsEditMade, IsEditRefusal, IsRemoveRefusal, Step}
+use Rattle.commit_flow.specs.Stops.{IsOneCommand, LeavesDone}
 use Rattle.commit_flow.proofs.CommandLemmas.{survives_itself}
 
 -- ---- they are made
@@ -113,3 +121,61 @@ module _ {S : Type 0} (g : Ghosts S) (old new : Shown S) (edits : List StagingEd
   pub edits_done : {A B E : Type 0} (x : A) (y : B) → AreEditable edits old.kept → new.kept ≡ all_edited edits old.kept → IsOneTransaction {E = E} g old new (Ok x) (all_edited edits old.kept)
       → AreOneCommand {A = B} g old new edits (Ok y)
   edits_done x y are same one = record { stands = λ _. one.stands; crash = leaves_edited are one.crash; durable = subst (LeavesOnly g new.conn) (sym same) one.durable }
+
+-- ---- as one command of the machine
+
+step_made : (edit : StagingEdit) (before after : Repository) → Step before (edit_command edit) (edit_reply edit) [] after → IsEditMade edit before after
+step_made (staging.Add path bytes asked) before after step = step.0
+step_made (staging.Remove path) before after step = step.0
+
+steps_made : (edits : List StagingEdit) (before after : Repository) → AreSteps edits before after → AreEditsMade edits before after
+steps_made [] before after steps = steps
+steps_made (edit ∷ edits) before after steps = (steps.0, step_made edit before steps.0 steps.1, steps_made edits steps.0 after steps.2)
+
+step_refusal : (edit : StagingEdit) (before : Repository) (refusal : HostRefusal) → Step before (edit_command edit) (Refused refusal) [] before → IsEditRefusal edit before refusal
+step_refusal (staging.Add path bytes asked) before refusal step = step.0.0
+step_refusal (staging.Remove path) before refusal step = step.0.0
+
+stopped_so : (edits : List StagingEdit) (before : Repository) (why : HostRefusal) (at : Option ℕ) → IsStoppedFor edits before why at → AreEditsStopped edits before why at
+stopped_so edits before why (Some at) stop = record {
+  reached = stop.reached;
+  made = steps_made (take at edits) before stop.reached stop.steps;
+  edit = stop.edit;
+  is = stop.is;
+  why = step_refusal stop.edit stop.reached why stop.refused;
+}
+stopped_so edits before refusal.OutOfMemory None stop = tt
+stopped_so edits before (refusal.Store fault) None stop = (stop.0, stop.1, steps_made edits before stop.1 stop.2)
+stopped_so edits before why None stop = absurd stop
+
+pub edits_remember : (edits : List StagingEdit) (kept : Kept) → remembered_by (all_edited edits kept) ≡ remembered_by kept
+edits_remember [] kept = refl
+edits_remember (staging.Add path bytes asked ∷ edits) kept = edits_remember edits (edited (staging.Add path bytes asked) kept)
+edits_remember (staging.Remove path ∷ edits) kept = edits_remember edits (edited (staging.Remove path) kept)
+
+pub edits_step : (edits : List StagingEdit) (kept : Kept) → AreEditable edits kept → Step kept.repo (Stage edits) Staged [] (all_edited edits kept).repo
+edits_step edits kept are = (steps_made edits kept.repo (all_edited edits kept).repo (all_steps edits kept are), refl)
+
+pub edits_step_refused : (edits : List StagingEdit) (kept new : Kept) (refused : StagingRefusal) → IsStagingRefusal edits kept refused → new ≡ kept
+    → Step kept.repo (Stage edits) (EditRefused (stop_of refused)) [] new.repo
+edits_step_refused edits kept new refused why same =
+    let stop = stop_of refused in
+    (stopped_so edits kept.repo stop.refusal stop.at (is_staging_stop edits kept refused why), refl, ap (λ (at : Kept). at.repo) same)
+
+module _ {S : Type 0} (g : Ghosts S) (old new : Shown S) (edits : List StagingEdit) where
+  edited_done : (trees : Trees) → LeavesEdited edits old.kept trees → LeavesDone old.kept (Stage edits) trees
+  edited_done trees left = record {
+    kept = all_edited edits old.kept;
+    reply = Staged;
+    done = tt;
+    step = (steps_made edits old.kept.repo (all_edited edits old.kept).repo left.steps, refl);
+    remembers = edits_remember edits old.kept;
+    leaves = left.leaves;
+  }
+
+  leaves_done : Survives (state g old.conn) (state g new.conn) (LeavesEdited edits old.kept) → Survives (state g old.conn) (state g new.conn) (LeavesDone old.kept (Stage edits))
+  leaves_done = survives_weaker (state g old.conn) (state g new.conn) (LeavesEdited edits old.kept) (LeavesDone old.kept (Stage edits)) (λ _ trees left. edited_done trees left)
+
+  pub staged_command : {A : Type 0} (result : Result A StagingStop) → AreOneCommand g old new edits result → IsOneCommand g old new (Stage edits) (reply_of_staging result)
+  staged_command (Ok x) one = record { stands = one.stands; crash = leaves_done one.crash; durable = λ _. one.durable }
+  staged_command (Err stop) one = record { stands = one.stands; crash = leaves_done one.crash; durable = λ done. absurd done }

@@ -16,16 +16,17 @@ use Rattle.hook_run.specs.OneAnswerLemmas.{none-unsteady}
 use Rattle.hook_run.specs.Parts.{Part}
 use Rattle.repo_store.specs.Repository.{Repository}
 use Rattle.commit_flow.specs.declared.command.Command.{Command}
-use Rattle.commit_flow.specs.declared.command.Command.TheVariants.{Run, Commit, Forget}
+use Rattle.commit_flow.specs.declared.command.Command.TheVariants.{Run, Commit, Forget, Limit}
+use Rattle.commit_flow.specs.declared.host_refusal.HostRefusal.{HostRefusal}
 use Rattle.commit_flow.specs.declared.host_refusal.HostRefusal.TheVariants.{OutOfMemory, Store, Collision}
 use Rattle.commit_flow.specs.declared.reply.Reply.{Reply}
-use Rattle.commit_flow.specs.declared.reply.Reply.TheVariants.{Ran, Forgot, Refused}
+use Rattle.commit_flow.specs.declared.reply.Reply.TheVariants.{Ran, Forgot, Limited, EditRefused, Refused}
 use Rattle.commit_flow.specs.MachineRuns.{IsMachineRun}
 use Rattle.commit_flow.specs.Plays.{ArePlayed, IsPlay, IsPlayed}
 use Rattle.commit_flow.specs.Runs.{reuse_of, run_ask_of}
-use Rattle.commit_flow.specs.StepLaws.{IsDecided}
+use Rattle.commit_flow.specs.StepLaws.{IsDecided, IsDecidedRefusal}
 use Rattle.commit_flow.specs.Steps.{Step}
-use Rattle.commit_flow.specs.TwoHosts.{IsSteady, IsUnhindered, IsUnhinderedPlay, IsUnhinderedRun, without_memory, without_number}
+use Rattle.commit_flow.specs.TwoHosts.{IsSteady, IsUnhindered, IsUnhinderedPlay, IsUnhinderedRefusal, IsUnhinderedRun, without_memory, without_number}
 use Rattle.commit_flow.proofs.CommitAnswerLemmas.{same_commit}
 use Rattle.commit_flow.proofs.PlayLawLemmas.{faults_at_least}
 use Rattle.commit_flow.proofs.PlayLemmas.{one_adds}
@@ -35,10 +36,15 @@ use Rattle.commit_flow.proofs.StepLemmas.{one_answer}
 
 -- ---- one step
 
+decided_refusal : (refusal : HostRefusal) → IsUnhinderedRefusal refusal → IsDecidedRefusal refusal
+decided_refusal OutOfMemory unhindered = unhindered
+decided_refusal (Store fault) unhindered = unhindered
+decided_refusal Collision unhindered = unhindered
+decided_refusal refusal unhindered = tt
+
 decided : (reply : Reply) → IsUnhindered reply → IsDecided reply
-decided (Refused OutOfMemory) unhindered = unhindered
-decided (Refused (Store fault)) unhindered = unhindered
-decided (Refused Collision) unhindered = unhindered
+decided (EditRefused stop) unhindered = decided_refusal stop.refusal unhindered
+decided (Refused refusal) unhindered = decided_refusal refusal unhindered
 decided reply unhindered = tt
 
 same_forget : (before after other : Repository) (reply second : Reply) (parts more : List Part) → Step before Forget reply parts after → Step before Forget second more other
@@ -53,6 +59,18 @@ same_forget before after other (Forgot number) (Refused refusal) parts more step
 same_forget before after other (Forgot number) second parts more step then unhindered both = absurd then
 same_forget before after other reply second parts more step then unhindered both = absurd step
 
+same_limit : (before after other : Repository) (most : ℕ) (reply second : Reply) (parts more : List Part) → Step before (Limit most) reply parts after → Step before (Limit most) second more other
+    → IsUnhindered reply → IsUnhindered second → AreAlike reply second after other
+same_limit before after other most (Limited number) (Limited count) parts more step then unhindered both = (refl, step.0 ∙ sym then.0)
+same_limit before after other most (Refused OutOfMemory) second parts more step then unhindered both = absurd unhindered
+same_limit before after other most (Refused (Store fault)) second parts more step then unhindered both = absurd unhindered
+same_limit before after other most (Refused refusal) second parts more step then unhindered both = absurd step.0.0
+same_limit before after other most (Limited number) (Refused OutOfMemory) parts more step then unhindered both = absurd both
+same_limit before after other most (Limited number) (Refused (Store fault)) parts more step then unhindered both = absurd both
+same_limit before after other most (Limited number) (Refused refusal) parts more step then unhindered both = absurd then.0.0
+same_limit before after other most (Limited number) second parts more step then unhindered both = absurd then
+same_limit before after other most reply second parts more step then unhindered both = absurd step
+
 module _ (tells : List (List ℕ) → List File → Outcome → Type 0) (alone : OneAnswer tells) where
   same_step : (before after other : Repository) (command : Command) (reply second : Reply) (parts more : List Part)
       → Step before command reply parts after → Step before command second more other → IsUnhindered reply → IsUnhindered second
@@ -62,6 +80,7 @@ module _ (tells : List (List ℕ) → List File → Outcome → Type 0) (alone :
   same_step before after other (Commit message no_verify skip) reply second parts more step then unhindered both clear also =
       same_commit tells before message no_verify skip alone reply second parts more after other step then unhindered both clear also
   same_step before after other Forget reply second parts more step then unhindered both clear also = same_forget before after other reply second parts more step then unhindered both
+  same_step before after other (Limit most) reply second parts more step then unhindered both clear also = same_limit before after other most reply second parts more step then unhindered both
   same_step before after other command reply second parts more step then unhindered both clear also =
       let one = one_answer before after other command reply second parts more step then tt (decided reply unhindered) (decided second both) in
       (ap without_memory one.0, one.2)

@@ -9,32 +9,41 @@ use Rattle.hook_run.specs.Answers.{AreAnswered}
 use Rattle.hook_run.specs.AnswerLemmas.{answered-faults, answered-rises, faults-append, so-far-faults, so-far-rises}
 use Rattle.hook_run.specs.Moments.{Moment}
 use Rattle.hook_run.specs.Parts.{Part, faults_of}
+use Rattle.repo_store.specs.declared.staging_edit.StagingEdit.{StagingEdit}
+use Rattle.repo_store.specs.declared.staging_edit.StagingEdit.TheVariants as staging
 use Rattle.repo_store.specs.Repository.{Repository, with_new_commit}
 use Rattle.commit_flow.specs.declared.command.Command.{Command}
-use Rattle.commit_flow.specs.declared.command.Command.TheVariants.{Add, Remove, Accept, Run, Commit, Forget}
+use Rattle.commit_flow.specs.declared.command.Command.TheVariants.{Add, Remove, Stage, Accept, Run, Commit, Forget, Limit}
 use Rattle.commit_flow.specs.declared.host_refusal.HostRefusal.{HostRefusal}
 use Rattle.commit_flow.specs.declared.reply.PostCommit.{PostCommit}
 use Rattle.commit_flow.specs.declared.reply.Reply.{Reply}
-use Rattle.commit_flow.specs.declared.reply.Reply.TheVariants.{Added, Removed, Accepted, Ran, Committed, HooksFailed, Forgot, Refused}
+use Rattle.commit_flow.specs.declared.reply.Reply.TheVariants.{Added, Removed, Staged, Accepted, Ran, Committed, HooksFailed, Forgot, Limited, EditRefused, Refused}
 use Rattle.commit_flow.specs.CommitSteps.{SaysSpent, StandsOnAll}
 use Rattle.commit_flow.specs.Messages.{cleaned_message}
 use Rattle.commit_flow.specs.Plays.{ArePlayed, HooksBegin, IsPlayed, Makes, RunsHooks, reuse_in}
 use Rattle.commit_flow.specs.PlayLaws.{HasCommitted, SaysCommitted}
 use Rattle.commit_flow.specs.RunSteps.{IsUnrun}
-use Rattle.commit_flow.specs.Steps.{Step}
+use Rattle.commit_flow.specs.Steps.{AreEditsMade, Step}
 
 -- ---- one step
 
 pub refused_leaves : (before after : Repository) (command : Command) (refusal : HostRefusal) (parts : List Part) → Step before command (Refused refusal) parts after → after ≡ before
 refused_leaves before after (Add path bytes asked) refusal parts step = step.1
 refused_leaves before after (Remove path) refusal parts step = step.1
+refused_leaves before after (Stage edits) refusal parts step = absurd step.0
 refused_leaves before after Accept refusal parts step = step.1
 refused_leaves before after (Run ask) refusal parts step = step.1
 refused_leaves before after (Commit message no_verify skip) refusal parts step = step.1
 refused_leaves before after Forget refusal parts step = step.1
+refused_leaves before after (Limit most) refusal parts step = step.1
 
 same_history : (before after : Repository) → after ≡ before → after.history ≡ before.history
 same_history before after same = ap (λ (repo : Repository). repo.history) same
+
+edits_history : (edits : List StagingEdit) (before after : Repository) → AreEditsMade edits before after → after.history ≡ before.history
+edits_history [] before after made = same_history before after made
+edits_history (staging.Add path bytes asked ∷ edits) before after made = edits_history edits made.0 after made.2 ∙ ap (λ (repo : Repository). repo.history) made.1.made
+edits_history (staging.Remove path ∷ edits) before after made = edits_history edits made.0 after made.2 ∙ ap (λ (repo : Repository). repo.history) made.1.made
 
 pub history_kept : (before after : Repository) (command : Command) (reply : Reply) (parts : List Part) → Step before command reply parts after → (¬ SaysCommitted reply)
     → after.history ≡ before.history
@@ -42,10 +51,13 @@ history_kept before after command (Committed number reports post) parts step not
 history_kept before after command (Refused refusal) parts step not = same_history before after (refused_leaves before after command refusal parts step)
 history_kept before after (Add path bytes asked) Added parts step not = ap (λ (repo : Repository). repo.history) step.0.made
 history_kept before after (Remove path) Removed parts step not = ap (λ (repo : Repository). repo.history) step.0.made
+history_kept before after (Stage edits) Staged parts step not = edits_history edits before after step.0
+history_kept before after (Stage edits) (EditRefused stop) parts step not = same_history before after step.2
 history_kept before after Accept (Accepted number) parts step not = ap (λ (repo : Repository). repo.history) step.0.made
 history_kept before after (Run ask) (Ran passed report changes unsteady) parts step not = ap (λ (repo : Repository). repo.history) step.made
 history_kept before after (Commit message no_verify skip) (HooksFailed stage reports) parts step not = ap (λ (repo : Repository). repo.history) step.made
 history_kept before after Forget (Forgot number) parts step not = same_history before after step.0
+history_kept before after (Limit most) (Limited number) parts step not = same_history before after step.0
 history_kept before after command reply parts step not = absurd step
 
 pub one_commit_more : (before after : Repository) (command : Command) (number : ℕ) (reports : List (List ℕ)) (post : PostCommit) (parts : List Part)
@@ -67,12 +79,17 @@ runless_parts before after (Run ask) reply parts step runless = absurd (runless 
 runless_parts before after (Commit message no_verify skip) reply parts step runless = absurd (runless tt)
 runless_parts before after (Add path bytes asked) Added parts step runless = step.1
 runless_parts before after (Remove path) Removed parts step runless = step.1
+runless_parts before after (Stage edits) Staged parts step runless = step.1
+runless_parts before after (Stage edits) (EditRefused stop) parts step runless = step.1
+runless_parts before after (Stage edits) (Refused refusal) parts step runless = absurd step.0
 runless_parts before after Accept (Accepted number) parts step runless = step.1
 runless_parts before after Forget (Forgot number) parts step runless = step.1
+runless_parts before after (Limit most) (Limited number) parts step runless = step.1
 runless_parts before after (Add path bytes asked) (Refused refusal) parts step runless = step.0.1
 runless_parts before after (Remove path) (Refused refusal) parts step runless = step.0.1
 runless_parts before after Accept (Refused refusal) parts step runless = step.0.1
 runless_parts before after Forget (Refused refusal) parts step runless = step.0.1
+runless_parts before after (Limit most) (Refused refusal) parts step runless = step.0.1
 runless_parts before after command reply parts step runless = absurd step
 
 no_hooks_begin : (before : Repository) (command : Command) (reply : Reply) (parts : List Part) → (¬ RunsHooks command) → HooksBegin before command reply parts → ⊥
@@ -88,10 +105,15 @@ module _ (tells : List (List ℕ) → List File → Outcome → Type 0) (from to
       let faulted = makes.1.faulted in
       let none = ap faults_of makes.0 in
       omega arith
+  made_faults (Limit most) reply parts makes =
+      let faulted = makes.1.faulted in
+      let none = ap faults_of makes.0 in
+      omega arith
   made_faults command reply parts makes = answered-faults tells (reuse_in command) from to parts makes
 
   made_calls : (command : Command) (reply : Reply) (parts : List Part) → Makes tells from to command reply parts → from.calls ≤ to.calls
   made_calls Forget reply parts makes = let called = makes.1.called in omega arith
+  made_calls (Limit most) reply parts makes = let called = makes.1.called in omega arith
   made_calls command reply parts makes = (answered-rises tells (reuse_in command) from to parts makes).calls
 
   none_started : (reuse : Reuse) (parts : List Part) → AreAnswered tells reuse from to parts → parts ≡ [] → (to.calls ≡ from.calls) × (to.faults ≡ from.faults)
@@ -106,6 +128,7 @@ module _ (tells : List (List ℕ) → List File → Outcome → Type 0) (from to
   -- without parts no child is started
   made_none : (command : Command) (reply : Reply) (parts : List Part) → Makes tells from to command reply parts → parts ≡ [] → (to.calls ≡ from.calls) × (to.faults ≡ from.faults)
   made_none Forget reply parts makes no_parts = (makes.1.called, makes.1.faulted)
+  made_none (Limit most) reply parts makes no_parts = (makes.1.called, makes.1.faulted)
   made_none command reply parts makes no_parts = none_started (reuse_in command) parts makes no_parts
 
 module _ (tells : List (List ℕ) → List File → Outcome → Type 0) (from to : Moment) (before : Repository) (command : Command) (reply : Reply) (after : Repository)

@@ -7,7 +7,8 @@ use Rattle.child_port.specs.Telling.{SameTells}
 use Rattle.hook_config.specs.declared.configuration.Config.{Config}
 use Rattle.hook_config.specs.declared.stage.Stage.TheVariants as stage
 use Rattle.result_book.specs.CallLemmas.{have_none}
-use Rattle.result_book.specs.Contents.{Contents, with_rows}
+use Rattle.result_book.specs.Contents.{Contents, Holds, with_rows}
+use Rattle.result_book.specs.OrderLemmas.{first_have}
 use Rattle.repo_store.specs.StoreBooks.{remembered_by, row_of}
 use Rattle.repo_store.specs.Answers.{KeptAnswer}
 use Rattle.result_book.specs.Told.{AddsTold, IsTold}
@@ -21,19 +22,20 @@ use Rattle.hook_run.specs.Parts.{AllTold, Part}
 use Rattle.repo_store.specs.Kept.{FixCollides, Kept}
 use Rattle.repo_store.specs.Repository.{Repository}
 use Rattle.commit_flow.specs.declared.command.Command.{Command}
-use Rattle.commit_flow.specs.declared.command.Command.TheVariants.{Add, Remove, Accept, Run, Commit, Forget}
+use Rattle.commit_flow.specs.declared.command.Command.TheVariants.{Add, Remove, Stage, Accept, Run, Commit, Forget, Limit}
 use Rattle.commit_flow.specs.declared.host_ask.HostAsk.{HostAsk}
 use Rattle.commit_flow.specs.declared.host_refusal.HostRefusal.{HostRefusal}
 use Rattle.commit_flow.specs.declared.host_refusal.HostRefusal.TheVariants.{OutOfMemory, Store, Collision, Spent}
 use Rattle.commit_flow.specs.declared.reply.PostCommit.TheVariants.{Stopped}
 use Rattle.commit_flow.specs.declared.reply.Reply.{Reply}
-use Rattle.commit_flow.specs.declared.reply.Reply.TheVariants.{Committed, Forgot, Refused}
+use Rattle.commit_flow.specs.declared.reply.Reply.TheVariants.{Committed, Forgot, Limited, Refused}
 use Rattle.commit_flow.specs.declared.staged_run.StagedRun.{StagedRun}
+use Rattle.commit_flow.specs.AnswerLimits.{IsLimitedTo}
 use Rattle.commit_flow.specs.CommitSteps.{AreLeftOut, HasBegunBefore, HasBegunBehind, HasFailedBut, HasFurtherBefore, HasFurtherBehind, IsCommitStep, IsUnkept, SaysSpent, StandsOnAll, StoreStopsCommit}
 use Rattle.commit_flow.specs.CommitStages.{HaveBegun, ask_in, course_of, parts_of_stages, stages_before_commit}
 use Rattle.commit_flow.specs.Commits.{IsVerifiedBut}
 use Rattle.commit_flow.specs.Configured.{IsConfigured}
-use Rattle.commit_flow.specs.Plays.{ArePlayed, HasForgotten, HooksBegin, HooksNeedChild, IsPlay, IsPlayed, Makes, RunsHooks, reuse_in}
+use Rattle.commit_flow.specs.Plays.{ArePlayed, HasForgotten, HasLimited, HooksBegin, HooksNeedChild, IsPlay, IsPlayed, Makes, RunsHooks, reuse_in}
 use Rattle.commit_flow.specs.RunSteps.{HasRunBegun, HasFurther, HasRunBut, IsRunStep, IsStoppedAt, IsStoppedStep, IsUnrun, IsUnset, StoreStopsRun, reply_of_run}
 use Rattle.commit_flow.specs.Runs.{changed_paths, reuse_of, run_ask_of}
 use Rattle.commit_flow.specs.Steps.{Step}
@@ -42,19 +44,29 @@ use Rattle.commit_flow.proofs.StagesLemmas.{begun_all, begun_before, begun_faile
 
 -- ---- what a command makes
 
+-- each answer that a limit leaves was there before
+pub limited_adds : (tells : List (List ℕ) → List File → Outcome → Type 0) (most : ℕ) (before after : Contents) → IsLimitedTo most before after → AddsTold tells before after
+limited_adds tells most before after is = λ words seen answer holds. inl (first_have words seen answer most before.rows (subst (λ (all : Contents). Holds words seen answer all) is holds))
+
 module _ (tells : List (List ℕ) → List File → Outcome → Type 0) (from to : Moment) where
   -- each part of a command has an outcome that the children may tell, where what is remembered before it is told
   made_told : (command : Command) (reply : Reply) (parts : List Part) → Makes tells from to command reply parts → IsTold tells from.remembered → AllTold tells parts
   made_told Forget reply parts makes book = subst (AllTold tells) (sym makes.0) tt
+  made_told (Limit most) reply parts makes book = subst (AllTold tells) (sym makes.0) tt
   made_told command reply parts makes book = answered-told tells (reuse_in command) from to parts makes book
 
   still_adds : (reply : Reply) → HasForgotten from.remembered to.remembered reply → AddsTold tells from.remembered to.remembered
   still_adds (Forgot number) forgotten = λ words seen answer holds. absurd (have_none words seen answer to.remembered.rows forgotten.1.none holds)
   still_adds reply forgotten = adds-same tells from.remembered to.remembered forgotten
 
+  still_adds_limited : (most : ℕ) (reply : Reply) → HasLimited most from.remembered to.remembered reply → AddsTold tells from.remembered to.remembered
+  still_adds_limited most (Limited number) limited = limited_adds tells most from.remembered to.remembered limited.1
+  still_adds_limited most reply limited = adds-same tells from.remembered to.remembered limited
+
   -- each answer that is remembered behind it was so before, or was told
   made_adds : (command : Command) (reply : Reply) (parts : List Part) → Makes tells from to command reply parts → AddsTold tells from.remembered to.remembered
   made_adds Forget reply parts makes = still_adds reply makes.1.forgotten
+  made_adds (Limit most) reply parts makes = still_adds_limited most reply makes.1.limited
   made_adds command reply parts makes = answered-adds tells (reuse_in command) from to parts makes
 
   none_answered : (reuse : Reuse) (parts : List Part) → IsUnrun from to parts → AreAnswered tells reuse from to parts
@@ -65,6 +77,7 @@ module _ (tells : List (List ℕ) → List File → Outcome → Type 0) (from to
 module _ (tells next : List (List ℕ) → List File → Outcome → Type 0) (same : SameTells tells next) (from to : Moment) where
   pub made_back : (command : Command) (reply : Reply) (parts : List Part) → Makes next from to command reply parts → Makes tells from to command reply parts
   made_back Forget reply parts makes = makes
+  made_back (Limit most) reply parts makes = makes
   made_back command reply parts makes = answered-back_to tells next same (reuse_in command) from to parts makes
 
 -- ---- a command that runs no hooks
@@ -74,10 +87,14 @@ unspent before after (Run ask) reply parts step runless says = runless tt
 unspent before after (Commit message no_verify skip) reply parts step runless says = runless tt
 unspent before after (Add path bytes asked) (Refused Spent) parts step runless says = step.0.0
 unspent before after (Remove path) (Refused Spent) parts step runless says = step.0.0
+unspent before after (Stage edits) (Refused Spent) parts step runless says = step.0
 unspent before after Accept (Refused Spent) parts step runless says = step.0.0
 unspent before after Forget (Refused Spent) parts step runless says = step.0.0
+unspent before after (Limit most) (Refused Spent) parts step runless says = step.0.0
 unspent before after (Add path bytes asked) (Committed number reports (Stopped run.Spent)) parts step runless says = step
 unspent before after (Remove path) (Committed number reports (Stopped run.Spent)) parts step runless says = step
+unspent before after (Stage edits) (Committed number reports (Stopped run.Spent)) parts step runless says = step
+unspent before after (Limit most) (Committed number reports (Stopped run.Spent)) parts step runless says = step
 unspent before after Accept (Committed number reports (Stopped run.Spent)) parts step runless says = step
 unspent before after Forget (Committed number reports (Stopped run.Spent)) parts step runless says = step
 unspent before after command reply parts step runless says = says

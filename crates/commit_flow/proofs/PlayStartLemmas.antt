@@ -12,7 +12,7 @@ use Rattle.hook_run.specs.Moments.{Moment, moment}
 use Rattle.hook_run.specs.Parts.{Part, faults_of}
 use Rattle.repo_store.specs.Repository.{Repository}
 use Rattle.commit_flow.specs.declared.command.Command.{Command}
-use Rattle.commit_flow.specs.declared.command.Command.TheVariants.{Run, Commit, Forget}
+use Rattle.commit_flow.specs.declared.command.Command.TheVariants.{Run, Commit, Forget, Limit}
 use Rattle.commit_flow.specs.declared.reply.Reply.{Reply}
 use Rattle.commit_flow.specs.CommitSteps.{StandsOnAll}
 use Rattle.commit_flow.specs.Plays.{ArePlayed, IsPlayed, Makes, RunsHooks, reuse_in}
@@ -46,6 +46,7 @@ module _ (tells : List (List ℕ) → List File → Outcome → Type 0) (from to
   made_unchanged (Run ask) reply parts makes runless no_parts = absurd runless
   made_unchanged (Commit message no_verify skip) reply parts makes runless no_parts = absurd runless
   made_unchanged Forget reply parts makes runless no_parts = absurd runless
+  made_unchanged (Limit most) reply parts makes runless no_parts = absurd runless
   made_unchanged command reply parts makes runless no_parts = unchanged (reuse_in command) parts makes no_parts
 
 one_unchanged : (tells : List (List ℕ) → List File → Outcome → Type 0) (from to : Moment) (before : Repository) (command : Command) (reply : Reply) (after : Repository)
@@ -77,6 +78,10 @@ made_starts tells from to Forget reply parts makes =
     let called = makes.1.called in
     let faulted = makes.1.faulted in
     record { started = []; starts = (makes.1.forgotten, makes.0, refl); counted = record { called = omega arith; faulted = omega arith } }
+made_starts tells from to (Limit most) reply parts makes =
+    let called = makes.1.called in
+    let faulted = makes.1.faulted in
+    record { started = []; starts = (makes.1.limited, makes.0, refl); counted = record { called = omega arith; faulted = omega arith } }
 made_starts tells from to command reply parts makes = record { started = makes.started; starts = makes.starts; counted = makes.counted }
 
 one_starts : (tells : List (List ℕ) → List File → Outcome → Type 0) (from to : Moment) (before : Repository) (command : Command) (reply : Reply) (after : Repository)

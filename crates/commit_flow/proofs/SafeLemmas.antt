@@ -17,7 +17,7 @@ use Rattle.result_book.specs.Contents.{Contents}
 use Rattle.result_book.specs.Told.{AddsTold}
 use Rattle.repo_store.specs.StoreBooks.{IsAtRest, MayRemember, remembered_by}
 use Rattle.commit_flow.specs.declared.command.Command.{Command}
-use Rattle.commit_flow.specs.declared.command.Command.TheVariants.{Run, Commit, Forget}
+use Rattle.commit_flow.specs.declared.command.Command.TheVariants.{Run, Commit, Forget, Limit}
 use Rattle.commit_flow.specs.declared.host_ask.HostAsk.{HostAsk}
 use Rattle.commit_flow.specs.declared.host_refusal.HostRefusal.{HostRefusal}
 use Rattle.commit_flow.specs.declared.reply.Reply.{Reply}
@@ -32,7 +32,7 @@ use Rattle.commit_flow.specs.StoppedPlays.{ArePlayedSafely, ArePlayedSafelyFrom,
 use Rattle.commit_flow.specs.Stops.{IsCrashSafe, IsOneCommand, IsPlayedSafely, IsRememberedAfter, LeavesDone, LeavesStopped}
 use Rattle.commit_flow.proofs.CommitEnds.{IsEnded}
 use Rattle.commit_flow.proofs.HookCommandLemmas.{hooks_alone}
-use Rattle.commit_flow.proofs.PlayLemmas.{commit_played, play_of, played_back, run_played, runless_played, stopped_played}
+use Rattle.commit_flow.proofs.PlayLemmas.{commit_played, limited_adds, play_of, played_back, run_played, runless_played, stopped_played}
 
 -- ---- one command
 
@@ -80,6 +80,7 @@ module _ {S : Type 0} (g : Ghosts S) (tells : List (List ℕ) → List File → 
   module _ (command : Command) (reply : Reply) where
     adds_after : (which : Command) (before after : Contents) → IsRememberedAfter which before after → AddsTold tells before after
     adds_after Forget before after forgotten = λ words seen answer holds. absurd (have_none words seen answer after.rows forgotten.none holds)
+    adds_after (Limit most) before after limited = limited_adds tells most before after limited
     adds_after which before after same = adds-same tells before after same
 
     stopped_by : (trees : Trees) → LeavesDone old.kept command trees → LeavesStopped g tells old command [] trees

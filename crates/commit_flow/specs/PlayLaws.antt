@@ -7,14 +7,14 @@ use Rattle.hook_run.specs.Parts.{Part}
 use Rattle.hook_run.specs.Starts.{Starts}
 use Rattle.repo_store.specs.Repository.{Repository, with_new_commit}
 use Rattle.commit_flow.specs.declared.command.Command.{Command}
-use Rattle.commit_flow.specs.declared.command.Command.TheVariants.{Commit, Forget}
+use Rattle.commit_flow.specs.declared.command.Command.TheVariants.{Commit, Forget, Limit}
 use Rattle.commit_flow.specs.declared.commit_state.CommitState.{CommitState}
 use Rattle.commit_flow.specs.declared.reply.Reply.{Reply}
 use Rattle.commit_flow.specs.declared.reply.Reply.TheVariants.{Committed}
 use Rattle.commit_flow.specs.CommitStages.{HavePassed, StageTold, course_of, stages_before_commit}
 use Rattle.commit_flow.specs.Configured.{IsConfigured}
 use Rattle.commit_flow.specs.Messages.{cleaned_message}
-use Rattle.commit_flow.specs.Plays.{HasForgotten, reuse_in}
+use Rattle.commit_flow.specs.Plays.{HasForgotten, HasLimited, reuse_in}
 use Rattle.commit_flow.specs.Runs.{changed_paths}
 use Rattle.commit_flow.specs.Steps.{Step}
 
@@ -46,6 +46,8 @@ HasCommitted before command after = ⊥
 -- command that forgets has no parts.
 abbrev pub CommandStarts : Command → Reply → Contents → Contents → List Part → List Part → Type 0
 CommandStarts Forget reply before after parts started = HasForgotten before after reply × (parts ≡ []) × (started ≡ [])
+CommandStarts (Limit most) reply before after parts started =
+    HasLimited most before after reply × (parts ≡ []) × (started ≡ [])
 CommandStarts command reply before after parts started = Starts (reuse_in command) before after parts started
 
 -- A command is a step with parts of its own. It leaves a repository and what is cached then, and more is

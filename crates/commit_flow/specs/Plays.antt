@@ -13,10 +13,11 @@ use Rattle.hook_run.specs.Moments.{Moment}
 use Rattle.hook_run.specs.Parts.{AllTold, Part}
 use Rattle.repo_store.specs.Repository.{Repository}
 use Rattle.commit_flow.specs.declared.command.Command.{Command}
-use Rattle.commit_flow.specs.declared.command.Command.TheVariants.{Run, Commit, Forget}
+use Rattle.commit_flow.specs.declared.command.Command.TheVariants.{Run, Commit, Forget, Limit}
 use Rattle.commit_flow.specs.declared.reply.PostCommit.TheVariants.{Stopped}
 use Rattle.commit_flow.specs.declared.reply.Reply.{Reply}
-use Rattle.commit_flow.specs.declared.reply.Reply.TheVariants.{Committed, Forgot, Refused}
+use Rattle.commit_flow.specs.declared.reply.Reply.TheVariants.{Committed, Forgot, Limited, Refused}
+use Rattle.commit_flow.specs.AnswerLimits.{IsLimitedTo}
 use Rattle.commit_flow.specs.CommitSteps.{HasBegunBefore, HasBegunBehind, HasFurtherBefore, HasFurtherBehind, SaysSpent, StandsOnAll}
 use Rattle.commit_flow.specs.RunSteps.{HasRunBegun, HasFurther, IsUnrun}
 use Rattle.commit_flow.specs.Runs.{reuse_of}
@@ -61,16 +62,28 @@ abbrev pub HasForgotten : Contents → Contents → Reply → Type 0
 HasForgotten before after (Forgot number) = (number ≡ count_of before) × AfterForget before after
 HasForgotten before after reply = after ≡ before
 
--- the cached results are forgotten in this way, and no child reported anything
+-- so many answers are left at most, those that were used last, and the reply says how many; refused, all of them stay
+abbrev pub HasLimited : ℕ → Contents → Contents → Reply → Type 0
+HasLimited most before after (Limited number) = (number ≡ count_of after) × IsLimitedTo most before after
+HasLimited most before after reply = after ≡ before
+
+-- all are forgotten, and no child gave an outcome
 pub record IsForgotten (from to : Moment) (reply : Reply) : Type 0 where
   pub forgotten : HasForgotten from.remembered to.remembered reply
   pub called : to.calls ≡ from.calls
   pub faulted : to.faults ≡ from.faults
 
--- these parts were answered, or the cached results are forgotten
+-- so many are left, and no child gave an outcome
+pub record IsLimited (most : ℕ) (from to : Moment) (reply : Reply) : Type 0 where
+  pub limited : HasLimited most from.remembered to.remembered reply
+  pub called : to.calls ≡ from.calls
+  pub faulted : to.faults ≡ from.faults
+
+-- these parts were answered, or answers are forgotten
 abbrev pub Makes : (List (List ℕ) → List File → Outcome → Type 0) → Moment → Moment → Command → Reply → List Part
     → Type 0
 Makes tells from to Forget reply parts = (parts ≡ []) × IsForgotten from to reply
+Makes tells from to (Limit most) reply parts = (parts ≡ []) × IsLimited most from to reply
 Makes tells from to command reply parts = AreAnswered tells (reuse_in command) from to parts
 
 -- The command is a step of the machine between two moments. Its parts make what `Makes` says. After them,

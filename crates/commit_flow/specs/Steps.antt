@@ -1,7 +1,7 @@
 -- The host as a machine: what each command may answer, and what it makes of the repository. A command that is
 -- added to the definitions gets a case in `Step` and one in `IsRefused`; its reply gets one in `IsDone` of
 -- `specs/Commands.antt`.
-use Rattle.std.specs.Prelude.{◌≡◌, ◌≢◌, ℕ, List, [], length, Option, Some, option_map, unwrap_or}
+use Rattle.std.specs.Prelude.{◌≡◌, ◌≢◌, ℕ, List, [], ◌∷◌, length, take, slice_get, Option, None, Some, option_map, unwrap_or}
 use Rattle.hook_base.specs.declared.file.File.{File}
 use Rattle.hook_base.specs.declared.file.FileEntry.{FileEntry}
 use Rattle.hook_base.specs.declared.file.Mode.{Mode}
@@ -10,15 +10,17 @@ use Rattle.hook_base.specs.Paths.{path_fault}
 use Rattle.hook_base.specs.Trees.{entry_of, put_file}
 use Rattle.store_faults.specs.declared.fault.StoreFault.{StoreFault}
 use Rattle.store_faults.specs.declared.fault.StoreFault.TheVariants.{Sql}
+use Rattle.repo_store.specs.declared.staging_edit.StagingEdit.{StagingEdit}
+use Rattle.repo_store.specs.declared.staging_edit.StagingEdit.TheVariants as staging
 use Rattle.repo_store.specs.Clashes.{Clashes}
 use Rattle.store_faults.specs.Limits.{Fits, IsSmall}
 use Rattle.repo_store.specs.Repository.{Repository, accepted, with_staged_file, without_staged_file}
 use Rattle.commit_flow.specs.declared.command.Command.{Command}
-use Rattle.commit_flow.specs.declared.command.Command.TheVariants.{Add, Remove, Accept, Run, Commit, Forget}
+use Rattle.commit_flow.specs.declared.command.Command.TheVariants.{Add, Remove, Stage, Accept, Run, Commit, Forget, Limit}
 use Rattle.commit_flow.specs.declared.host_refusal.HostRefusal.{HostRefusal}
 use Rattle.commit_flow.specs.declared.host_refusal.HostRefusal.TheVariants.{OutOfMemory, Store, BadPath, NotStaged, TooLarge, TooMany, NoFixes, Collision, Clash}
 use Rattle.commit_flow.specs.declared.reply.Reply.{Reply}
-use Rattle.commit_flow.specs.declared.reply.Reply.TheVariants.{Added, Removed, Accepted, Ran, Committed, HooksFailed, Forgot, Refused}
+use Rattle.commit_flow.specs.declared.reply.Reply.TheVariants.{Added, Removed, Staged, Accepted, Ran, Committed, HooksFailed, Forgot, Limited, EditRefused, Refused}
 use Rattle.hook_run.specs.Parts.{Part}
 use Rattle.commit_flow.specs.Commits.{HaveHooksFailed, IsCommitted, IsCommitRefusal}
 use Rattle.commit_flow.specs.RunRefusals.{IsRunRefusal}
@@ -91,6 +93,44 @@ IsRemoveRefusal before path (Store fault) = IsLegal path × IsStaged path before
 IsRemoveRefusal before path OutOfMemory = IsLegal path
 IsRemoveRefusal before path refusal = ⊥
 
+-- ---- several changes, all or none
+
+-- what one of them makes
+abbrev pub IsEditMade : StagingEdit → Repository → Repository → Type 0
+IsEditMade (staging.Add path bytes asked) before after = IsAdded before path bytes asked after
+IsEditMade (staging.Remove path) before after = IsRemoved before path after
+
+-- why it isn't made
+abbrev pub IsEditRefusal : StagingEdit → Repository → HostRefusal → Type 0
+IsEditRefusal (staging.Add path bytes asked) before refusal = IsAddRefusal before path bytes asked refusal
+IsEditRefusal (staging.Remove path) before refusal = IsRemoveRefusal before path refusal
+
+-- they are made in order, each of what the one before it left
+abbrev pub AreEditsMade : List StagingEdit → Repository → Repository → Type 0
+AreEditsMade [] before after = after ≡ before
+AreEditsMade (first ∷ edits) before after =
+    (between : Repository) × IsEditMade first before between × AreEditsMade edits between after
+
+-- the change at an index is refused, of what those before it made
+pub record IsEditRefusedAt (edits : List StagingEdit) (before : Repository) (refusal : HostRefusal)
+    (at : ℕ) : Type 0 where
+  pub reached : Repository
+  pub made : AreEditsMade (take at edits) before reached
+  pub edit : StagingEdit
+  pub is : slice_get edits at ≡ Some edit
+  pub why : IsEditRefusal edit reached refusal
+
+-- Memory refuses all together, or the database does, which is asked only if each of them can be made.
+abbrev pub AreEditsRefused : List StagingEdit → Repository → HostRefusal → Type 0
+AreEditsRefused edits before OutOfMemory = Unit {0}
+AreEditsRefused edits before (Store fault) = IsOfDatabase fault × (after : Repository) × AreEditsMade edits before after
+AreEditsRefused edits before refusal = ⊥
+
+-- the change at an index is refused, or all together are
+abbrev pub AreEditsStopped : List StagingEdit → Repository → HostRefusal → Option ℕ → Type 0
+AreEditsStopped edits before refusal None = AreEditsRefused edits before refusal
+AreEditsStopped edits before refusal (Some at) = IsEditRefusedAt edits before refusal at
+
 -- ---- the fixes are accepted
 
 -- there are fixes
@@ -124,11 +164,13 @@ IsForgetRefusal refusal = ⊥
 abbrev pub IsRefused : Repository → Command → List Part → HostRefusal → Type 0
 IsRefused before (Add path bytes asked) parts refusal = IsAddRefusal before path bytes asked refusal × (parts ≡ [])
 IsRefused before (Remove path) parts refusal = IsRemoveRefusal before path refusal × (parts ≡ [])
+IsRefused before (Stage edits) parts refusal = ⊥
 IsRefused before Accept parts refusal = IsAcceptRefusal before refusal × (parts ≡ [])
 IsRefused before (Run ask) parts refusal = IsRunRefusal before ask refusal × (parts ≡ [])
 IsRefused before (Commit message no_verify skip) parts refusal =
     IsCommitRefusal before message no_verify skip parts refusal
 IsRefused before Forget parts refusal = IsForgetRefusal refusal × (parts ≡ [])
+IsRefused before (Limit most) parts refusal = IsForgetRefusal refusal × (parts ≡ [])
 
 -- The command may answer so, and then leaves this repository; after a refusal it is the one before. The parts
 -- are those that the reply rests on, in order. A stopped run has none, and neither has a run whose fixes or
@@ -138,6 +180,9 @@ IsRefused before Forget parts refusal = IsForgetRefusal refusal × (parts ≡ []
 abbrev pub Step : Repository → Command → Reply → List Part → Repository → Type 0
 Step before (Add path bytes asked) Added parts after = IsAdded before path bytes asked after × (parts ≡ [])
 Step before (Remove path) Removed parts after = IsRemoved before path after × (parts ≡ [])
+Step before (Stage edits) Staged parts after = AreEditsMade edits before after × (parts ≡ [])
+Step before (Stage edits) (EditRefused stop) parts after =
+    AreEditsStopped edits before stop.refusal stop.at × (parts ≡ []) × (after ≡ before)
 Step before Accept (Accepted number) parts after = IsAccepted before number after × (parts ≡ [])
 Step before (Run ask) (Ran passed report changes unsteady) parts after =
     IsRan before ask passed report changes unsteady parts after
@@ -146,5 +191,6 @@ Step before (Commit message no_verify skip) (Committed number reports post) part
 Step before (Commit message no_verify skip) (HooksFailed stage reports) parts after =
     HaveHooksFailed before message no_verify skip stage reports parts after
 Step before Forget (Forgot number) parts after = (after ≡ before) × (parts ≡ [])
+Step before (Limit most) (Limited number) parts after = (after ≡ before) × (parts ≡ [])
 Step before command (Refused refusal) parts after = IsRefused before command parts refusal × (after ≡ before)
 Step before command reply parts after = ⊥

@@ -18,8 +18,9 @@ use Rattle.result_book.specs.Contents.{Contents}
 use Rattle.repo_store.specs.StoreBooks.{LeavesRepository, MayRemember, remembered_by}
 use Rattle.result_book.specs.Told.{AddsTold}
 use Rattle.commit_flow.specs.declared.command.Command.{Command}
-use Rattle.commit_flow.specs.declared.command.Command.TheVariants.{Forget}
+use Rattle.commit_flow.specs.declared.command.Command.TheVariants.{Forget, Limit}
 use Rattle.commit_flow.specs.declared.reply.Reply.{Reply}
+use Rattle.commit_flow.specs.AnswerLimits.{IsLimitedTo}
 use Rattle.commit_flow.specs.Commands.{IsDone}
 use Rattle.commit_flow.specs.Plays.{IsPlayed}
 use Rattle.commit_flow.specs.Steps.{Step}
@@ -29,6 +30,7 @@ use Rattle.commit_flow.specs.Steps.{Step}
 -- what a command makes of the cached results: it forgets all of them, or leaves them
 abbrev pub IsRememberedAfter : Command → Contents → Contents → Type 0
 IsRememberedAfter Forget before after = AfterForget before after
+IsRememberedAfter (Limit most) before after = IsLimitedTo most before after
 IsRememberedAfter command before after = after ≡ before
 
 -- Opened again, the trees are a store. It keeps the repository that the command, done, makes of this one, and

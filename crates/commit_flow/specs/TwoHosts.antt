@@ -8,24 +8,32 @@ use Rattle.hook_run.specs.Moments.{Moment}
 use Rattle.hook_run.specs.Parts.{AllTold, Part, faults_of}
 use Rattle.repo_store.specs.Repository.{Repository}
 use Rattle.commit_flow.specs.declared.command.Command.{Command}
+use Rattle.commit_flow.specs.declared.host_refusal.HostRefusal.{HostRefusal}
 use Rattle.commit_flow.specs.declared.host_refusal.HostRefusal.TheVariants.{OutOfMemory, Store, BadConfig, Collision, Spent}
 use Rattle.commit_flow.specs.declared.reply.PostCommit.TheVariants.{Stopped}
 use Rattle.commit_flow.specs.declared.reply.Reply.{Reply}
-use Rattle.commit_flow.specs.declared.reply.Reply.TheVariants.{Ran, Committed, Forgot, Refused}
+use Rattle.commit_flow.specs.declared.reply.Reply.TheVariants.{Ran, Committed, Forgot, Limited, EditRefused, Refused}
 use Rattle.commit_flow.specs.MachineRuns.{IsMachineRun}
 use Rattle.commit_flow.specs.Plays.{IsPlay}
 
 -- ---- which replies leave no choice
 
+-- the refusal is none of those that memory, the store, an unreadable configuration, other contents under the same digest or
+-- the number of children decide
+abbrev pub IsUnhinderedRefusal : HostRefusal → Type 0
+IsUnhinderedRefusal OutOfMemory = ⊥
+IsUnhinderedRefusal (Store fault) = ⊥
+IsUnhinderedRefusal (BadConfig fault) = ⊥
+IsUnhinderedRefusal Collision = ⊥
+IsUnhinderedRefusal Spent = ⊥
+IsUnhinderedRefusal refusal = Unit {0}
+
 -- The command wasn't refused by memory or the store. It wasn't refused for a configuration that can't be
 -- read, for other contents under the same digest, or because no more children can be counted. And the hooks
 -- after a commit weren't stopped.
 abbrev pub IsUnhindered : Reply → Type 0
-IsUnhindered (Refused OutOfMemory) = ⊥
-IsUnhindered (Refused (Store fault)) = ⊥
-IsUnhindered (Refused (BadConfig fault)) = ⊥
-IsUnhindered (Refused Collision) = ⊥
-IsUnhindered (Refused Spent) = ⊥
+IsUnhindered (EditRefused stop) = IsUnhinderedRefusal stop.refusal
+IsUnhindered (Refused refusal) = IsUnhinderedRefusal refusal
 IsUnhindered (Committed number reports (Stopped refusal)) = ⊥
 IsUnhindered reply = Unit {0}
 
@@ -51,6 +59,7 @@ pub record IsUnhinderedPlay (tells : List (List ℕ) → List File → Outcome �
 -- how many results were forgotten is left out
 abbrev pub without_number : Reply → Reply
 without_number (Forgot number) = Forgot 0
+without_number (Limited number) = Limited 0
 without_number reply = reply
 
 -- the ids of unsteady hooks are left out too

@@ -1,7 +1,8 @@
 //! The commands of a host, as values.
 
-use crate::HostAsk;
+use crate::{HostAsk, StagingEdits};
 use hook_base::{Bytes, Items, Mode, Text};
+use store_faults::AnswerLimit;
 
 /// A command, with the arguments of its call.
 #[derive(Debug, Drop)]
@@ -19,6 +20,11 @@ pub enum Command {
     Remove {
         /// The path, as a text that needn't be one.
         path: Text,
+    },
+    /// [`Host::stage_all`](crate::Host::stage_all): several changes of the staged files, all or none.
+    Stage {
+        /// The changes, in order.
+        edits: StagingEdits,
     },
     /// [`Host::accept`](crate::Host::accept).
     Accept,
@@ -38,4 +44,9 @@ pub enum Command {
     },
     /// [`Host::forget`](crate::Host::forget).
     Forget,
+    /// [`Host::set_limit`](crate::Host::set_limit).
+    Limit {
+        /// How many results are cached at most.
+        most: AnswerLimit,
+    },
 }

@@ -14,10 +14,10 @@ ghost use Rattle.repo_store.specs.Shown.{IsOneTransaction};
 ghost use Rattle.result_book.specs.Calls.{AfterForget};
 ghost use Rattle.result_book.specs.Contents.{count_of};
 ghost use Rattle.repo_store.specs.StoreBooks.{remembered_by};
-ghost use Rattle.commit_flow.specs.declared.command.Command.TheVariants.{Add, Remove, Accept, Forget};
-ghost use Rattle.commit_flow.specs.declared.reply.Reply.TheVariants.{Added, Removed, Accepted, Forgot};
+ghost use Rattle.commit_flow.specs.declared.command.Command.TheVariants.{Add, Remove, Stage, Accept, Forget, Limit};
+ghost use Rattle.commit_flow.specs.declared.reply.Reply.TheVariants.{Added, Removed, Accepted, Forgot, Limited};
 ghost use Rattle.commit_flow.specs.AnswerLimits.{IsLimitRefusal, IsLimitedTo};
-ghost use Rattle.commit_flow.specs.Commands.{reply_of};
+ghost use Rattle.commit_flow.specs.Commands.{reply_of, reply_of_staging};
 ghost use Rattle.commit_flow.specs.EditSteps.{AreOneCommand, AreSteps, CollidesAt, IsStagingStop, NoEditCollides};
 ghost use Rattle.commit_flow.specs.StagedPaths.{IsLegal, IsStaged};
 ghost use Rattle.commit_flow.specs.Stops.{IsOneCommand};
@@ -125,11 +125,15 @@ impl<S: Alter> Host<S> {
     /// was.
     pub fn stage_all(&mut self, edits: &[StagingEdit]) -> Result<(), StagingStop>
         requires { edits.now ≢ [] }
+        ensures step { Step self.old.store.kept.repo (Stage edits.now) (reply_of_staging result) []
+            self.new.store.kept.repo }
         ensures change { IsAllOrNothing self.old.store.kept self.new.store.kept result
             (all_edited edits.now self.old.store.kept) }
         ensures steps { OnOk result (AreSteps edits.now self.old.store.kept.repo self.new.store.kept.repo) }
         ensures refused { IfErr result (IsStagingStop edits.now self.old.store.kept.repo) }
         ensures command { AreOneCommand S.Store self.old.store self.new.store edits.now result }
+        ensures one { IsOneCommand S.Store self.old.store self.new.store (Stage edits.now) (reply_of_staging result) }
+        ensures remembered { remembered_by self.new.store.kept ≡ remembered_by self.old.store.kept }
         ensures apart { OnOk result (NoEditCollides edits.now self.old.store.kept) }
         ensures collides { IfErr result (λ stop. stop.refusal ≡ HostRefusal.Collision
             → MatchOption stop.at ⊥ (CollidesAt edits.now self.old.store.kept)) }
@@ -193,10 +197,13 @@ impl<S: Alter> Host<S> {
     /// is cached and the limit as they were. The repository stays in any case.
     pub fn set_limit(&mut self, limit: u32) -> Result<u64, HostRefusal>
         requires { IsLimit limit }
+        ensures step { Step self.old.store.kept.repo (Limit limit) (reply_of Limited result) []
+            self.new.store.kept.repo }
         ensures change { IsAllOrNothing self.old.store.kept self.new.store.kept result
             (limiting limit self.old.store.kept) }
         ensures transaction { IsOneTransaction S.Store self.old.store self.new.store result
             (limiting limit self.old.store.kept) }
+        ensures command { IsOneCommand S.Store self.old.store self.new.store (Limit limit) (reply_of Limited result) }
         ensures number { IfOk result (λ number. number ≡ count_of (remembered_by self.new.store.kept)) }
         ensures limited { OnOk result (IsLimitedTo limit (remembered_by self.old.store.kept)
             (remembered_by self.new.store.kept)) }

@@ -51,6 +51,7 @@ mod prepared;
 mod reply;
 mod run;
 mod staged_run;
+mod staging_edits;
 mod staging_stop;
 
 pub use command::Command;
@@ -62,4 +63,5 @@ pub use message::{begun_message, cleaned_message};
 pub use reply::{PostCommit, Reply};
 pub use repo_store::StagingEdit;
 pub use staged_run::StagedRun;
+pub use staging_edits::StagingEdits;
 pub use staging_stop::StagingStop;

@@ -5,18 +5,19 @@ ghost use Rattle.child_port.specs.Telling.{SameTells};
 ghost use Rattle.hook_run.specs.Moments.{moment};
 ghost use Rattle.repo_store.specs.Shown.{Stands};
 ghost use Rattle.repo_store.specs.StoreBooks.{remembered_by};
-ghost use Rattle.commit_flow.specs.declared.command.Command.TheVariants.{Add, Remove, Accept, Run, Commit, Forget};
+ghost use Rattle.commit_flow.specs.declared.command.Command.TheVariants.{Add, Remove, Stage, Accept, Run, Commit, Forget, Limit};
 ghost use Rattle.commit_flow.specs.Commands.{reply_of_ending};
-ghost use Rattle.commit_flow.specs.Plays.{HasForgotten, IsPlay};
+ghost use Rattle.commit_flow.specs.Plays.{HasForgotten, HasLimited, IsPlay};
 ghost use Rattle.commit_flow.specs.StoppedPlays.{IsSafePlay};
 ghost use Rattle.commit_flow.specs.Stops.{IsOneCommand, IsPlayedSafely};
 ghost use Rattle.commit_flow.specs.Steps.{Step};
 
-use crate::{Command, CommitEnding, Host, HostAsk, Reply, StagedRun};
+use crate::{Command, CommitEnding, Host, HostAsk, Reply, StagedRun, StagingEdits};
 use child_port::Children;
 use hook_base::{Bytes, Items, Mode, OutOfMemory, Text};
 use sqlite::Alter;
 use std::alloc::Global;
+use store_faults::AnswerLimit;
 
 impl<S: Alter> Host<S> {
     /// Runs the commands in order, each on what the one before it left, cached results included, and answers
@@ -62,6 +63,7 @@ impl<S: Alter> Host<S> {
         match command {
             Command::Add { path, bytes, mode } => self.play_add(alloc, path, bytes, *mode),
             Command::Remove { path } => self.play_remove(alloc, path),
+            Command::Stage { edits } => self.play_stage(edits),
             Command::Accept => self.play_accept(),
             Command::Run { ask } => self.play_run(alloc, children, ask),
             Command::Commit {
@@ -70,6 +72,7 @@ impl<S: Alter> Host<S> {
                 skip,
             } => self.play_commit(alloc, children, message, *no_verify, skip),
             Command::Forget => self.play_forget(),
+            Command::Limit { most } => self.play_limit(most),
         }
     }
 
@@ -94,6 +97,17 @@ impl<S: Alter> Host<S> {
         match self.remove(alloc, path.as_str()) {
             Ok(()) => Reply::Removed,
             Err(refusal) => Reply::Refused(refusal),
+        }
+    }
+
+    fn play_stage(&mut self, edits: &StagingEdits) -> Reply
+        ensures step { Step self.old.store.kept.repo (Stage edits.now) result [] self.new.store.kept.repo }
+        ensures one { IsOneCommand S.Store self.old.store self.new.store (Stage edits.now) result }
+        ensures remembered { remembered_by self.new.store.kept ≡ remembered_by self.old.store.kept }
+    {
+        match self.stage_all(edits.as_slice()) {
+            Ok(()) => Reply::Staged,
+            Err(stop) => Reply::EditRefused(stop),
         }
     }
 
@@ -169,6 +183,18 @@ impl<S: Alter> Host<S> {
     {
         match self.forget() {
             Ok(number) => Reply::Forgot(number),
+            Err(refusal) => Reply::Refused(refusal),
+        }
+    }
+
+    fn play_limit(&mut self, most: &AnswerLimit) -> Reply
+        ensures step { Step self.old.store.kept.repo (Limit most.now) result [] self.new.store.kept.repo }
+        ensures one { IsOneCommand S.Store self.old.store self.new.store (Limit most.now) result }
+        ensures limited { HasLimited most.now (remembered_by self.old.store.kept) (remembered_by self.new.store.kept)
+            result }
+    {
+        match self.set_limit(most.number()) {
+            Ok(number) => Reply::Limited(number),
             Err(refusal) => Reply::Refused(refusal),
         }
     }

@@ -1,6 +1,6 @@
 //! What the commands of a host answer, as values.
 
-use crate::HostRefusal;
+use crate::{HostRefusal, StagingStop};
 use hook_base::{Bytes, Changes, Items, Text};
 use hook_config::Stage;
 use hook_run::RunRefusal;
@@ -12,6 +12,8 @@ pub enum Reply {
     Added,
     /// The path was removed.
     Removed,
+    /// Several changes of the staged files were made.
+    Staged,
     /// The fixes were accepted; this is their number.
     Accepted(u32),
     /// The hooks were run, and the changes that they made are the fixes.
@@ -43,6 +45,11 @@ pub enum Reply {
     },
     /// The cached results were removed; this is their number.
     Forgot(u64),
+    /// How many results are cached at most is set, and so many are left.
+    Limited(u64),
+    /// One of several changes of the staged files was refused, and so all of them. The repository is as it
+    /// was.
+    EditRefused(StagingStop),
     /// The command was refused. The repository is as it was.
     Refused(HostRefusal),
 }

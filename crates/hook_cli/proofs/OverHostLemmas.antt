@@ -14,7 +14,6 @@ use Rattle.commit_flow.specs.declared.reply.Reply.TheVariants.{Accepted, Refused
 use Rattle.commit_flow.specs.Stops.{IsOneCommand}
 use Rattle.commit_flow.specs.declared.host.Host.{Host}
 use Rattle.commit_flow.specs.Steps.{IsAcceptRefusal, Step}
-use Rattle.command_line.specs.AnswerLimit.{IsAnswerLimit}
 use Rattle.command_line.specs.declared.line.LookUp.{LookUp}
 use Rattle.hook_cli.specs.declared.command_ending.CommandEnding.{CommandEnding}
 use Rattle.hook_cli.specs.declared.command_ending.CommandEnding.TheVariants as ends
@@ -78,8 +77,8 @@ accept-refused g old new out err ending refusal step change one told silent = re
 -- ---- the limit is set
 
 -- a limit that the command line takes is one of the store's
-pub limit-fits : (limit number : ℕ) → number ≡ limit → IsAnswerLimit limit → IsLimit number
-limit-fits limit number is within = subst IsLimit (sym is) (record { at_least = within.at_least; at_most = within.at_most })
+pub limit-fits : (limit number : ℕ) → number ≡ limit → IsLimit limit → IsLimit number
+limit-fits limit number is within = subst IsLimit (sym is) within
 
 module _ {S : Type 0} (g : Ghosts S) (old new : Host S) (out err : Output) (ending : CommandEnding) (limit taken : ℕ) (is : taken ≡ limit) where
   pub limit-said : (number : ℕ) → IsAllOrNothing {E = HostRefusal} old.store.kept new.store.kept (Ok number) (limiting taken old.store.kept)

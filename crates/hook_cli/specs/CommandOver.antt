@@ -27,7 +27,7 @@ use Rattle.commit_flow.specs.declared.host_ask.Which.TheVariants as which
 use Rattle.commit_flow.specs.declared.host_refusal.HostRefusal.{HostRefusal}
 use Rattle.commit_flow.specs.declared.host_refusal.HostRefusal.TheVariants.{OutOfMemory, BadPath, NotStaged, Collision}
 use Rattle.commit_flow.specs.declared.reply.Reply.{Reply}
-use Rattle.commit_flow.specs.declared.reply.Reply.TheVariants.{Added, Removed, Accepted, Ran, Committed, HooksFailed, Forgot, Refused}
+use Rattle.commit_flow.specs.declared.reply.Reply.TheVariants.{Added, Removed, Staged, Accepted, Ran, Committed, HooksFailed, Forgot, Limited, EditRefused, Refused}
 use Rattle.commit_flow.specs.declared.staged_run.StagedRun.{StagedRun}
 use Rattle.commit_flow.specs.AnswerLimits.{IsLimitRefusal}
 use Rattle.commit_flow.specs.Commands.{reply_of, reply_of_ending}
@@ -104,12 +104,15 @@ IsOverHost (line.Update update) = IsOneCall update
 abbrev pub IsReplied : Output → Output → Reply → CommandEnding → Type 0
 IsReplied out err Added ending = IsSilent out × IsSilent err × (ending ≡ ends.Done)
 IsReplied out err Removed ending = IsSilent out × IsSilent err × (ending ≡ ends.Done)
+IsReplied out err Staged ending = IsSilent out × IsSilent err × (ending ≡ ends.Done)
 IsReplied out err (Accepted number) ending = IsSaid ends.Done out (accepted_text number) err untaken_line ending
 IsReplied out err (Ran passed report changes unsteady) ending = ⊥
 IsReplied out err (Committed number reports post) ending = IsCommitSaid number reports post out err ending
 IsReplied out err (HooksFailed stage reports) ending =
     IsSaid ends.Failed out (failure_text reports) err untaken_line ending
 IsReplied out err (Forgot number) ending = IsSaid ends.Done out (forgotten_text number) err untaken_line ending
+IsReplied out err (Limited number) ending = IsSaid ends.Done out (remembered_text number) err untaken_line ending
+IsReplied out err (EditRefused stop) ending = ⊥
 IsReplied out err (Refused refusal) ending =
     IsSilent out × IsPrintedOnStandardError ends.Refused err (refusal_text refusal) ending
 

@@ -28,7 +28,8 @@ pub(crate) fn several_played(
     Ok(())
 }
 
-fn edits_of(alloc: Global, words: &mut Words<'_>) -> Result<Vec<StagingEdit>, Stop> {
+/// The changes of `COUNT EDIT..`.
+pub(crate) fn edits_of(alloc: Global, words: &mut Words<'_>) -> Result<Vec<StagingEdit>, Stop> {
     let mut edits = Vec::new(alloc);
     for _ in 0..words.number()? {
         edits.push(edit_of(alloc, words)?)?;

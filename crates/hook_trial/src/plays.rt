@@ -1,19 +1,21 @@
-//! Lists of commands that a host runs in one call, and what the host then answers about itself.
+//! Lists of commands that a host makes in one call, and what the host answers then.
 //!
-//! A row's arguments may begin with its children (`fused_children.rt`). Then come the commands:
-//! `add MODE PATH CONTENTS`, `rm PATH`, `accept`, `run STAGE FILES ONLY HOW SKIP`, `commit MESSAGE HOW SKIP`
-//! (`host_lines.rt`) and `forget`. The repository is empty at first. The answer has what `replies.rt` shows
-//! of each command, a line on the children and the cached results, and the repository.
+//! A row's arguments may begin with its children (`fused_children.rt`). Then come the commands, on a
+//! repository that is empty at first: `add MODE PATH CONTENTS`, `rm PATH`, `stage COUNT EDIT..`
+//! (`host_edits.rt`), `accept`, `run STAGE FILES ONLY HOW SKIP`, `commit MESSAGE HOW SKIP`
+//! (`host_lines.rt`), `forget` and `limit NUMBER`. The answer has each reply (`replies.rt`), a line on the
+//! children and on what is cached, and the repository.
 
 use crate::fused_children::fused_children_of;
 use crate::host_asks::{asked_name, files_of, how_of, is_unverified, stage_of};
 use crate::host_commands::{Played, empty_store};
 use crate::host_counts::{with_counts, with_forgotten};
+use crate::host_edits::edits_of;
 use crate::host_files::with_file;
 use crate::replies::{with_changes, with_length, with_reply};
-use commit_flow::{Command, Host, HostAsk, Reply};
+use commit_flow::{Command, Host, HostAsk, Reply, StagingEdits};
 use hook_base::{Bytes, Text, Tree};
-use hook_cli::skip_list_of;
+use hook_cli::{AnswerLimit, skip_list_of};
 use run_options::RunOptions;
 use std::alloc::Global;
 use trial_rows::{AnswerBytes, Stop, Words, mode_of};
@@ -59,6 +61,9 @@ fn command_of(alloc: Global, words: &mut Words<'_>) -> Result<Command, Stop> {
         "rm" => Ok(Command::Remove {
             path: Text::copy_of(alloc, words.text()?)?,
         }),
+        "stage" => Ok(Command::Stage {
+            edits: StagingEdits::of(edits_of(alloc, words)?).ok_or(Stop::BadLine)?,
+        }),
         "accept" => Ok(Command::Accept),
         "run" => Ok(Command::Run {
             ask: ask_of(alloc, words)?,
@@ -69,6 +74,9 @@ fn command_of(alloc: Global, words: &mut Words<'_>) -> Result<Command, Stop> {
             skip: skip_list_of(alloc, words.text()?)?,
         }),
         "forget" => Ok(Command::Forget),
+        "limit" => Ok(Command::Limit {
+            most: AnswerLimit::read(words.number()?).ok_or(Stop::BadLine)?,
+        }),
         _ => Err(Stop::BadLine),
     }
 }

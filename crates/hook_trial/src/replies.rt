@@ -1,6 +1,6 @@
 //! What the rows show of a host's replies: a line, and then the reports, each after a line with its length.
 
-use commit_flow::{HostRefusal, PostCommit, Reply};
+use commit_flow::{HostRefusal, PostCommit, Reply, StagingStop};
 use hook_base::{Bytes, Change, Items, Text};
 use std::fmt::Display;
 use trial_rows::{AnswerBytes, verdict_of};
@@ -9,6 +9,7 @@ pub(crate) fn with_reply(answer: AnswerBytes, reply: &Reply) -> AnswerBytes {
     match reply {
         Reply::Added => answer.text("added\n"),
         Reply::Removed => answer.text("removed\n"),
+        Reply::Staged => answer.text("staged\n"),
         Reply::Accepted(number) => with_number(answer, "accepted ", *number),
         Reply::Ran {
             passed,
@@ -29,6 +30,8 @@ pub(crate) fn with_reply(answer: AnswerBytes, reply: &Reply) -> AnswerBytes {
             with_reports(answer, reports)
         }
         Reply::Forgot(number) => with_number(answer, "forgot ", *number),
+        Reply::Limited(number) => with_number(answer, "limited ", *number),
+        Reply::EditRefused(stop) => with_stop(answer, stop),
         Reply::Refused(refusal) => with_refusal(answer, refusal),
     }
 }
@@ -90,6 +93,15 @@ fn with_post(answer: AnswerBytes, post: &PostCommit) -> AnswerBytes {
             let answer = answer.text("post stopped ").shown(refusal.number());
             answer.texts(&[" ", refusal.name(), "\n"])
         }
+    }
+}
+
+// Why changes are refused, and the index of the one that is.
+fn with_stop(answer: AnswerBytes, stop: &StagingStop) -> AnswerBytes {
+    let answer = with_refusal(answer, &stop.refusal);
+    match stop.at {
+        Some(at) => with_number(answer, "at ", at),
+        None => answer,
     }
 }
 

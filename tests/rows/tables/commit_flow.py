@@ -95,6 +95,18 @@ PLAYS = [
         "add", "executable", "b", "1", "add", "none", "a", "22", "add", "none", "b/c", "x", "add", "none", "b", "", "rm", "a", "rm", "a",
         "added\nadded\nrefused 15 Clash\nadded\nremoved\nrefused 4 NotStaged\n" + ended() + files("staged", ("executable", "b", "")),
     ),
+    # Several changes are made all or none, each of what those before it left, and a refusal says which one it is.
+    (
+        "stage", "3", "add", "executable", "b", "1", "add", "none", "a", "22", "rm", "b", "stage", "2", "add", "none", "c", "x", "rm", "b",
+        "stage", "2", "rm", "a", "add", "none", "a/b", "x", "stage", "1", "add", "none", "../a", "x",
+        "staged\nrefused 4 NotStaged\nat 1\nstaged\nrefused 3 BadPath 3\nat 0\n" + ended() + files("staged", ("plain", "a/b", "x")),
+    ),
+    # A limit drops the answers that were used least recently, and none where fewer are cached.
+    (
+        *TRIMMED, *TRIM_NO_MORE, *CONFIGURED, "add", "none", "a.txt", "x\n", *RUN, "limit", "5", *RUN, "limit", "1", *RUN, "forget", "limit", "100000",
+        "added\nadded\n" + "ran, passed, 0 unsteady\n" + told("report", TRIM_PASSED) + "limited 1\nran, passed, 0 unsteady\n" + told("report", TRIM_PASSED)
+        + "limited 1\nran, passed, 0 unsteady\n" + told("report", TRIM_PASSED) + "forgot 1\nlimited 0\n" + ended(1) + files("staged", CONFIGURATION_FILE, A),
+    ),
     # A run that keeps a fix, which is reported and then accepted.
     (
         *TRIM, *CONFIGURED, "add", "none", "a.txt", "x \n", "run", "pre-commit", "changed", "", "remembering", "",

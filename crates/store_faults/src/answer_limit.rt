@@ -1,15 +1,14 @@
-//! How many cached results a repository may keep.
+//! How many results may be cached.
 //!
-//! The contracts cite `specs/AnswerLimit.antt`.
+//! The contracts cite `specs/Limits.antt`.
 
 ghost use Rattle.std.specs.Prelude.{◌≡◌, IfSome, None};
-ghost use Rattle.command_line.specs.AnswerLimit.{IsAnswerLimit};
+ghost use Rattle.store_faults.specs.Limits.{IsLimit};
 
+use crate::MOST_ANSWERS;
 use std::marker::Model;
 
-const MOST_ANSWERS: u32 = 100_000;
-
-/// The most cached results that a repository keeps: a number from 1 to 100,000. Contracts see the number.
+/// How many results are cached at most: a number from 1 to 100,000. Contracts see the number.
 #[derive(Debug, Drop)]
 pub struct AnswerLimit {
     number: u32,
@@ -17,20 +16,20 @@ pub struct AnswerLimit {
 
 impl Model for AnswerLimit {
     ghost use Rattle.std.specs.Prelude.{ℕ};
-    ghost use Rattle.command_line.specs.AnswerLimit.{IsAnswerLimit};
+    ghost use Rattle.store_faults.specs.Limits.{IsLimit};
 
     ghost Value = { ℕ };
 
     ghost view = { λ limit. limit.number };
 
-    ghost invariant = { λ limit. IsAnswerLimit limit.number };
+    ghost invariant = { λ limit. IsLimit limit.number };
 }
 
 impl AnswerLimit {
     /// Takes a number as a limit, or answers `None` if it isn't one from 1 to 100,000.
     pub fn read(number: u32) -> Option<AnswerLimit>
-        ensures taken { IfSome result (λ limit. (limit ≡ number) × IsAnswerLimit number) }
-        ensures refused { result ≡ None → ¬ IsAnswerLimit number }
+        ensures taken { IfSome result (λ limit. (limit ≡ number) × IsLimit number) }
+        ensures refused { result ≡ None → ¬ IsLimit number }
     {
         if number == 0 || number > MOST_ANSWERS {
             return None;
@@ -41,7 +40,7 @@ impl AnswerLimit {
     /// The number, from 1 to 100,000.
     pub fn number(&self) -> u32
         ensures same { result ≡ self.now }
-        ensures within { IsAnswerLimit self.now }
+        ensures within { IsLimit self.now }
     {
         self.number
     }
