@@ -62,7 +62,7 @@ pub number_is : (number : ℕ) (bytes : List ℕ) → bytes ≡ to_be_bytes w32 
 unfolding number_bytes
 number_is number bytes is = is
 
--- a number is put behind what was written, and then the bytes
+-- a number is put after what was written, and then the bytes
 pub put_twice : (old number mid bytes new : List ℕ) → mid ≡ old ++ number → new ≡ mid ++ bytes → number ≡ number_bytes (length bytes) → new ≡ old ++ counted_bytes bytes
 put_twice old number mid bytes new first second is =
     second ∙ ap (λ (x : List ℕ). x ++ bytes) first ∙ append_assoc old number bytes ∙ ap (λ (x : List ℕ). old ++ (x ++ bytes)) is
@@ -76,7 +76,7 @@ pub err_longer : {T : Type 0} (result : Result T RecordFault) (bytes more : List
 err_longer (Ok x) bytes more same refused = tt
 err_longer (Err fault) bytes more same refused = subst (λ (all : List ℕ). IsRecordRefusal all fault) same refused
 
--- ---- bytes behind their number
+-- ---- bytes after their number
 
 pub counted_found : (bytes rest text more : List ℕ) (count : ℕ) → bytes ≡ number_bytes count ++ rest → length text ≡ count → rest ≡ text ++ more
     → bytes ≡ counted_bytes text ++ more
@@ -111,7 +111,7 @@ word_other Is bytes text rest few spelled other = record {
       other (subst (λ (x : List ℕ). Is x) same.0 is);
 }
 
--- items that are spelled by a path behind its number, and by what follows it
+-- items that are spelled by a path after its number, and by what follows it
 module _ {X : Type 0} (Is : X → Type 0) (path tail : X → List ℕ) where
   abbrev spelled : X → List ℕ
   spelled item = counted_bytes (path item) ++ tail item

@@ -12,7 +12,7 @@ use Rattle.arg_partition.specs.SomePartsLemmas.{each_fits, range-more, range-non
 
 -- ---- names of a range
 
--- one name more, by the name that stands behind the range
+-- one name more, by the name that stands after the range
 pub range-push : (names : List (List ℕ)) (start end : ℕ) (name : List ℕ) → start ≤ end → end < length names → name ≡ get_or names end name
     → slice_range names start (end + 1) ≡ slice_range names start end ++ name ∷ []
 range-push names start end name forward within is =

@@ -26,7 +26,7 @@ taken-append true (word ∷ words) names = sum_by-append (λ (other : List ℕ).
 taken-append false [] names = omega arith
 taken-append false (word ∷ words) names = omega (arith, sum_by-append (λ (other : List ℕ). 1 + length other) words names)
 
--- what fits the room that words leave fits behind them
+-- what fits the room that words leave fits after them
 pub fits_left : (whole rest : Room) (words names : List (List ℕ)) → LeavesRoom whole words rest → fits_room rest names ≡ fits_room whole (words ++ names)
 fits_left whole rest words names leaves =
     let sum = taken-append whole.begun words names in
@@ -34,7 +34,7 @@ fits_left whole rest words names leaves =
     let left = leaves.left in
     grind (arith, nat_tests)
 
--- words that don't fit don't fit with more behind them
+-- words that don't fit don't fit with more after them
 pub misfit_more : (room : Room) (words more : List (List ℕ)) → fits_room room words ≡ false → fits_room room (words ++ more) ≡ false
 misfit_more room words more misfit =
     let sum = taken-append room.begun words more in
@@ -51,7 +51,7 @@ one_more whole room words at word (Some rest) within is leaves takes =
     let more = take_more words at word within in
     rw (more, ← is) (takes whole (take at words) leaves).0
 
--- what fits behind the words is what fits the room that they leave
+-- what fits after the words is what fits the room that they leave
 pub fits_behind : (limit : ℕ) (words : List (List ℕ)) (room : Room) → LeavesRoom (record { left = limit; begun = false }) words room → fits_room room ≡ fits words limit
 fits_behind limit words room leaves =
     fun_ext (λ (names : List (List ℕ)). fits_left (record { left = limit; begun = false }) room words names leaves)

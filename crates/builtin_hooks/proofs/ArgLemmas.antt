@@ -1,4 +1,4 @@
--- The arguments behind their references.
+-- The arguments through their references.
 use Rattle.std.proofs.Common.{◌≡◌, ◌∙◌, ap, refl, ℕ, ◌||◌, ◌&&◌, Bool, Bor, List, [], ◌∷◌, map}
 use Rattle.std.specs.List.{list_all, list_any}
 use Rattle.builtin_hooks.specs.declared.flags.Flags.{Flags}

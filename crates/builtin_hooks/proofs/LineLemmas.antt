@@ -18,7 +18,7 @@ pub found_later : (search : Search) (path : List ℕ) (number : ℕ) (rest line 
 found_later search path number rest line after is found =
     ap (λ lines. found_lines search (numbered path number lines)) is ∙ cond-false _ _ _ found
 
--- the text of a line is written, and those of the lines behind it are left
+-- the text of a line is written, and those of the lines after it are left
 pub text_more : (whole before after : List ℕ) (line : MatchedLine) (lines left : List MatchedLine) → whole ≡ before ++ flat_map line_text lines
     → lines ≡ line ∷ left → after ≡ before ++ line_text line → whole ≡ after ++ flat_map line_text left
 text_more whole before after line lines left so_far first made =

@@ -28,7 +28,7 @@ feeds-add : (bytes : List ℕ) (cut more : ℕ) → line_feeds_before (cut + mor
 feeds-add bytes cut more =
     ap (count_by is_line_end) (take-add cut more bytes) ∙ sum_by-append _ (take cut bytes) (take more (drop cut bytes))
 
--- the bytes behind the first line feed, as a range without an end takes them
+-- the bytes after the first line feed, as a range without an end takes them
 abbrev pub behind : ℕ → List ℕ → List ℕ
 behind place bytes = take (length bytes - (place + 1)) (drop (place + 1) bytes)
 

@@ -25,6 +25,6 @@ with_next all yielded c so_far within at =
 pub with_none : (all yielded : List ℕ) → map (λ d. d) yielded ≡ all → yielded ++ [] ≡ all
 with_none all yielded same = append-nil yielded ∙ (sym (map-id yielded) ∙ same)
 
--- nothing more is put behind what was put there, where nothing more fits
+-- nothing more is put after what was put there, where nothing more fits
 pub ended : (line whole rest : List ℕ) → rest ≡ [] → line ++ encode_utf8_all rest ≡ whole → line ≡ whole
 ended line whole rest none same = sym (append-nil line) ∙ (ap (λ (r : List ℕ). line ++ encode_utf8_all r) (sym none) ∙ same)

@@ -35,7 +35,7 @@ same_hooks_failed : (stage other : Stage) (reports others : List (List ℕ)) →
 same_hooks_failed stage other reports others at before = cc
 
 module _ (tells : List (List ℕ) → List File → Outcome → Type 0) (before : Repository) (message : List ℕ) (no_verify : Bool) (skip : List (List ℕ)) where
-  -- a commit was made of the cleaned message, behind stages that reported this
+  -- a commit was made of the cleaned message, after stages that reported this
   record HasCommit (config : Config) (reports : List (List ℕ)) (cleaned : List ℕ) (reply : Reply) (after : Repository) : Type 0 where
     room : length before.history < most_commits
     report : List ℕ

@@ -47,7 +47,7 @@ pub record IsEnded (tells : List (List ℕ) → List File → Outcome → Type 0
 module _ (tells : List (List ℕ) → List File → Outcome → Type 0) (from to : Moment) (before : Repository) (kept : Kept) (rest : kept.repo ≡ before) (message : List ℕ) (no_verify : Bool)
     (skip : List (List ℕ))
     (through : Through) (ran_before : IsThrough tells from to before message no_verify skip through) where
-  -- the stages were run on what is kept behind them
+  -- the stages were run on what is kept after them
   ran : IsThrough tells from to kept.repo message no_verify skip through
   ran = subst (λ (repo : Repository). IsThrough tells from to repo message no_verify skip through) (sym rest) ran_before
 
@@ -132,7 +132,7 @@ module _ (tells : List (List ℕ) → List File → Outcome → Type 0) (from to
           front = step_uncommitted-front tells kept.repo message no_verify skip from to ran.committable through.config ran.configured reports left over_passed kept refl refusal why_left;
         })
 
-    -- a commit was made, and hooks were run behind it
+    -- a commit was made, and hooks were run after it
     pub committed_step : (next : List (List ℕ) → List File → Outcome → Type 0) (end : Moment) (number : ℕ) (after : Kept) (last : List ℕ) (post : PostCommit) → last ≡ left.message
         → SameTells tells next
         → MayCommit kept.repo (cleaned_message last) → number ≡ length kept.repo.history + 1 → after.repo ≡ with_new_commit (cleaned_message last) kept.repo

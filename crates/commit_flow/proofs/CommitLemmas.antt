@@ -133,7 +133,7 @@ module _ (tells : List (List ℕ) → List File → Outcome → Type 0) (repo : 
       (by_stop (λ (r : HostRefusal). AreLeftOut tells from to repo message no_verify skip parts contents (Refused r)) why.inner why.not_named why.of_book
       (inr begun) (inr begun) (λ fault of_fixes. inr begun) (λ spent. needs (why.is ∙ ap of_run spent)))
 
-  -- the hooks behind it were stopped
+  -- the hooks after it were stopped
   post_out : (from to : Moment) (number : ℕ) (reports : List (List ℕ)) (parts : List Part) (refusal : RunRefusal) → HasBegunBehind repo skip parts
       → (refusal ≡ run.Spent → HasFurtherBehind repo skip to.remembered parts) → AreLeftOut tells from to repo message no_verify skip parts contents (Committed number reports (Stopped refusal))
   post_out from to number reports parts run.Spent begun needs = needs refl
@@ -225,7 +225,7 @@ module _ (tells : List (List ℕ) → List File → Outcome → Type 0) (before 
         ]
 
     module _ (committable : IsCommittable before message) (config : Config) (configured : IsConfigured before config) where
-      -- memory is refused behind the stages
+      -- memory is refused after the stages
       step_lost : (after : Kept) → after.repo ≡ before → (parts : List Part) → HaveBegun config (changed_paths before) skip (stages_before_commit no_verify) (course_of before message) parts
           → AreAnswered tells reuse.All from to parts
           → IsCommitStep tells from to before message no_verify skip (Refused OutOfMemory) after
@@ -365,7 +365,7 @@ module _ (tells : List (List ℕ) → List File → Outcome → Type 0) (before 
               made = made;
             }
 
-            -- the commit was made, and this became of the hooks behind it
+            -- the commit was made, and this became of the hooks after it
             pub step_committed : (post : PostCommit) → IsPostOver next to end config before.staged skip post
                 → IsCommitStep tells from end before message no_verify skip (Committed number reports post) after
             step_committed (Told report) behind =

@@ -35,7 +35,7 @@ module _ {S : Type 0} (g : Ghosts S) (tells : List (List ℕ) → List File → 
     (entry : from.remembered ≡ remembered_by old.kept)
     (rest : IsAtRest g old between) (left : LeavesTold tells (remembered_by old.kept) (MayRemember g old) (MayRemember g between)) (message : List ℕ) (no_verify : Bool) (skip : List (List ℕ))
     (through : Through) (ran : IsThrough tells from (moment calls faults (remembered_by between.kept)) old.kept.repo message no_verify skip through) where
-  -- a step whose stages came to an end, as the store keeps it behind them
+  -- a step whose stages came to an end, as the store keeps it after them
   abbrev Steps : Reply → Kept → List Part → Type 0
   Steps reply after first = IsEnded tells from (moment calls faults (remembered_by after)) old.kept.repo message no_verify skip reply after first
 
@@ -119,7 +119,7 @@ module _ {S : Type 0} (g : Ghosts S) (tells : List (List ℕ) → List File → 
           uncommitted.front.behind last same_message)
           one (left_then_change g tells old between new (Err first) made adds_passed left refl one))
 
-    -- and a commit was made, and hooks were run behind it
+    -- and a commit was made, and hooks were run after it
     module _ (next : List (List ℕ) → List File → Outcome → Type 0) (same : SameTells tells next) (after : Shown S) (further : IsAtRest g new after)
         (left_further : LeavesTold next (remembered_by new.kept) (MayRemember g new) (MayRemember g after)) (may : MayCommit between.kept.repo (cleaned_message last)) (done : new.kept ≡ made)
         (number : ℕ) (counted : number ≡ length between.kept.repo.history + 1) (end : Moment) (end_is : end.remembered ≡ remembered_by after.kept) (post : PostCommit)

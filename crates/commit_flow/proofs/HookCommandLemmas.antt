@@ -43,7 +43,7 @@ change_left g tells old new result after same one = λ left may.
           inl (subst (λ (answers : List KeptAnswer). Holds words seen answer (remembered_by (record old.kept { answers = answers }))) same moved))
     ]
 
--- and so it does behind hooks
+-- and so it does after hooks
 pub left_then_change : {S A : Type 0} (g : Ghosts S) (tells : List (List ℕ) → List File → Outcome → Type 0) (old between new : Shown S) (result : Result A HostRefusal) (after : Kept)
     → AddsTold tells (remembered_by old.kept) (remembered_by between.kept) → LeavesTold tells (remembered_by old.kept) (MayRemember g old) (MayRemember g between)
     → after.answers ≡ between.kept.answers

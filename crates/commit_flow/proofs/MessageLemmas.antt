@@ -105,7 +105,7 @@ all-staying lines = staying-behind lines 0 [] lines (record { left = refl; behin
 
 -- ---- line by line
 
--- the lines that are still to be written, where an empty one waits for one that isn't empty, and behind this line
+-- the lines that are still to be written, where an empty one waits for one that isn't empty, and after this line
 abbrev pub left : Bool → List ℕ → List (List ℕ) → List (List ℕ)
 left false before rest = staying_behind before rest
 left true before rest = if list_any is_filled rest then [] ∷ staying_behind [] rest else staying_behind [] rest

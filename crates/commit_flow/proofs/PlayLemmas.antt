@@ -63,7 +63,7 @@ module _ (tells : List (List ℕ) → List File → Outcome → Type 0) (from to
   still_adds_limited most (Limited number) limited = limited_adds tells most from.remembered to.remembered limited.1
   still_adds_limited most reply limited = adds-same tells from.remembered to.remembered limited
 
-  -- each answer that is remembered behind it was so before, or was told
+  -- each answer that is remembered after it was so before, or was told
   made_adds : (command : Command) (reply : Reply) (parts : List Part) → Makes tells from to command reply parts → AddsTold tells from.remembered to.remembered
   made_adds Forget reply parts makes = still_adds reply makes.1.forgotten
   made_adds (Limit most) reply parts makes = still_adds_limited most reply makes.1.limited

@@ -150,7 +150,7 @@ pub given_so : (staged : List File) (ran : HooksRun) (changes : List Change) →
 given_so staged ran changes same =
     ap (λ (fixes : List Change). with_changes fixes ran) same
 
--- it is lost where memory is refused behind it
+-- it is lost where memory is refused after it
 pub lost : (refuses : BookFault → Type 0) (tells : List (List ℕ) → List File → Outcome → Type 0) (from to : Moment) (config : Config) (ask : RunAsk) (tree : List File) (out : RunOut)
     → HaveRun tells from to config ask tree out → HaveStopped refuses tells from to config ask tree run.OutOfMemory
 lost refuses tells from to config ask tree out have =
@@ -179,7 +179,7 @@ prepared_with config ask tree = record { config = config; ask = ask; tree = tree
 same_prepared : (config : Config) (first second : RunAsk) (tree other : List File) → first ≡ second → tree ≡ other → prepared_with config first tree ≡ prepared_with config second other
 same_prepared config first second tree other asked same = cc
 
--- A run is refused behind its hooks. Done, it would have made this of the repository.
+-- A run is refused after its hooks. Done, it would have made this of the repository.
 pub record IsStoppedShort (tells : List (List ℕ) → List File → Outcome → Type 0) (from to : Moment) (before : Repository) (ask : HostAsk) (after : Kept) (refusal : HostRefusal)
     (made : Repository) : Type 0 where
   pub over : IsStoppedStep tells from to before ask after refusal

@@ -152,7 +152,7 @@ module _ (tells : List (List ℕ) → List File → Outcome → Type 0) (alone :
       (reported (ap reports_of (p.0 ∙ sym q.0)), p.1 ∙ sym q.1, p.2 ∙ sym q.2))
       run.1 on
 
--- the same is reported of the hooks behind a commit
+-- the same is reported of the hooks after a commit
 pub same_post : (tells : List (List ℕ) → List File → Outcome → Type 0) (alone : OneAnswer tells) (config : Config) (before : Repository) (skip : List (List ℕ)) (report other : List ℕ)
     (parts more : List Part)
     → IsPost config before skip (Told report) parts → IsPost config before skip (Told other) more → AreClear tells parts → AreClear tells more → report ≡ other

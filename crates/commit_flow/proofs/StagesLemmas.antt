@@ -68,7 +68,7 @@ module _ (config : Config) (ask : RunAsk) (tree : List File) where
   pub begun_all : (trace : List (List Part)) (out : RunOut) → IsRunOut config ask tree trace out → IsBegun config ask tree (all_parts trace)
   begun_all trace out run = record { trace = trace; rest = []; out = out; joined = sym (append-nil (all_parts trace)); run = run }
 
-  -- a run that has a further part behind these begins with these
+  -- a run that has a further part after these begins with these
   pub begun_before : (remembered : Contents) (front : List Part) → NeedsChild remembered config ask tree front → IsBegun config ask tree front
   begun_before remembered front needs = record {
     trace = needs.begun.trace;
@@ -86,7 +86,7 @@ module _ (config : Config) (changed skip : List (List ℕ)) where
   begun_at remembered (stage ∷ stages) course (told ∷ more) own come =
       (come.0, come.1, begun_at remembered stages (course_after stage course told.out.tree) more own come.2)
 
-  -- stages that have a further part behind these begin with these
+  -- stages that have a further part after these begin with these
   pub have_begun_before : (remembered : Contents) (stages : List Stage) (course : CommitState) (parts : List Part)
       → HaveFurther remembered config changed skip stages course parts → HaveBegun config changed skip stages course parts
   have_begun_before remembered stages course parts further =
@@ -102,7 +102,7 @@ module _ (config : Config) (changed skip : List (List ℕ)) where
     traced = append-nil (all_parts told.trace);
   }
 
-  -- it passed, and those behind it begin with these parts
+  -- it passed, and those after it begin with these parts
   begun_then : (stage : Stage) (stages : List Stage) (course : CommitState) (told : StageTold) (parts : List Part) → IsStageTold config changed skip stage course told → told.out.passed ≡ true
       → HaveBegun config changed skip stages (course_after stage course told.out.tree) parts → HaveBegun config changed skip (stage ∷ stages) course (all_parts told.trace ++ parts)
   begun_then stage stages course told parts run passed rest = record {
@@ -191,7 +191,7 @@ module _ (refuses : BookFault → Type 0) (tells : List (List ℕ) → List File
     spent = λ spent. stopped.spent (run_spent refusal spent);
   }
 
-  -- memory is refused behind these parts
+  -- memory is refused after these parts
   unfoldable pub halted_for_memory : (begins further : List Part → Type 0) (parts : List Part) → begins parts → AreAnswered tells reuse.All from to parts
       → IsHalted refuses tells from to begins further OutOfMemory
   halted_for_memory begins further parts begun answered = record {

@@ -130,7 +130,7 @@ module _ (first : StagingEdit) (edits : List StagingEdit) (before : Repository) 
   at_head : IsEditRefusedAt (first ∷ edits) before r zero → IsEditRefusal first before r
   at_head p = let is = p.is in head_refusal first p.edit before p.reached r (cc) p.made p.why
 
-  -- one behind it is, of what it made
+  -- one after it is, of what it made
   behind_head : (at : ℕ) (from : Repository) → (p : IsEditRefusedAt (first ∷ edits) before r (suc at)) → p.made.0 ≡ from → IsEditRefusedAt edits from r at
   behind_head at from p same = record {
     reached = p.reached;

@@ -5,7 +5,7 @@ ghost use Rattle.commit_flow.specs.Preparations.{IsPrepared, IsUnprepared, run_a
 ghost use Rattle.commit_flow.specs.Runs.{reuse_of, stage_of_ask};
 
 use crate::candidates::candidates;
-use crate::configured::staged_config;
+use crate::staged_configuration::staged_config;
 use crate::{AskStage, HostAsk, HostRefusal};
 use hook_base::{Items, OutOfMemory, RepoPath, Text, Tree, copy_texts};
 use hook_config::{Config, Stage};

@@ -3,7 +3,7 @@ use Rattle.std.proofs.Common.{◌≡◌, ◌∙◌, ap, sym, add-one, append_ass
 use Rattle.std.proofs.Math.Seq.{drop-cons}
 use Rattle.std.specs.List.{flat_map}
 
--- the text of the item at an index is written, and those of the items behind it are left
+-- the text of the item at an index is written, and those of the items after it are left
 pub written-more : {X : Type 0} (text_of : X → List ℕ) (whole before after : List ℕ) (items : List X) (place : ℕ) (item : X) → place < length items
     → item ≡ get_or items place item → whole ≡ before ++ flat_map text_of (drop place items) → after ≡ before ++ text_of item
     → whole ≡ after ++ flat_map text_of (drop (place + 1) items)

@@ -1,4 +1,4 @@
--- Lemmas: the tags of a tree, taken over row by row beside the paths that changed.
+-- Lemmas: the tags of a tree, taken over row by row next to the paths that changed.
 use Rattle.std.proofs.Common.{◌≡◌, ℕ, ◌+◌, ◌<◌, ◌≤◌, zero, suc, Bool, false, List, [], ◌∷◌, ◌++◌, length, get_or, drop, Option, Some, refl, ap, sym, ◌∙◌, append_assoc, option_map, add-one, arith, subst}
 use Rattle.std.specs.Prelude.{◌||◌}
 use Rattle.std.specs.declared.cmp.Ordering.TheVariants.{Less, Greater}

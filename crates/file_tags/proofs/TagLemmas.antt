@@ -1,4 +1,4 @@
--- Lemmas: tags behind references, and the look-ups of tags.
+-- Lemmas: tags through references, and the look-ups of tags.
 use Rattle.std.specs.Prelude.{◌≡◌, ℕ, ◌||◌, List, [], ◌∷◌, ◌++◌, length, refl}
 use Rattle.std.specs.List.{list_any}
 use Rattle.std.specs.Str.{bytes_eq}

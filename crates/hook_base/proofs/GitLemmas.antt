@@ -40,7 +40,7 @@ over_and false x y z e = refl
 at_slash : (byte one : ℕ) → is_slash byte ≡ true → is_slash one ≡ false → (byte == one) ≡ false
 at_slash byte one slash other = grind (arith, nat_tests)
 
--- the first part is the name where the path is the name, or goes on behind it with a slash
+-- the first part is the name where the path is the name, or goes on after it with a slash
 begins_with_name : (name path : List ℕ) → list_any is_slash name ≡ false → (bytes_eq path name || starts_with nat_eq path (name ++ 47 ∷ [])) ≡ begins_with_part name (parts_of path)
 begins_with_name [] [] whole = refl
 begins_with_name [] (byte ∷ bytes) whole =

@@ -13,7 +13,7 @@ use Rattle.hook_base.specs.TreeLemmas.{IsRising-put_row, IsRising-remove_file, e
 use Rattle.hook_base.specs.Trees.{IsRising, entry_of, path_of, put_found, put_row, remove_file}
 use Rattle.hook_base.proofs.OverlayLemmas.{none_some}
 
--- what stands at a path behind each edit
+-- what stands at a path after each edit
 
 same_differ : (p q r : List ℕ) → bytes_eq p q ≡ false → r ≡ q → bytes_eq p r ≡ false
 same_differ p q r differ same = subst (λ (s : List ℕ). bytes_eq p s ≡ false) (sym same) differ
@@ -215,7 +215,7 @@ absent_apart row new rows absent same =
 absent_rest : (row new : File) (rows : List File) → entry_of new.path (row ∷ rows) ≡ None → IsBelow row.path new.path → entry_of new.path rows ≡ None
 absent_rest row new rows absent above = sym (rw (above_differs new.path row.path above)) ∙ absent
 
--- a row that is put behind the path leaves its place
+-- a row that is put after the path leaves its place
 at-put_above : (path : List ℕ) (new : File) (rows : List File) (k : ℕ) → IsAt path rows k → IsBelow path new.path → IsAt path (put_row new rows) k
 at-put_above path new [] k at above = absurd at
 at-put_above path new (row ∷ rows) zero at above =
@@ -258,7 +258,7 @@ at-put_rows_above path [] rows k above at = at
 at-put_rows_above path (new ∷ added) rows k above at =
     at-put_rows_above path added (put_row new rows) k above.1 (at-put_above path new rows k at above.0)
 
--- an added row stands behind the added rows and the rows that come before it
+-- an added row stands after the added rows and the rows that come before it
 at-added : (path : List ℕ) (added rows : List File) (a b n : ℕ) → n ≡ a + b → IsRising added → AreApart added rows → IsAt path added a → IsGap path rows b → IsAt path (put_rows added rows) n
 at-added path [] rows a b n is rising apart at gap = absurd at
 at-added path (new ∷ added) rows zero b n is rising apart at gap =

@@ -31,7 +31,7 @@ apart_paths added rows a b x y up rising apart of_added of_rows at there same =
     let second = found x.path rows b y of_rows rising (same ∙ ap (λ (row : File). row.path) (sym there)) in
     none_some (get_or added a x).entry (entry_of x.path added) (apart_added x.path (get_or rows b y).entry added rows apart (entry_of-at x.path rows b y second)) (entry_of-at x.path added a x first)
 
--- so where the one isn't before the other, it is behind it
+-- so where the one isn't before the other, it is after it
 pub behind : (added rows : List File) (a b : ℕ) (x y : File) → IsRising added → IsRising rows → AreApart added rows → a < length added → b < length rows → get_or added a x ≡ x → get_or rows b y ≡ y
     → (path_cmp x.path y.path ≡ Less → ⊥) → IsBelow y.path x.path
 behind added rows a b x y up rising apart of_added of_rows at there not_less =

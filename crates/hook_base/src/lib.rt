@@ -13,7 +13,7 @@
 //! [`laws`] says that the limits in the code are those of the definitions.
 #![tactic(auto)]
 
-mod base;
+mod base_rows;
 mod change;
 mod changes;
 mod content;
@@ -21,10 +21,10 @@ mod file;
 pub mod laws;
 mod limits;
 mod live_rows;
-mod merged;
 mod path_check;
 mod path_fault;
 mod repo_path;
+mod row_order;
 mod row_place;
 mod row_state;
 mod row_states;

@@ -3,7 +3,7 @@
 ghost use Rattle.std.specs.Prelude.{◌≡◌, ◌<◌, ◌^◌, [], length, slice_get, get_or, set, remove, IfOk};
 ghost use Rattle.hook_base.specs.Trees.{IsRising, apply_changes};
 
-use crate::base::Base;
+use crate::base_rows::Base;
 use crate::row_state::RowState;
 use crate::row_states::{
     apply_to_states, copy_states, indices_of, keep_all, set_state, standing_row,

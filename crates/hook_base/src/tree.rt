@@ -6,7 +6,7 @@ ghost use Rattle.hook_base.specs.Overlays.{row_found};
 ghost use Rattle.hook_base.specs.Trees.{IsRising, entry_of, put_file, put_found, put_row, remove_file, apply_changes, changes_between};
 
 use crate::live_rows::LiveRows;
-use crate::merged::merged_row;
+use crate::row_order::merged_row;
 use crate::row_place::{RowPlace, place_among, place_of};
 use crate::rows::{copy_rows, put_row, remove_row};
 use crate::{Change, Changes, File, FileEntry, OutOfMemory, RepoPath, SharedFile};

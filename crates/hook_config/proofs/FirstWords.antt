@@ -1,4 +1,4 @@
--- Words behind the first.
+-- Words after the first.
 use Rattle.std.proofs.Common.{◌≢◌, ℕ, List, [], ◌∷◌, ◌++◌, refl}
 use Rattle.hook_config.specs.CommandWords.{first_word}
 

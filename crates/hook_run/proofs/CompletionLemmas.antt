@@ -1,4 +1,4 @@
--- Each plan can be completed, behind any outcome of the child that it needs.
+-- Each plan can be completed, after any outcome of the child that it needs.
 use Rattle.std.proofs.Common.{◌≡◌, refl, ℕ, Bool, false, List, [], ◌∷◌, ◌++◌, Option, None, Some}
 use Rattle.hook_base.specs.declared.file.File.{File}
 use Rattle.child_port.specs.Outcomes.{after_outcome}
@@ -125,7 +125,7 @@ can-fail plan =
     let some = some-completion plan plan.waiting in
     record { rest = some.rest; out = some.out; completes = some.completes; failed = some.failed }
 
--- and behind any outcome of the child that it needs
+-- and after any outcome of the child that it needs
 pub can-follow : (plan : Plan) (outcome : Outcome) (unsteady : Bool) → need_of plan ≡ Child → CanComplete plan (part_with plan outcome unsteady ∷ [])
 can-follow plan outcome unsteady need =
     let some = completion-behind plan plan.waiting outcome unsteady need in

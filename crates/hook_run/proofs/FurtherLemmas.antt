@@ -52,7 +52,7 @@ module _ (hook : Hook) (paths : List (List ℕ)) where
   further-kept tree (Done answer) are = changes-kept answer.changes tree are
   further-kept tree (Failed fault) are = are
 
--- a hook that goes on behind a part has the same paths
+-- a hook that goes on after a part has the same paths
 pub further-told : (done after : Progress) (work next : RunningHook) (outcome : Outcome) → after ≡ on_tree done (after_outcome done.tree outcome)
     → next.hook.now ≡ work.hook.now → next.further ≡ work.further → AreFurther work.hook.now work.further done.tree → AreFurther next.hook.now next.further after.tree
 further-told done after work next outcome left same kept are =

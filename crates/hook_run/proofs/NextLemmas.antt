@@ -48,7 +48,7 @@ over-next : (plan : Plan) (out : RunOut) (rest : List Part) → IsNextOf out (ou
 over-next plan out [] next = next
 over-next plan out (one ∷ rest) next = absurd next
 
--- ---- a plan behind parts
+-- ---- a plan after parts
 
 module _ (config : Config) (ask : RunAsk) (tree : List File) where
   module _ (parts : List Part) (plan : Plan) (behind : IsPlanBehind config ask tree parts plan) where

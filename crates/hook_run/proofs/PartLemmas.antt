@@ -215,7 +215,7 @@ pub none-found : (found : Option Answer) → ((answer : Answer) → found ≡ So
 none-found None never = refl
 none-found (Some answer) never = absurd (never answer refl)
 
--- what is left behind a second step, of what was left behind a first one
+-- what is left after a second step, of what was left after a first one
 pub left-then : (tells : List (List ℕ) → List File → Outcome → Type 0) (before between left : Contents) (Before Between : Type 0) → AddsTold tells before between
     → (Between → Before ⊎ AddsTold tells before left) → Between ⊎ AddsTold tells between left → Before ⊎ AddsTold tells before left
 left-then tells before between left Before Between adds first second = elim second [

@@ -89,7 +89,7 @@ no-results config ask tree [] (result ∷ results) run = absurd run
 no-results config ask tree (parts ∷ trace) [] run = absurd run
 no-results config ask tree (parts ∷ trace) (result ∷ results) run = absurd run
 
--- ---- a hook that is done, and the run behind it
+-- ---- a hook that is done, and the run after it
 
 abbrev NothingMore : List (List Part) → List HookResult → Type 0
 NothingMore trace results = (trace ≡ []) × (results ≡ [])
@@ -137,7 +137,7 @@ hook-done config ask done hook hooks here ending ids rest out ends same more =
           ∙ ap₂ (λ a b. done.unsteady ++ (a ++ b)) same (ids-behind last config ask after hooks more.trace more.results more.run));
     }
 
--- ---- a hook that has begun, and the run behind it
+-- ---- a hook that has begun, and the run after it
 
 abbrev at_from : Hook → List File → List (List (List ℕ)) → PartTotals → AtHook
 at_from hook before commands gathered = record { hook = hook; before = before; commands = commands; gathered = gathered }
@@ -185,7 +185,7 @@ part-told config ask done hook before command commands so_far hooks outcome unst
       more = on.more;
     }
 
--- a hook without commands left goes on behind it
+-- a hook without commands left goes on after it
 pub hook-ended : (config : Config) (ask : RunAsk) (done : Progress) (at : AtHook) (hooks : List Hook) (ending : Ending) (unsteady : Bool) (parts : List Part) (out : RunOut)
     → at.commands ≡ [] → ending ≡ ending_of_gathered at.gathered at.before done.tree → unsteady ≡ at.gathered.unsteady
     → GoesOn config ask (progress_with done at.hook ending (id_if unsteady at.hook) done.tree) (hooks_after config at.hook ending hooks) parts out

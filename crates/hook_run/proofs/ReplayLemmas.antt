@@ -117,7 +117,7 @@ out-reusing : (config : Config) (ask : RunAsk) (tree : List File) (trace : List 
 out-reusing config ask tree trace out run =
     record { results = run.results; run = run-reusing config ask tree (hooks_of_run config ask) trace run.results run.run; is = run.is }
 
--- ---- a run behind an unseen edit
+-- ---- a run after an unseen edit
 
 end-same : (paths : List (List ℕ)) (tree other : List File) (out there second : RunOut) → EndAlike paths tree other out there → GiveSame there second → EndAlike paths tree other out second
 end-same paths tree other out there second alike given = record {

@@ -17,7 +17,7 @@ drop-at_suc (first ∷ rows) (suc i) row at = drop-at_suc rows i row at
 pub drop-at : (rows : List File) (i : ℕ) (row : File) → slice_get rows i ≡ Some row → drop i rows ≡ row ∷ drop (i + 1) rows
 drop-at rows i row at = drop-at_suc rows i row at ∙ ap (λ n. row ∷ drop n rows) (sym (add-one i))
 
--- a row at a place is the one that is looked for, or the look-up goes on behind it
+-- a row at a place is the one that is looked for, or the look-up goes on after it
 pub entry-here : (path : List ℕ) (rows : List File) (i : ℕ) (row : File) → slice_get rows i ≡ Some row → bytes_eq path row.path ≡ true
     → entry_of path (drop i rows) ≡ Some row.entry
 entry-here path rows i row at same = ap (entry_of path) (drop-at rows i row at) ∙ rw same

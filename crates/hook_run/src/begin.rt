@@ -8,10 +8,10 @@ ghost use Rattle.hook_run.specs.HookRun.{IsCommandRun, IsEnding, IsHookRun, IsLa
 ghost use Rattle.hook_run.specs.Limits.{most_command_bytes};
 ghost use Rattle.hook_run.specs.PlanStates.{HasBegun, IsCourse};
 
-use crate::asked::is_skipped;
 use crate::candidate_files::CandidateFiles;
 use crate::command::command_of;
 use crate::further_files::further_of;
+use crate::hook_choice::is_skipped;
 use crate::hook_state::HookState;
 use crate::limits::{MOST_COMMAND_BYTES, MOST_NAMES};
 use crate::part_totals::nothing_gathered;

@@ -33,11 +33,11 @@
 #![tactic(auto)]
 
 mod advance;
-mod asked;
 mod begin;
 mod candidate_files;
 mod command;
 mod further_files;
+mod hook_choice;
 mod hook_state;
 mod hooks_run;
 pub mod laws;

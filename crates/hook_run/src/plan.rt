@@ -9,8 +9,8 @@ ghost use Rattle.hook_run.specs.Refusals.{is_of_book};
 ghost use Rattle.hook_run.specs.PlanStates.{AreFurther, FitsName, FitsResults, IsCourse, IsPlanAt, IsPlanBehindHook, IsToldFrom, at_part, at_work, hooks_from};
 
 use crate::advance::{advance, place_behind};
-use crate::asked::{hooks_of_run, names_no_hook};
 use crate::candidate_files::CandidateFiles;
+use crate::hook_choice::{hooks_of_run, names_no_hook};
 use crate::hook_state::HookState;
 use crate::pending_part::PendingPart;
 use crate::plan_state::PlanState;

@@ -6,13 +6,13 @@
 //! contracts cite `specs/LazyDisk.antt`, and [`laws`] says by `specs/DueCut.antt` what a crash may leave.
 #![tactic(auto)]
 
+#[cfg(test)]
+mod call_recorder;
 pub mod laws;
 mod lazy_disk;
-#[cfg(test)]
-mod noted;
-mod settled;
+mod lazy_files;
 #[cfg(test)]
 mod tests;
 
 pub use lazy_disk::LazyDisk;
-pub use settled::settled_files;
+pub use lazy_files::settled_files;

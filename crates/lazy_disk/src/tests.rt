@@ -1,7 +1,7 @@
 //! Tests of what no clause says: which calls are passed on.
 //!
 //! A case is a disk, the calls that are made on it, and what is expected, a word for each call. A word is `.`
-//! if the call passed and `!` if it failed, the letters of the calls that were passed on (`noted.rt`), and
+//! if the call passed and `!` if it failed, the letters of the calls that were passed on (`call_recorder.rt`), and
 //! after a slash what was read. A disk that may not be used gets no call but a crash: `-`. The end says
 //! whether a cut is due.
 //!
@@ -12,7 +12,7 @@ ghost use Rattle.std.specs.Prelude.{◌≡◌, true, false, IsTrue};
 ghost use Rattle.sqlite_disk.specs.Disk.{Only};
 ghost use Rattle.sqlite_std_file.specs.File.{IsFresh};
 
-use crate::noted::{Noted, Notes};
+use crate::call_recorder::{Noted, Notes};
 use crate::{LazyDisk, settled_files};
 use sqlite_disk::{Crash, Disk, Files, Fuse, Memory, digest_of};
 use sqlite_std_file::{FileFrom, Start, Unknown, open};

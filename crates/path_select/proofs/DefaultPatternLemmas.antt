@@ -35,7 +35,7 @@ every_path : (path : List ℕ) → is_found (codes "") path ≡ true
 unfolding is_found read join_parts branches items skip first names_below chars
 every_path path = every-found path
 
--- a place behind a byte is no start
+-- a place after a byte is no start
 no-start : (path : List ℕ) (i : ℕ) → i < length path → holds Start path (suc i) ≡ false
 unfolding holds holds_between
 no-start path i within =

@@ -4,8 +4,8 @@ ghost use Rattle.std.specs.Prelude.{◌≡◌, filter, length, IfOk};
 ghost use Rattle.path_select.specs.Candidates.{AreRisingPaths, ArePassing, passes, paths_of};
 
 use crate::Pattern;
-use crate::ordered::in_order;
 use crate::path_filter::PathFilter;
+use crate::sorted_paths::in_order;
 use hook_base::{OutOfMemory, RepoPath};
 use std::alloc::Global;
 use std::marker::Model;

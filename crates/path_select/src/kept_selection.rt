@@ -8,8 +8,8 @@ ghost use Rattle.path_select.specs.Chosen.{fits_at};
 ghost use Rattle.path_select.specs.KeptTags.{fits_tags, tags_at};
 ghost use Rattle.path_select.specs.Selection.{selected, selected_among, texts_of_rules};
 
-use crate::near::index_near;
 use crate::path_filter::PathFilter;
+use crate::path_look_up::index_near;
 use crate::type_rules::have_types;
 use crate::{Candidates, Rules};
 use file_tags::{KeptTags, Tags};

@@ -19,14 +19,14 @@ mod found_files;
 mod index;
 mod kept_selection;
 pub mod laws;
-mod near;
-mod ordered;
 mod path_filter;
+mod path_look_up;
 mod pattern;
 mod pattern_fault;
 mod rules;
 mod search;
 mod selection;
+mod sorted_paths;
 mod type_rules;
 
 pub use candidates::Candidates;

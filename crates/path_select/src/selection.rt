@@ -6,8 +6,8 @@ ghost use Rattle.path_select.specs.Candidates.{paths_of};
 ghost use Rattle.path_select.specs.Chosen.{fits_at, fits_entry};
 ghost use Rattle.path_select.specs.Selection.{selected, selected_among, texts_of_rules};
 
-use crate::near::entry_near;
 use crate::path_filter::PathFilter;
+use crate::path_look_up::entry_near;
 use crate::type_rules::fits_types;
 use crate::{Candidates, Rules};
 use hook_base::{FileEntry, Items, OutOfMemory, RepoPath, Tree};

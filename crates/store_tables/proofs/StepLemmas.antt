@@ -108,7 +108,7 @@ only_then own listed x y z first later =
       keyed = λ k. second.keyed (first.keyed k);
     }
 
--- a change of one of a store's tables keeps those behind them
+-- a change of one of a store's tables keeps those after them
 pub only_keeps_more : (own : Table) (more : MoreTables) (old new : Database) → own.tree ≤ greatest_tree → ChangesOnly own (store_with more) old new → KeepsMore (store_with more) old new
 only_keeps_more own more old new within only = record {
   schema = only.schema;

@@ -1,4 +1,4 @@
--- What CREATE TABLE makes of a database whose tables have rows: the table of uses, behind the seven.
+-- What CREATE TABLE makes of a database whose tables have rows: the table of uses, after the seven.
 use Rattle.std.proofs.Common.{◌≡◌, ℕ, List, [], ◌∷◌, true, false, None, Ok, refl, sym, ap, subst, ◌∙◌}
 use Rattle.std.specs.List.{AllByRecursion}
 use Rattle.std.proofs.lemmas.List.Sorted.{IsPermutation-refl}
@@ -29,7 +29,7 @@ makes_uses : Makes store_schema text.make_uses (unplaced uses) schema_with_uses
 unfolding understood everything
 makes_uses = record { is = refl; plain = (refl, refl); whole = refl; defined = text.uses_defined; after_is = refl; uncounted = refl }
 
--- a table made behind others, whose rows stay
+-- a table made after others, whose rows stay
 record Adds (schema after : Schema) (old new : Database) : Type 0 where
   schema_is : new.schema ≡ after
   sound : IsDatabase new

@@ -81,7 +81,7 @@ module _ {S A : Type 0} (g : Ghosts S) (old new : Held S) (r : Result A Error) (
     survives = change.survives;
   }
 
--- the table of uses, made behind those of version 1
+-- the table of uses, made after those of version 1
 pub grown_as_made : {S A : Type 0} (g : Ghosts S) (old new : Held S) (r : Result A Error) (t : Tables) → IsChange g old new r MakesBareUses → IsChange g old new r AddsUses
     → IsMade g old new r (λ db. HoldsTables db t × AreKeyed (db.trees 0)) (λ db. HoldsRows db t [])
 grown_as_made g old new r t change added = record {

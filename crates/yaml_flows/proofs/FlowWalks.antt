@@ -1,4 +1,4 @@
--- What is open behind each part of a flow that is read.
+-- What is open after each part of a flow that is read.
 use Rattle.std.proofs.Common.{◌≡◌, ℕ, zero, suc, ◌+◌, ◌-◌, ◌<◌, ◌≤◌, Bool, true, false, cond, not, ◌&&◌, ◌||◌, eqb, List, [], ◌∷◌, ◌++◌, length, take, drop, Option, Some, None, option_map, option_and_then, refl, sym, ap, ap₂, ◌∙◌, arith}
 use Rattle.std.proofs.lemmas.Bool.{eqb-true, ne_eqb, lt-ltb}
 use Rattle.std.specs.List.{list_any, join_with_byte}
@@ -52,7 +52,7 @@ tested st c cs opening closing other t =
     ∙ (ap (λ (b : Bool). token_by st cs (text_at (c ∷ cs)) opening b (eqb c 44 || is_key_end st.quoted c cs)) t.closes
     ∙ ap (λ (b : Bool). token_by st cs (text_at (c ∷ cs)) opening closing b) t.others))
 
--- where a bracket is open behind the token, the others follow
+-- where a bracket is open after the token, the others follow
 goes_on : (st : Open) (c : ℕ) (cs : List ℕ) (next : Behind) → behind_token st (c ∷ cs) ≡ next → is_closed next.state ≡ false → behind_all st (c ∷ cs) ≡ behind_all next.state (after_gap next.rest)
 goes_on st c cs next is is_open =
     all_step st c cs
@@ -77,7 +77,7 @@ opened d c cs few opens =
     ∙ ap (λ (n : ℕ). record { state = state n false; rest = cs }) deeper in
     goes_on (state d false) c cs next is (open_at d)
 
--- what is open behind a closing bracket behind which `d` brackets are open, and what is left
+-- what is open after a closing bracket after which `d` brackets are open, and what is left
 abbrev behind_closing : ℕ → List ℕ → Behind
 behind_closing zero rest = record { state = outside; rest = rest }
 behind_closing (suc d) rest = behind_all (state (suc d) false) (after_gap rest)
@@ -392,7 +392,7 @@ node_walk (suc room) d fits =
 
 -- ---- the whole flow
 
--- the flow ends with its last bracket, behind which no further line stands
+-- the flow ends with its last bracket, after which no further line stands
 record Closes (cs : List ℕ) : Type 0 where
   rest : List ℕ
   closed_there : behind_all outside cs ≡ record { state = outside; rest = rest }
@@ -454,7 +454,7 @@ a_feed : (cs s : List ℕ) → list_any is_feed (line_before s cs) ≡ true
 a_feed [] s = refl
 a_feed (c ∷ cs) s = ap (λ (b : Bool). is_feed c || b) (a_feed cs s) ∙ or_true (is_feed c)
 
--- the flow is over behind these lines, and no further line stands there
+-- the flow is over after these lines, and no further line stands there
 record Ends (st : Open) (text : List ℕ) : Type 0 where
   rest : List ℕ
   there : behind_all st (after_start text) ≡ record { state = outside; rest = rest }

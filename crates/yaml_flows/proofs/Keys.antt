@@ -52,7 +52,7 @@ and_parts false b e = absurd (cc)
 
 -- ---- one row more
 
--- the keys with one more behind them
+-- the keys with one more after them
 has_key-push : (k : List ℕ) (rs : List Row) (r : Row) → has_key k (rs ++ r ∷ []) ≡ (has_key k rs || bytes_eq r.0 k)
 has_key-push k rs r =
     list_any-append (λ s. bytes_eq k s.0) rs (r ∷ []) ∙ ap (λ b. has_key k rs || b) (or_false (bytes_eq k r.0) ∙ bytes_eq-flip k r.0)
@@ -132,7 +132,7 @@ seen_behind n rows r false c d q long before after =
     ∙ more_keys _ _ _ c before
     ∙ sym (has_key-behind rows r q)
 
--- what is seen behind a row is what was seen before it, and its key
+-- what is seen after a row is what was seen before it, and its key
 pub is_seen-push : (rows : List (String Global × Node)) (r : String Global × Node) (later more : List ℕ → Bool) (q : List ℕ)
     → is_seen rows later q ≡ has_key q (map member_view rows)
     → more q ≡ seen_later (length rows) (string_bytes r.0) later q

@@ -12,7 +12,7 @@ pub none_before : {A : Type 0} (o : Option (Found (List A))) → o ≡ prepend [
 none_before None = refl
 none_before (Some found) = refl
 
--- a part in front of those behind it
+-- a part in front of those after it
 abbrev pub in_front : {A : Type 0} → A → Option (Found (List A)) → Option (Found (List A))
 in_front x o = option_map (mapped (λ more. x ∷ more)) o
 

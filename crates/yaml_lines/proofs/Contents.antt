@@ -12,7 +12,7 @@ unfolding is_item
 is_item-length [] h = cc
 is_item-length (c ∷ cs) h = omega arith
 
--- what stands behind the dash and the blanks, by the code's slices
+-- what stands after the dash and the blanks, by the code's slices
 pub record Behind (p : ContentLine) (found rest blanks follows : List ℕ) (n : ℕ) : Type 0 where
   pub same : found ≡ p.content
   pub behind : rest ≡ drop 1 found

@@ -35,7 +35,7 @@ unfolding characters_of
 characters_of-good bytes few h =
     ap (λ (b : Bool). cond b None (decoded (is_utf8 bytes) bytes)) (le-ltb most_bytes (length bytes) few) ∙ ap (λ (b : Bool). decoded b bytes) (is_utf8-from_IsUtf8 bytes h)
 
--- the front of the bytes that is UTF-8, and the line behind it
+-- the front of the bytes that is UTF-8, and the line after it
 pub record Front (bytes : List ℕ) (at line : ℕ) : Type 0 where
   pub longest : at ≡ utf8_valid_len bytes
   pub behind : line ≡ line_behind (take at bytes)

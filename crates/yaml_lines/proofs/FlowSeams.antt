@@ -1,5 +1,5 @@
--- No token of a flow goes over a line's end: what is open behind some lines is what is open behind the first of them, and
--- then behind the others.
+-- No token of a flow goes over a line's end: what is open after some lines is what is open after the first of them, and
+-- then after the others.
 use Rattle.std.proofs.Common.{◌≡◌, ℕ, zero, suc, ◌+◌, ◌-◌, ◌≤◌, Bool, true, false, cond, not, ◌&&◌, ◌||◌, eqb, List, [], ◌∷◌, length, take, drop, Option, Some, None, option_map, refl, sym, ap, ◌∙◌, arith, length-drop}
 use Rattle.std.proofs.lemmas.List.{length-take-le, take-append-le, drop-append-le}
 use Rattle.std.specs.Str.{encode_utf8_all}
@@ -126,7 +126,7 @@ text_within c cs = text_within_by (begins_quoted (c ∷ cs)) c cs
 
 -- ---- a gap
 
--- what stands behind a gap, with further lines behind it: if the gap goes on to the line's end, what stands behind that of
+-- what stands after a gap, with further lines after it: if the gap goes on to the line's end, what stands after that of
 -- the next line's start
 abbrev pub then_line : List ℕ → List ℕ → List ℕ
 then_line s [] = after_start s
@@ -210,7 +210,7 @@ enough (suc m) (suc n) st (c ∷ cs) f g =
     tokens_step m st c cs
     ∙ (fuel_by m n (is_closed next.state) next (enough m n next.state (after_gap next.rest) (omega arith) (omega arith)) ∙ sym (tokens_step n st c cs))
 
--- the token that stands first, and those behind it unless it closes the flow
+-- the token that stands first, and those after it unless it closes the flow
 abbrev pub then_all : Bool → Behind → Behind
 then_all closed next = cond closed next (behind_all next.state (after_gap next.rest))
 
@@ -228,7 +228,7 @@ all_step st c cs =
     let fits : length (after_gap next.rest) ≤ length next.rest = gap_fits false false next.rest in
     tokens_step (length cs) st c cs ∙ all_by (length cs) (is_closed next.state) next (omega arith)
 
--- what is open behind a line and the lines behind it
+-- what is open after a line and the lines after it
 abbrev pub then_lines : List ℕ → Behind → Behind
 then_lines s b = cond (is_closed b.state) (longer_behind s b) (behind_all b.state (after_start s))
 
@@ -259,7 +259,7 @@ all_seam (suc n) s st (c ∷ cs) fits is_open =
     ∙ (token_and_lines s next (is_closed next.state) refl (λ is. all_seam n s next.state (after_gap next.rest) (omega arith) (λ nothing. is))
     ∙ ap (then_lines s) (sym (all_step st c cs))))
 
--- what is open behind a line, and then behind those that follow it
+-- what is open after a line, and then after those that follow it
 pub lines_seam : (s : List ℕ) (st : FlowState) (line : List ℕ) → (is_nil (after_start line) ≡ true → is_closed st ≡ false)
     → behind_all st (after_start (line_before s line)) ≡ then_lines s (behind_all st (after_start line))
 lines_seam s st line is_open = ap (behind_all st) (gap_seam false true line s) ∙ all_seam (length (after_start line)) s st (after_start line) (omega arith) is_open

@@ -71,7 +71,7 @@ pub token_tests : (st : FlowState) (c : ℕ) (cs : List ℕ) → behind_token st
 unfolding behind_token
 token_tests st c cs = refl
 
--- ---- one token and those behind it
+-- ---- one token and those after it
 
 pub tokens_nil : (most : ℕ) (s : FlowState) → behind_tokens most s [] ≡ record { state = s; rest = [] }
 unfolding behind_tokens
@@ -89,7 +89,7 @@ pub tokens_step : (most : ℕ) (s : FlowState) (c : ℕ) (cs : List ℕ) → beh
 unfolding behind_tokens
 tokens_step most s c cs = refl
 
--- behind the token that stands first, which closes the flow or not
+-- after the token that stands first, which closes the flow or not
 pub tokens_first : (n i : ℕ) (s : FlowState) (cs : List ℕ) (next : Behind) (closed : Bool) → i < n → (length cs ≡ 0 → ⊥) → next ≡ behind_token s cs → is_closed next.state ≡ closed
     → behind_tokens (n - i) s cs ≡ then_tokens (n - (i + 1)) closed next
 tokens_first n i s [] next closed within some is e = absurd (some refl)
@@ -102,7 +102,7 @@ tokens_first n i s (c ∷ cs) next closed within some is e =
 
 -- ---- the tokens in turn
 
--- what is open behind all, by what is open so far and the characters that are left
+-- what is open after all, by what is open so far and the characters that are left
 abbrev open_from : ℕ → ℕ → FlowState → List ℕ → FlowState
 open_from n i s cs = (behind_tokens (n - i) s cs).state
 

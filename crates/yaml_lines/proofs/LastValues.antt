@@ -45,7 +45,7 @@ both false b e = cc
 blank_by : (c : ℕ) → c ≡ 45 → is_blank c ≡ false
 blank_by c e = ap is_blank e
 
--- what stands behind a dash is its value
+-- what stands after a dash is its value
 behind_dash : (at : ℕ) (dash : Option ℕ) (c : ℕ) (cs : List ℕ) → (eqb c 45 && blank_or_end cs) ≡ true → last_value at dash (c ∷ cs) ≡ moved (at + 1) (Some at) (prefix_len is_blank cs) cs
 behind_dash at dash c cs e =
     last_value-tests at dash c cs false true (blank_by c (eqb-true c 45 (both (eqb c 45) (blank_or_end cs) e).0)) e ∙ skip_blanks (at + 1) (Some at) cs
@@ -78,7 +78,7 @@ pub item_value : (p rest : ContentLine) (dash : Option ℕ) → is_item p.conten
 unfolding item_of
 item_value p rest dash e h = of_item p.indent dash p.content p.block rest e h
 
--- ---- a dash with nothing or a comment behind it
+-- ---- a dash with nothing or a comment after it
 
 abbrev IsComment : Option ColumnValue → Type 0
 IsComment o = IfSome o (λ value. comment_or_end value.content ≡ true)

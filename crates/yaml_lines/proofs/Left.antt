@@ -34,7 +34,7 @@ pub left_of-nothing : (flow : FlowState) (text : List ℕ) (later : List LineTex
     → left_of flow text later ≡ Some (record { content_line = None; next = standing 0 flow })
 left_of-nothing flow text later h k = left_of-tests flow text later true true h k
 
--- the content behind the indentation
+-- the content after the indentation
 pub record Indented (text content : List ℕ) (n : ℕ) : Type 0 where
   pub good : list_all is_allowed text ≡ true
   pub some : comment_or_end (trim_start text) ≡ false

@@ -9,7 +9,7 @@ use Rattle.yaml_lines.specs.Characters.{is_space}
 use Rattle.yaml_lines.specs.declared.header.Chomping.TheVariants.{Clip, Keep}
 use Rattle.yaml_lines.proofs.Passes.{joined-nil, joined-cons}
 
--- ---- a line behind its indentation
+-- ---- a line after its indentation
 
 behind : (n : ℕ) (line : List ℕ) → drop n (replicate n 32 ++ line) ≡ line
 behind zero line = refl

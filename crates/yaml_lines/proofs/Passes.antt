@@ -53,7 +53,7 @@ nil_is : (cs : List ℕ) → is_nil cs ≡ true → cs ≡ []
 nil_is [] e = refl
 nil_is (c ∷ cs) e = cc
 
--- ---- the ends behind the last text line
+-- ---- the ends after the last text line
 
 abbrev count : List LineText → ℕ
 count ls = length (feeds_of ls)
@@ -149,7 +149,7 @@ joined-empty h l ls e some =
     ∙ (ap (λ (cs : List ℕ). encode_utf8_all cs ++ (line_end h.folded l ls ++ joined h ls)) (nil_is l.text e)
     ∙ ap (λ (cs : List ℕ). cs ++ joined h ls) (line_end-empty h.folded l ls e))
 
--- what the pass puts down behind a text line, k empty lines after it
+-- what the pass puts down after a text line, k empty lines after it
 abbrev Behind : Header → Bool → ℕ → ℕ → List LineText → Type 0
 Behind h before k e ls = passed h (Some before) k e ls ≡ seam h.folded before (next_begins_blank ls) (has_gap k ls) ++ (feeds k ++ joined h ls)
 

@@ -1,11 +1,11 @@
--- A quoted text never goes over a line's end: it is the same whatever stands behind the line.
+-- A quoted text never goes over a line's end: it is the same whatever stands after the line.
 use Rattle.std.proofs.Common.{◌≡◌, ℕ, zero, suc, ◌+◌, ◌*◌, ◌≤◌, Bool, true, false, cond, ◌&&◌, eqb, List, [], ◌∷◌, ◌++◌, length, Option, Some, None, option_map, option_and_then, refl, sym, ap, ◌∙◌, arith}
 use Rattle.std.proofs.lemmas.List.{length-append}
 use Rattle.std.specs.Char.{encode_utf8, digit_value}
 use Rattle.std.specs.Prelude.{nat_lt}
 use Rattle.yaml_lines.specs.Quoted.{QuotedStep, Quoted, is_quote, behind, after_quote, single_step, coded, pair_of, two_digits, four_digits, named, escaped, double_step, step_of, quoted_within, quoted_of}
 
--- a line with a line feed and these characters behind it
+-- a line with a line feed and these characters after it
 abbrev pub line_before : List ℕ → List ℕ → List ℕ
 line_before s cs = cs ++ 10 ∷ s
 

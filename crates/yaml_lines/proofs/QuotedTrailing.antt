@@ -1,4 +1,4 @@
--- What a quoted text is where more stands behind it.
+-- What a quoted text is where more stands after it.
 use Rattle.std.proofs.Common.{◌≡◌, ℕ, zero, suc, ◌+◌, ◌*◌, ◌≤◌, Bool, true, false, cond, eqb, List, [], ◌∷◌, ◌++◌, length, Option, Some, None, option_map, option_and_then, refl, ap, ◌∙◌, arith}
 use Rattle.std.proofs.lemmas.List.{length-append}
 use Rattle.std.specs.Char.{encode_utf8}
@@ -9,7 +9,7 @@ use Rattle.yaml_lines.specs.Quoted.{QuotedStep, Quoted, is_quote, behind, after_
 use Rattle.yaml_lines.specs.Scalars.{alone, scalar_meaning}
 use Rattle.yaml_lines.proofs.Trailing.{blank_apart, over_blank, over_more, plain_behind}
 
--- the same character, and more behind it
+-- the same character, and more after it
 abbrev longer : List ℕ → QuotedStep → QuotedStep
 longer s step = record { character = step.character; rest = step.rest ++ s }
 
@@ -122,7 +122,7 @@ front_more : (c : ℕ) (s : List ℕ) (o long : Option Quoted) (q : Quoted) → 
 front_more c s None long q more e = absurd (cc)
 front_more c s (Some r) long q more e = ap (in_front c) (more r refl) ∙ ap (option_map (longer_text s)) e
 
--- a reading, and one that gives the same where s stands behind
+-- a reading, and one that gives the same where s stands after
 abbrev GivesMore : List ℕ → (List ℕ → Option Quoted) → (List ℕ → Option Quoted) → Type 0
 GivesMore s read more = (cs : List ℕ) (q : Quoted) → read cs ≡ Some q → more (cs ++ s) ≡ Some (longer_text s q)
 

@@ -12,7 +12,7 @@ use Rattle.yaml_lines.proofs.Left.{left_of-nothing}
 
 -- ---- what a line leaves that begins no block text
 
--- a place or none, and the flow that is open behind it
+-- a place or none, and the flow that is open after it
 record Calm : Type 0 where
   content_line : Option ContentLine
   flow : FlowState

@@ -1,4 +1,4 @@
--- What the scans of a content find where blanks and a comment stand behind it.
+-- What the scans of a content find where blanks and a comment stand after it.
 use Rattle.std.proofs.Common.{◌≡◌, ℕ, ◌+◌, Bool, true, false, cond, not, ◌&&◌, eqb, List, [], ◌∷◌, ◌++◌, drop, Option, Some, None, option_map, is_none, refl, sym, ap, ap₂, ◌∙◌}
 use Rattle.std.proofs.Math.Numerals.{one-add}
 use Rattle.std.proofs.lemmas.Bool.{eqb-true}

@@ -1,4 +1,4 @@
--- The content lines of a text in one walk over its lines, beside the definition, which first takes all content lines and then looks
+-- The content lines of a text in one walk over its lines, next to the definition, which first takes all content lines and then looks
 -- for marks.
 use Rattle.std.proofs.Common.{◌≡◌, ℕ, ◌+◌, ◌<◌, ◌≤◌, Bool, true, false, cond, ◌&&◌, ◌||◌, ◌==◌, List, [], ◌∷◌, ◌++◌, length, drop, get_or, Option, Some, None, option_map, option_and_then, refl, sym, ap, ◌∙◌, append_assoc}
 use Rattle.std.specs.List.{list_any}

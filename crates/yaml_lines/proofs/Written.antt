@@ -16,7 +16,7 @@ both : (a b : Bool) → (a && b) ≡ true → (a ≡ true) × (b ≡ true)
 both true b e = (refl, e)
 both false b e = absurd (cc)
 
--- the step that reads this character, with these characters behind it
+-- the step that reads this character, with these characters after it
 abbrev pub reads : ℕ → List ℕ → Option QuotedStep
 reads c rest = Some (record { character = Some c; rest = rest })
 

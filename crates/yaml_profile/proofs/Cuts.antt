@@ -1,4 +1,4 @@
--- A cut's first lines, and the parts behind them, by how many lines pass the test.
+-- A cut's first lines, and the parts after them, by how many lines pass the test.
 use Rattle.std.proofs.Common.{◌≡◌, ℕ, suc, ◌+◌, Bool, true, false, cond, List, [], ◌∷◌, take, drop, refl, ap, ◌∙◌, arith}
 use Rattle.std.specs.List.{prefix_len}
 use Rattle.yaml_lines.specs.Entries.{ContentLine}

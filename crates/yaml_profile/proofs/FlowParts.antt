@@ -1,5 +1,5 @@
 -- What the parts between a flow's brackets are, where each begins with an ordinary character and is read as far as the
--- comma or the bracket behind it.
+-- comma or the bracket after it.
 use Rattle.std.proofs.Common.{◌≡◌, ℕ, zero, suc, ◌+◌, ◌≤◌, Bool, true, false, cond, not, ◌&&◌, ◌||◌, eqb, List, [], ◌∷◌, ◌++◌, length, map, drop, Option, Some, option_map, option_and_then, refl, sym, ap, ◌∙◌, arith}
 use Rattle.std.proofs.lemmas.Bool.{eq-eqb}
 use Rattle.std.proofs.lemmas.List.{length-append}
@@ -43,7 +43,7 @@ comma_behind : (close : ℕ) (cs : List ℕ) → next_part close (after_gap (44 
 unfolding behind_gap
 comma_behind close cs = refl
 
--- ---- what stands behind the first part
+-- ---- what stands after the first part
 
 module _ {X : Type 0} (close : ℕ) (text : X → List ℕ) where
   unfoldable pub behind : List X → List ℕ

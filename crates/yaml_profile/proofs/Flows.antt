@@ -33,7 +33,7 @@ further-cons : (line : ContentLine) (lines : List ContentLine) → further (line
 unfolding further
 further-cons line lines = refl
 
--- one line more behind the text
+-- one line more after the text
 pub further-more : (text : List ℕ) (lines : List ContentLine) (i : ℕ) (line : ContentLine) → i < length lines → line ≡ get_or lines i line
     → text ++ further (drop i lines) ≡ ((text ++ 10 ∷ []) ++ line.content) ++ further (drop (i + 1) lines)
 further-more text lines i line within is =

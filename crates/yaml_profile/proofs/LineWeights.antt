@@ -100,7 +100,7 @@ last_bytes Strip l ls = omega arith
 last_bytes Clip l ls = clipped (is_nil l.text) (feeds_of (l ∷ ls))
 last_bytes Keep l ls = omega arith
 
--- the feeds of the last text line and of the lines behind it
+-- the feeds of the last text line and of the lines after it
 feeds_left : (l : LineText) (ls : List LineText) → length (feeds_of (l ∷ ls)) ≤ ends l ls + bytes_of ls
 feeds_left l [] = let one : length (feed l.ended ++ []) ≤ 0 + (cond l.ended 1 0 + 0) = feed_of l.ended 0 in omega arith
 feeds_left l (m ∷ ms) =

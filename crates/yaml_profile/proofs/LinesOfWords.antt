@@ -34,7 +34,7 @@ item_parts indent word words =
 abbrev pub line_at : ℕ → List ℕ → ContentLine
 line_at indent content = record { indent = indent; content = content; block = None }
 
--- the word as a line of its own, behind the dash and a space
+-- the word as a line of its own, after the dash and a space
 abbrev own_line : ℕ → List ℕ → ContentLine
 own_line indent word = line_at (indent + 1 + 1) word
 

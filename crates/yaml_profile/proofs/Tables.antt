@@ -53,7 +53,7 @@ and_parts false b e = absurd (cc)
 
 -- ---- one row more
 
--- the keys with one more behind them
+-- the keys with one more after them
 has_key-push : (k : List ℕ) (rs : List Row) (r : Row) → has_key k (rs ++ r ∷ []) ≡ (has_key k rs || bytes_eq r.0 k)
 has_key-push k rs r =
     list_any-append (λ s. bytes_eq k s.0) rs (r ∷ []) ∙ ap (λ b. has_key k rs || b) (or_false (bytes_eq k r.0) ∙ bytes_eq-flip k r.0)

@@ -206,7 +206,7 @@ parts_within_all n belongs first later h =
     let few = h.1 in
     (first_within n (suc n) first (cut belongs later).before later h.0.0 (cut_before n belongs later h.0.1) few, cut_parts n belongs later h.0.1 (omega arith))
 
--- the line that stands behind a dash, with the lines below it
+-- the line that stands after a dash, with the lines below it
 abbrev FrontWithin : ℕ → List ContentLine → List ContentLine → Type 0
 FrontWithin n below front = AreWithin n (front ++ below)
 

@@ -8,7 +8,7 @@ use Rattle.yaml_profile.specs.Blocks.{BlockPart, cut, parts, all_of, is_deeper, 
 use Rattle.yaml_profile.proofs.Lists.{prepend, none_before}
 use Rattle.yaml_profile.proofs.Tables.{rows_with}
 
--- the part that the first of the lines begins, and the parts behind it
+-- the part that the first of the lines begins, and the parts after it
 pub begun : (t : ContentLine → Bool) (lines others below after : List ContentLine) (head : ContentLine) → lines ≡ head ∷ others → below ≡ (cut t others).before
     → parts t after ≡ (cut t others).parts → parts t lines ≡ record { head = head; below = below } ∷ parts t after
 begun t lines others below after head e b p =

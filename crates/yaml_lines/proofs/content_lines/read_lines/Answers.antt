@@ -35,7 +35,7 @@ returns-in-Err-clause-meant c =
           (c.in-Err.ensures.meant w.in_default.not-OutOfMemory)))
     ]
 
--- how many lines are left behind line i
+-- how many lines are left after line i
 left_behind : (ls : List LineText) (i : ℕ) → i < length ls → i + 1 + length (take (length ls - (i + 1)) (drop (i + 1) ls)) ≡ length ls
 left_behind ls i within = let rest = ap length (take_rest ls (i + 1)) in omega (arith, rest, length-drop (i + 1) ls)
 

@@ -2,7 +2,7 @@ use Rattle.std.proofs.Common.{◌≡◌, ◌++◌, drop}
 use Rattle.std.specs.Prelude.{filter}
 use Rattle.hook_run.specs.Asks.{is_in_run}
 use Rattle.hook_run.proofs.HookRefs.{hooks_behind}
-use Rattle.hook_run.proofs.asked.hooks_of_run.Given as goal
+use Rattle.hook_run.proofs.hook_choice.hooks_of_run.Given as goal
 
 abbrev pub invariant-hooks : goal.invariant-hooks
 invariant-hooks l =

@@ -1,5 +1,5 @@
 use Rattle.commit_flow.proofs.ConfigLemmas.{has_bytes}
-use Rattle.commit_flow.proofs.configured.staged_config.Goals as goal
+use Rattle.commit_flow.proofs.staged_configuration.staged_config.Goals as goal
 
 pub returns-clause-config : goal.returns-clause-config
 returns-clause-config g c = record {

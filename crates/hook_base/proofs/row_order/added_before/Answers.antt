@@ -6,7 +6,7 @@ use Rattle.hook_base.specs.Overlays.{UpTo}
 use Rattle.hook_base.specs.Rising.{IsBelow}
 use Rattle.hook_base.proofs.PlaceLemmas.{up_to}
 use Rattle.hook_base.proofs.SplitLemmas.{any_default, behind, compared}
-use Rattle.hook_base.proofs.merged.added_before.Goals as goal
+use Rattle.hook_base.proofs.row_order.added_before.Goals as goal
 
 pub halves-preserved-in-Less : goal.halves-preserved-in-Less
 halves-preserved-in-Less c =

@@ -1,6 +1,6 @@
 use Rattle.std.proofs.Common.{◌∙◌, sym}
 use Rattle.path_select.proofs.IndexLemmas.{at_index}
-use Rattle.path_select.proofs.near.index_near.Goals as goal
+use Rattle.path_select.proofs.path_look_up.index_near.Goals as goal
 
 pub returns-in-Equal : goal.returns-in-Equal
 returns-in-Equal c =

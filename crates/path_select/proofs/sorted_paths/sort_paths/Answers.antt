@@ -6,7 +6,7 @@ use Rattle.std.proofs.lemmas.List.Sorted.{list_any-IsPermutation}
 use Rattle.std.specs.Cmp.Lexicographic.{on_texts, texts_ties, bytes_decides}
 use Rattle.std.specs.Str.{bytes_eq}
 use Rattle.file_tags.specs.PathOrderLemmas.{rising-of_sorted, is_among-texts_of, list_any-dedup}
-use Rattle.path_select.proofs.ordered.sort_paths.Goals as goal
+use Rattle.path_select.proofs.sorted_paths.sort_paths.Goals as goal
 
 pub returns-clause-rising : goal.returns-clause-rising
 returns-clause-rising c =

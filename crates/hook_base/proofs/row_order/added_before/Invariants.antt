@@ -1,7 +1,7 @@
 use Rattle.std.proofs.Common.{◌+◌, ◌-◌, ◌<◌, ◌≤◌, length, get_or}
 use Rattle.hook_base.specs.declared.file.File.{File}
 use Rattle.hook_base.specs.Overlays.{UpTo}
-use Rattle.hook_base.proofs.merged.added_before.Given as goal
+use Rattle.hook_base.proofs.row_order.added_before.Given as goal
 
 -- the added rows before `low` stand before the index, and those from `high` on don't
 abbrev pub invariant-halves : goal.invariant-halves

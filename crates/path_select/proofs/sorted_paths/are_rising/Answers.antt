@@ -1,7 +1,7 @@
 use Rattle.std.proofs.Common.{◌≡◌, ◌<◌, ◌+◌, ◌-◌, ℕ, List, suc, length, get_or, arith, subst, ap₂, ◌∙◌, refl}
 use Rattle.hook_base.specs.Rising.{IsBelow, path_cmp}
 use Rattle.hook_base.specs.RisingLemmas.{rising_pair, rising_from_next}
-use Rattle.path_select.proofs.ordered.are_rising.Goals as goal
+use Rattle.path_select.proofs.sorted_paths.are_rising.Goals as goal
 
 pub returns-in_default : goal.returns-in_default
 returns-in_default c =

@@ -6,7 +6,7 @@ use Rattle.hook_base.specs.Overlays.{From}
 use Rattle.hook_base.specs.Rising.{IsBelow}
 use Rattle.hook_base.proofs.PlaceLemmas.{From-length, from_on}
 use Rattle.hook_base.proofs.SplitLemmas.{behind, compared, read_added_row, read_base_row}
-use Rattle.hook_base.proofs.merged.merged_row.Goals as goal
+use Rattle.hook_base.proofs.row_order.merged_row.Goals as goal
 
 pub returns-then-before-added : goal.returns-then-before-added
 returns-then-before-added c =
