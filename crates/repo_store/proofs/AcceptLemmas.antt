@@ -1,4 +1,4 @@
--- The rows of the staged files when those of the fixed paths alone are written anew.
+-- The rows of the staged files when those of the fixed paths alone are written again.
 use Rattle.std.proofs.Common.{◌≡◌, ℕ, ◌+◌, ◌<◌, true, false, not, List, [], ◌∷◌, ◌++◌, map, filter, length, take, get_or, Option, None, Some, Ok, if◌then◌else◌, IsPermutation, refl, sym, ap, subst, ◌∙◌}
 use Rattle.std.specs.Str.{bytes_eq}
 use Rattle.std.specs.Cmp.Lexicographic.{bytes_decides}

@@ -256,7 +256,7 @@ rows_out front (last ∷ rest) t is own tells =
     ap (without_all (map key_of rest)) gone
     ∙ rows_out front rest (with_answers (map answer_row others) t) refl (own_but_last others last apart) (fewer_tell (others ++ last ∷ []) others (λ P all. all_but_last P others last all) told)
 
--- those of the answers behind a limit
+-- those of the answers after a limit
 pub behind_out : (limit : ℕ) (answers : List KeptAnswer) (t : Tables) → t.answers ≡ map answer_row answers → HaveOwnKeys answers → TellKeys answers
     → without_all (map key_of (reverse (drop limit answers))) t ≡ with_answers (map answer_row (take limit answers)) t
 behind_out limit answers t is own tells =
@@ -282,7 +282,7 @@ limiting_same limit kept it =
 
 -- ---- what the tables of the uses ask of the keys
 
--- of all answers, those behind the limit
+-- of all answers, those after the limit
 pub told_behind : (limit : ℕ) (answers : List KeptAnswer) → TellKeys answers → TellTheirKeys (take limit answers ++ drop limit answers) (drop limit answers)
 told_behind limit answers tells =
     let whole = take-append-drop limit answers in

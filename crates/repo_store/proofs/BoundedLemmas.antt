@@ -16,7 +16,7 @@ use Rattle.repo_store.specs.Kept.{nothing_kept}
 use Rattle.repo_store.specs.Rows.{tables_of}
 
 module _ {S A : Type 0} (g : Ghosts S) (old new : Held S) (r : Result A Error) where
-  -- the table of uses, made behind those of an empty store
+  -- the table of uses, made after those of an empty store
   pub bare_as_made : IsChange g old new r MakesBareUses → IsChange g old new r AddsUses → IsMade g old new r IsEmptyStore (λ db. HoldsRows db no_rows [])
   bare_as_made change added =
       let made = grown_as_made g old new r no_rows change added in

@@ -1,4 +1,4 @@
--- Folders of paths, and searches by halves for the files that can't stand beside a path.
+-- Folders of paths, and searches by halves for the files that can't stand next to a path.
 use Rattle.std.proofs.Common.{◌≡◌, ℕ, suc, ◌+◌, ◌<◌, ◌≤◌, List, [], ◌∷◌, ◌++◌, map, length, take, drop, get_or, true, false, IsTrue, Result, Ok, Err, MatchResult, is_ok, refl, sym, ap, subst, ◌∙◌, inl, inr, append_assoc, arith}
 use Rattle.std.specs.List.{Any}
 use Rattle.std.specs.List.Sorted.{IsNonDecreasingBy, IsBinarySearchResult}
@@ -51,7 +51,7 @@ then_assoc Less s t = refl
 then_assoc Equal s t = refl
 then_assoc Greater s t = refl
 
--- a path that is as long as the folder at least is compared by its front and the byte behind it
+-- a path that is as long as the folder at least is compared by its front and the byte after it
 pub long_side : (folder path : List ℕ) → length folder ≤ length path
     → ordering_then (path_cmp (take (length folder) path) folder) (path_cmp (take 1 (drop (length folder) path)) (slash ∷ [])) ≡ path_cmp (cut_to (below_folder folder) path) (below_folder folder)
 long_side [] path long = refl
@@ -146,7 +146,7 @@ below_searched folder files r rising within it =
 
 -- ---- the texts before a path's slashes
 
--- none of the first bytes is a slash behind a file's path
+-- none of the first bytes is a slash after a file's path
 abbrev pub NoneBefore : List ℕ → List File → ℕ → Type 0
 NoneBefore path files n = (k : ℕ) → k < n → get_or path k 0 ≡ slash → Any (λ (file : File). file.path ≡ take k path) files → ⊥
 

@@ -52,7 +52,7 @@ put_moves new (row ∷ rows) rising =
           (IsPermutation-trans _ _ _ (IsPermutation-sym _ _ (IsPermutation-middle (row ∷ []) new (remove_file new.path rows))) (IsPermutation-cons row _ _ (put_moves new rows rising.1)))
     ]
 
--- the contents that a call keeps anew
+-- the contents that a call newly keeps
 abbrev pub news_of : List ℕ → Kept → List (List ℕ)
 news_of bytes kept = drop (length kept.contents) (with_content bytes kept.contents)
 

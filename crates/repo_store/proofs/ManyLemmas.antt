@@ -102,7 +102,7 @@ module _ (xs ys old mid : List (List ℕ)) (first : AreAllKept xs old mid) where
     why = refusal_weaker (λ large small. large (small_back xs ys small)) (λ h. h) (λ some. collides_back xs ys old (subst (SomeCollides ys) first.kept some)) fault next.why;
   }
 
--- want of memory behind what was kept
+-- want of memory after what was kept
 pub stopped_behind : (xs all old new : List (List ℕ)) → AreAllKept xs old new → IsStopped all old new OutOfMemory
 stopped_behind xs all old new kept = record { front = contents_front xs old new kept.kept; why = tt }
 

@@ -106,7 +106,7 @@ module _ {S A : Type 0} (g : Ghosts S) (old new : Held S) (r : Result A Error) (
   abbrev Puts : ℕ → Type 0
   Puts limit = IsCall g old new r (λ db. HoldsListed tick others db t) (λ db. HoldsListed (tick + 1) (take limit (answer ∷ others)) db (without_key_row (surplus_of limit (answer ∷ others)) put))
 
-  -- the answer is put beside the others
+  -- the answer is put next to the others
   pub put_beside : (limit : ℕ) → length (answer ∷ others) ≤ limit → IsCall g old new r (λ db. HoldsListed tick others db t) (λ db. HoldsListed (tick + 1) (in_front answer others) db put) → Puts limit
   put_beside limit fits call =
       subst₂ (λ (l : List KeptAnswer) (key : Option Key). IsCall g old new r (λ db. HoldsListed tick others db t) (λ db. HoldsListed (tick + 1) l db (without_key_row key put)))

@@ -106,7 +106,7 @@ module _ (contents : List (List ℕ)) where
   abbrev Placed : List ℕ → Type 0
   Placed bytes = has_digest (sha256 bytes) contents ≡ true
 
-  -- the digests of files, and of two records behind them
+  -- the digests of files, and of two records after them
   split_places : (files : List File) (a b : List ℕ) → AllByRecursion Placed (contents_in_files files ++ (a ∷ b ∷ [])) → HavePlaces contents files × Placed a × Placed b
   split_places [] a b all = (tt, all.0, all.1.0)
   split_places (file ∷ files) a b all = let rest = split_places files a b all.1 in ((all.0, rest.0), rest.1, rest.2)

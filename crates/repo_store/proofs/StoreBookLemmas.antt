@@ -184,7 +184,7 @@ module _ {S A : Type 0} (g : Ghosts S) (old new : Shown S) (result : Result A St
       contents_after (Ok x) done bytes among = subst (λ (kept : Kept). IsAmong kept.contents bytes) (sym done.done) (grows bytes among)
       contents_after (Err fault) done bytes among = subst (λ (kept : Kept). IsAmong kept.contents bytes) (sym done.same) among
 
--- ---- the uses are numbered anew, or not
+-- ---- the uses are numbered again, or not
 
 module _ {S : Type 0} (g : Ghosts S) (stays : (shown : Shown S) → Stays g shown) (old between : Shown S) (numbered : (between ≡ old) ⊎ IsNumberedAnew g old between) where
   numbered_kept : between.kept ≡ old.kept

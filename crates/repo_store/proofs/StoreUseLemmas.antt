@@ -57,7 +57,7 @@ use_goes g old new r kept key next complete there first uses t =
 pub key_count : (keys : List Key) (answers : List KeptAnswer) → keys ≡ map key_of (reverse answers) → length keys ≡ length answers
 key_count keys answers is = ap length is ∙ length-map (reverse answers) key_of ∙ length-reverse answers
 
--- ---- numbered anew
+-- ---- numbered again
 
 pub numbered_anew : {S : Type 0} (g : Ghosts S) (shown : Shown S) (old new : Held S) (kept : Kept) (next tick : ℕ) (r : Result (Unit {0}) StoreFault)
     → record { conn = old; kept = kept; next = next } ≡ shown
@@ -72,7 +72,7 @@ abbrev pub Limits : {S A F : Type 0} → Ghosts S → Held S → Held S → Resu
 Limits g old new r keys limit = (t : Tables) (next : ℕ) (front back : List KeptAnswer) → keys ≡ map key_of (reverse back) → HaveOwnKeys (front ++ back) → TellTheirKeys (front ++ back) back
     → IsCall g old new r (λ db. HoldsListed next (front ++ back) db t) (λ db. HoldsListed next front db (with_new_meta (limit_row (pos limit)) (without_all keys t)))
 
--- the keys of those behind the limit, of all keys
+-- the keys of those after the limit, of all keys
 pub keys_behind : (limit surplus : ℕ) (keys : List Key) (answers : List KeptAnswer) → keys ≡ map key_of (reverse answers) → surplus ≡ length answers - limit
     → take surplus keys ≡ map key_of (reverse (drop limit answers))
 keys_behind limit surplus keys answers is surplus_is =

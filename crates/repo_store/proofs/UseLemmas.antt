@@ -116,7 +116,7 @@ without_last (answer ∷ answers) last own =
     ap (λ (b : Bool). if not b then answer ∷ without_key last.words last.seen (answers ++ last ∷ []) else without_key last.words last.seen (answers ++ last ∷ []))
     (last_of (λ (other : KeptAnswer). have_one_key answer other ≡ false) answers last own.0) ∙ ap (λ (l : List KeptAnswer). answer ∷ l) (without_last answers last own.1)
 
--- ---- numbered anew
+-- ---- numbered again
 
 ticks_fall : (count : ℕ) → FallBelow (suc count) (ticks_from count)
 ticks_fall zero = tt

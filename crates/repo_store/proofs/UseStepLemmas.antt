@@ -15,7 +15,7 @@ use Rattle.repo_store.specs.UsesOf.{key_rows, without_all, without_uses_of}
 one_more : (keys : List Key) (i : ℕ) (key : Key) → i < length keys → key ≡ get_or keys i key → take (i + 1) keys ≡ take i keys ++ key ∷ []
 one_more keys i key within is = take_more keys i key within ∙ ap (λ (k : Key). take i keys ++ k ∷ []) (sym is)
 
--- an item, whatever stands in for one behind the last
+-- an item, whatever stands in for one after the last
 pub in_place : (keys : List Key) (i : ℕ) (blank : Key) → i < length keys → get_or keys i blank ≡ get_or keys i (get_or keys i blank)
 in_place [] i blank within = absurd (omega (arith, within))
 in_place (key ∷ keys) zero blank within = refl
