@@ -22,7 +22,7 @@ def add(path, contents="", mode="none", out="all", err="all"):
 
 def several(*edits, err="all"):
     """Changes of the staged files at once, each `("add", mode, path, contents)` or `("rm", path)`."""
-    return ("several", err, str(len(edits)), *(word for edit in edits for word in edit))
+    return line("stage", str(len(edits)), *(word for edit in edits for word in edit), err=err)
 
 
 def ended(status, out="", err="", flushes=("", "")):

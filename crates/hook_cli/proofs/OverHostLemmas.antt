@@ -10,7 +10,7 @@ use Rattle.repo_store.specs.StoreBooks.{remembered_by}
 use Rattle.commit_flow.specs.AnswerLimits.{IsLimitRefusal}
 use Rattle.commit_flow.specs.declared.command.Command.TheVariants as command
 use Rattle.commit_flow.specs.declared.host_refusal.HostRefusal.{HostRefusal}
-use Rattle.commit_flow.specs.declared.reply.Reply.TheVariants.{Accepted, Refused}
+use Rattle.commit_flow.specs.declared.reply.Reply.TheVariants.{Accepted, Limited, Refused}
 use Rattle.commit_flow.specs.Stops.{IsOneCommand}
 use Rattle.commit_flow.specs.declared.host.Host.{Host}
 use Rattle.commit_flow.specs.Steps.{IsAcceptRefusal, Step}
@@ -81,17 +81,39 @@ pub limit-fits : (limit number : ℕ) → number ≡ limit → IsLimit limit →
 limit-fits limit number is within = subst IsLimit (sym is) within
 
 module _ {S : Type 0} (g : Ghosts S) (old new : Host S) (out err : Output) (ending : CommandEnding) (limit taken : ℕ) (is : taken ≡ limit) where
-  pub limit-said : (number : ℕ) → IsAllOrNothing {E = HostRefusal} old.store.kept new.store.kept (Ok number) (limiting taken old.store.kept)
+  pub limit-said : (number : ℕ) → Step old.store.kept.repo (command.Limit taken) (Limited number) [] new.store.kept.repo
+      → IsOneCommand g old.store new.store (command.Limit taken) (Limited number)
+      → IsAllOrNothing {E = HostRefusal} old.store.kept new.store.kept (Ok number) (limiting taken old.store.kept)
       → IsOneTransaction {E = HostRefusal} g old.store new.store (Ok number) (limiting taken old.store.kept)
       → number ≡ count_of (remembered_by new.store.kept) → IsSaid ends.Done out (remembered_text number) err untaken_line ending
       → IsLimitOver g old new limit out err ending
-  limit-said number change one left said =
+  limit-said number step one change transaction left said =
       subst (λ (n : ℕ). IsLimitOver g old new n out err ending) is
-      (record { answer = Ok number; change = change; transaction = one; left = left; refused = tt; said = said })
+      (record {
+        answer = Ok number;
+        step = step;
+        change = change;
+        one = one;
+        transaction = transaction;
+        left = left;
+        refused = tt;
+        said = said;
+      })
 
-  pub limit-refused : (refusal : HostRefusal) → IsAllOrNothing {A = ℕ} old.store.kept new.store.kept (Err refusal) (limiting taken old.store.kept)
+  pub limit-refused : (refusal : HostRefusal) → Step old.store.kept.repo (command.Limit taken) (Refused refusal) [] new.store.kept.repo
+      → IsOneCommand g old.store new.store (command.Limit taken) (Refused refusal)
+      → IsAllOrNothing {A = ℕ} old.store.kept new.store.kept (Err refusal) (limiting taken old.store.kept)
       → IsOneTransaction {A = ℕ} g old.store new.store (Err refusal) (limiting taken old.store.kept)
       → IsLimitRefusal refusal → IsPrintedOnStandardError ends.Refused err (refusal_text refusal) ending → IsSilent out → IsLimitOver g old new limit out err ending
-  limit-refused refusal change one why told silent =
+  limit-refused refusal step one change transaction why told silent =
       subst (λ (n : ℕ). IsLimitOver g old new n out err ending) is
-      (record { answer = Err refusal; change = change; transaction = one; left = tt; refused = why; said = (silent, told) })
+      (record {
+        answer = Err refusal;
+        step = step;
+        change = change;
+        one = one;
+        transaction = transaction;
+        left = tt;
+        refused = why;
+        said = (silent, told);
+      })

@@ -1,29 +1,19 @@
 -- How a run of hooks over a repository ends.
-use Rattle.std.proofs.Common.{◌≡◌, ℕ, Bool, Result, List, [], Ok, Err, inl, refl, subst}
+use Rattle.std.proofs.Common.{ℕ, Bool, Result, List, Ok, Err}
 use Rattle.sqlite_trees.specs.declared.store.Store.{Ghosts}
 use Rattle.hook_base.specs.declared.file.File.{File}
 use Rattle.child_port.specs.declared.answer.Outcome.{Outcome}
-use Rattle.child_port.specs.Telling.{SameTells}
-use Rattle.result_book.specs.ToldLemmas.{adds-none}
-use Rattle.hook_run.specs.AnswerLemmas.{answered-none, so-far}
-use Rattle.hook_run.specs.Moments.{moment}
 use Rattle.commit_flow.specs.declared.command.Command.TheVariants as command
 use Rattle.commit_flow.specs.declared.commit_ending.CommitEnding.{CommitEnding}
 use Rattle.commit_flow.specs.declared.staged_run.StagedRun.{StagedRun}
 use Rattle.commit_flow.specs.declared.host_ask.HostAsk.{HostAsk}
 use Rattle.commit_flow.specs.declared.host_refusal.HostRefusal.{HostRefusal}
-use Rattle.commit_flow.specs.declared.host_refusal.HostRefusal.TheVariants.{OutOfMemory}
 use Rattle.commit_flow.specs.Commands.{reply_of, reply_of_ending}
 use Rattle.commit_flow.specs.Stops.{IsPlayedSafely}
 use Rattle.commit_flow.specs.KeptByHooks.{KeepsForCommit, KeepsForRun}
-use Rattle.repo_store.specs.StoreBooks.{MayRemember, remembered_by}
-use Rattle.repo_store.specs.RestLemmas.{rests_itself}
 use Rattle.commit_flow.specs.declared.host.Host.{Host}
 use Rattle.commit_flow.specs.declared.reply.Reply.TheVariants.{Refused}
-use Rattle.commit_flow.specs.Runs.{reuse_of}
 use Rattle.commit_flow.specs.RunSteps.{IsRunStep, IsStoppedStep, reply_of_run}
-use Rattle.commit_flow.proofs.LeftLemmas.{left_same}
-use Rattle.commit_flow.proofs.SafeLemmas.{halted_safely}
 use Rattle.commit_flow.specs.CommitSteps.{IsCommitStep}
 use Rattle.hook_cli.specs.declared.command_ending.CommandEnding.{CommandEnding}
 use Rattle.hook_cli.specs.declared.command_ending.CommandEnding.TheVariants as ends
@@ -32,9 +22,6 @@ use Rattle.text_output.specs.Outputs.{IsSilent, Output}
 use Rattle.hook_cli.specs.Printing.{IsSaid, IsPrintedOnStandardError, ending_of, untaken_line}
 use Rattle.hook_cli.specs.RefusalText.{refusal_text}
 use Rattle.hook_cli.specs.RunText.{run_text}
-
-pub same-tells-itself : (tells : List (List ℕ) → List File → Outcome → Type 0) → SameTells tells tells
-same-tells-itself tells = record { kept = λ words seen outcome told. told; added = λ words seen outcome told. told }
 
 module _ {S : Type 0} (g : Ghosts S) (tells : List (List ℕ) → List File → Outcome → Type 0) (counts : Counts) (old new : Host S) (ask : HostAsk) (out err : Output) (ending : CommandEnding) where
   pub run-said : (ran : StagedRun)
@@ -67,40 +54,14 @@ module _ {S : Type 0} (g : Ghosts S) (tells : List (List ℕ) → List File → 
     said = (silent, told);
   }
 
--- memory is refused before the host is asked
-pub run-unasked : {S : Type 0} (g : Ghosts S) (tells : List (List ℕ) → List File → Outcome → Type 0) (calls faults : ℕ) (host : Host S) (ask : HostAsk) (out err : Output) (ending : CommandEnding)
-    → IsPrintedOnStandardError ends.Refused err (refusal_text OutOfMemory) ending → IsSilent out
-    → IsRunOverHost g tells (record { calls = calls; calls_after = calls; faults = faults; faults_after = faults }) host host ask out err ending
-run-unasked g tells calls faults host ask out err ending told silent =
-    let at = moment calls faults (remembered_by host.store.kept) in
-    let stopped : IsStoppedStep tells at at host.store.kept.repo ask host.store.kept OutOfMemory = record {
-      parts = [];
-      step = ((tt, refl), refl);
-      answered = so-far tells (reuse_of ask) at at [] (answered-none tells (reuse_of ask) at);
-      told = λ _. tt;
-      adds = adds-none tells (remembered_by host.store.kept);
-      stopped = inl (refl, refl);
-      put = λ is. absurd (cc);
-    } in
-    record {
-      answer = Err OutOfMemory;
-      step = tt;
-      stopped = stopped;
-      change = refl;
-      safe =
-          halted_safely g tells at at host.store host.store refl refl ask OutOfMemory stopped (rests_itself g host.store) (left_same tells (remembered_by host.store.kept) (MayRemember g host.store));
-      said = (silent, told);
-    }
-
--- a commit whose answer is printed: the bytes that the host got are the message
-pub commit-answered : {S : Type 0} (g : Ghosts S) (tells : List (List ℕ) → List File → Outcome → Type 0) (counts : Counts) (old new : Host S) (bytes message : List ℕ) (no_verify : Bool)
+-- a commit whose answer is printed
+pub commit-answered : {S : Type 0} (g : Ghosts S) (tells : List (List ℕ) → List File → Outcome → Type 0) (counts : Counts) (old new : Host S) (message : List ℕ) (no_verify : Bool)
     (skip : List (List ℕ)) (out err : Output) (ending : CommandEnding)
-    (answer : Result CommitEnding HostRefusal) → bytes ≡ message
-    → IsCommitStep tells (moment_before counts old) (moment_after counts new) old.store.kept.repo bytes no_verify skip (reply_of reply_of_ending answer) new.store.kept
+    (answer : Result CommitEnding HostRefusal)
+    → IsCommitStep tells (moment_before counts old) (moment_after counts new) old.store.kept.repo message no_verify skip (reply_of reply_of_ending answer) new.store.kept
     → KeepsForCommit old.store.kept new.store.kept answer
-    → IsPlayedSafely g tells (moment_before counts old) (moment_after counts new) old.store new.store (command.Commit bytes no_verify skip) (reply_of reply_of_ending answer)
+    → IsPlayedSafely g tells (moment_before counts old) (moment_after counts new) old.store new.store (command.Commit message no_verify skip) (reply_of reply_of_ending answer)
     → IsReplied out err (reply_of reply_of_ending answer) ending
     → IsCommitOverHost g tells counts old new message no_verify skip out err ending
-commit-answered g tells counts old new bytes message no_verify skip out err ending answer is step change safe replied =
-    subst (λ (message : List ℕ). IsCommitOverHost g tells counts old new message no_verify skip out err ending) is
-    (record { answer = answer; step = step; change = change; safe = safe; replied = replied })
+commit-answered g tells counts old new message no_verify skip out err ending answer step change safe replied =
+    record { answer = answer; step = step; change = change; safe = safe; replied = replied }

@@ -1,4 +1,4 @@
--- Why the hooks behind a commit were stopped, and what a run says.
+-- Why the hooks after a commit were stopped, and what a run says.
 use Rattle.std.proofs.Common.{◌≡◌, ◌∙◌, ap, subst, append_assoc, ℕ, List, [], ◌∷◌, ◌++◌}
 use Rattle.std.specs.Prelude.{codes}
 use Rattle.std.specs.Fmt.{decimal}

@@ -9,7 +9,7 @@ use Rattle.hook_cli.specs.Printing.{IsPrintedOnStandardError}
 abbrev at : Option (List ℕ) → Option (List ℕ) → Output
 at held holds = record { held = held; holds = holds }
 
--- the first text stands, and the second is told behind it
+-- the first text stands, and the second is told after it
 pub told-both : (held mid holds : Option (List ℕ)) (first next : List ℕ) (one two : CommandEnding) → IsPrintedOnStandardError Refused (at held mid) first one → one ≡ Refused
     → IsPrintedOnStandardError Refused (at mid holds) next two → IsPrintedOnStandardError Refused (at held holds) (first ++ next) two
 told-both held mid holds first next one two (inl whole) is (inl more) = inl (appends-more held mid holds first next whole.0 more.0, more.1)

@@ -1,6 +1,6 @@
--- The commands over a repository: what each changes, which children it starts, what it prints, and the exit
--- status.
-use Rattle.std.specs.Prelude.{◌≡◌, ◌⊎◌, ℕ, Bool, List, [], ◌∷◌, length, Option, None, Some, IsSome, option_map, Result, Ok, Err, IfErr, IfOk, OnOk}
+-- The commands and look-ups over a repository: what each changes, which children it starts, what it prints,
+-- and the exit status.
+use Rattle.std.specs.Prelude.{◌≡◌, ◌⊎◌, ℕ, Bool, List, [], length, Option, None, Some, IsSome, option_map, Result, Ok, Err, IfErr, IfOk, OnOk}
 use Rattle.sqlite_trees.specs.declared.store.Store.{Ghosts}
 use Rattle.hook_base.specs.declared.file.File.{File}
 use Rattle.hook_base.specs.declared.file.FileEntry.{FileEntry}
@@ -16,14 +16,11 @@ use Rattle.repo_store.specs.Repository.{Repository, commit_at, fixed_bytes, last
 use Rattle.repo_store.specs.Shown.{IsOneTransaction}
 use Rattle.result_book.specs.Contents.{count_of}
 use Rattle.repo_store.specs.StoreBooks.{remembered_by}
+use Rattle.repo_store.specs.declared.staging_edit.StagingEdit.{StagingEdit}
 use Rattle.commit_flow.specs.declared.command.Command.{Command}
 use Rattle.commit_flow.specs.declared.command.Command.TheVariants as command
 use Rattle.commit_flow.specs.declared.commit_ending.CommitEnding.{CommitEnding}
-use Rattle.commit_flow.specs.declared.host_ask.AskStage.{AskStage}
 use Rattle.commit_flow.specs.declared.host_ask.HostAsk.{HostAsk}
-use Rattle.commit_flow.specs.declared.host_ask.AskStage.TheVariants as ask_stage
-use Rattle.commit_flow.specs.declared.host_ask.Which.{Which}
-use Rattle.commit_flow.specs.declared.host_ask.Which.TheVariants as which
 use Rattle.commit_flow.specs.declared.host_refusal.HostRefusal.{HostRefusal}
 use Rattle.commit_flow.specs.declared.host_refusal.HostRefusal.TheVariants.{OutOfMemory, BadPath, NotStaged, Collision}
 use Rattle.commit_flow.specs.declared.reply.Reply.{Reply}
@@ -39,22 +36,11 @@ use Rattle.commit_flow.specs.RunSteps.{IsRunStep, IsStoppedStep, reply_of_run}
 use Rattle.commit_flow.specs.StagedPaths.{IsLegal}
 use Rattle.commit_flow.specs.Steps.{Step, entry_to_add}
 use Rattle.commit_flow.specs.CommitSteps.{IsCommitStep}
-use Rattle.command_line.specs.declared.line.FileChoice.{FileChoice}
-use Rattle.command_line.specs.declared.line.FileChoice.TheVariants.{Changed, All, Named, Listed}
 use Rattle.command_line.specs.declared.line.FileVersion.{FileVersion}
 use Rattle.command_line.specs.declared.line.FileVersion.TheVariants.{Staged, Fixed}
 use Rattle.command_line.specs.declared.line.FileVersion.TheVariants as versions
-use Rattle.command_line.specs.declared.line.CommandLine.{CommandLine}
-use Rattle.command_line.specs.declared.line.CommandLine.TheVariants as line
 use Rattle.command_line.specs.declared.line.LookUp.{LookUp}
 use Rattle.command_line.specs.declared.line.LookUp.TheVariants.{Status, Fixes, Cat, Log, Show, Memory}
-use Rattle.command_line.specs.declared.line.PathSource.{PathSource}
-use Rattle.command_line.specs.declared.line.PathSource.TheVariants.{Words}
-use Rattle.command_line.specs.declared.line.RunChoice.{RunChoice}
-use Rattle.command_line.specs.declared.line.StageChoice.{StageChoice}
-use Rattle.command_line.specs.declared.line.StageChoice.TheVariants.{PreCommit, Manual}
-use Rattle.command_line.specs.declared.line.Update.{Update}
-use Rattle.command_line.specs.declared.line.Update.TheVariants.{Add, Remove, Run, Accept, Commit, Forget, Limit}
 use Rattle.hook_cli.specs.declared.command_ending.CommandEnding.{CommandEnding}
 use Rattle.hook_cli.specs.declared.command_ending.CommandEnding.TheVariants as ends
 use Rattle.text_output.specs.Outputs.{IsSilent, Output}
@@ -64,36 +50,10 @@ use Rattle.repository_text.specs.FixesText.{accepted_text, fixes_text}
 use Rattle.repository_text.specs.LogText.{log_text}
 use Rattle.hook_cli.specs.RefusalText.{no_commit_text, no_file_text, no_fixed_text, refusal_text}
 use Rattle.hook_cli.specs.RunText.{IsCommitSaid, failure_text, run_text}
+use Rattle.hook_cli.specs.StagingOver.{AreStaged}
 use Rattle.repository_text.specs.ShowText.{show_text}
 use Rattle.repository_text.specs.StatusText.{status_text}
 use Rattle.configuration_run.specs.TryOver.{NoneCalled}
-use Rattle.run_options.specs.declared.options.RunOptions.{RunOptions}
-
--- the path is given by one word
-abbrev pub IsOneWord : PathSource → Type 0
-IsOneWord (Words (path ∷ [])) = Unit {0}
-IsOneWord paths = ⊥
-
--- if files are named, the line itself names them
-abbrev pub IsNamed : FileChoice → Type 0
-IsNamed (Listed from) = ⊥
-IsNamed files = Unit {0}
-
--- one call of the host makes the update
-abbrev pub IsOneCall : Update → Type 0
-IsOneCall (Add paths mode) = IsOneWord paths
-IsOneCall (Remove paths) = IsOneWord paths
-IsOneCall (Run files only stage fresh choice) = IsNamed files
-IsOneCall Accept = Unit {0}
-IsOneCall (Commit message no_verify color) = Unit {0}
-IsOneCall Forget = Unit {0}
-IsOneCall (Limit limit) = Unit {0}
-
--- the line is a command over a repository that needs one call of the host
-abbrev pub IsOverHost : CommandLine → Type 0
-IsOverHost (line.Standalone asked) = ⊥
-IsOverHost (line.LookUp asked) = Unit {0}
-IsOverHost (line.Update update) = IsOneCall update
 
 -- ---- the commands that change the repository
 
@@ -148,6 +108,11 @@ IsAcceptOver g old new out err ending =
     IsChanged g old new command.Accept (Accepted (length old.store.kept.repo.fixes)) (accepting old.store.kept) ⊥ out
     err ending
 
+-- The changes of the staged files are made together, all or none. Nothing is printed on standard output.
+abbrev pub AreStagedOver : {S : Type 0} → Ghosts S → Host S → Host S → List StagingEdit → Output → Output
+    → CommandEnding → Type 0
+AreStagedOver g old new edits out err ending = IsSilent out × AreStaged g old new edits err ending
+
 -- ---- the cached results
 
 -- One call of the host removes all cached results, and prints how many there were. If it is refused, all of
@@ -170,11 +135,14 @@ IsLeftSaid out err (Err refusal) ending =
 
 -- One call of the host sets how many results are cached at most, in one transaction, and prints how many are
 -- left: those that were used last. If it is refused, all results stay, and so does the limit. The repository
--- and the contents that the host keeps don't change in either case. A writer's error undoes none of it.
+-- and the contents that the host keeps don't change in either case: this too is a step of the host's machine.
+-- A writer's error undoes none of it.
 pub record IsLimitOver {S : Type 0} (g : Ghosts S) (old new : Host S) (limit : ℕ) (out err : Output)
     (ending : CommandEnding) : Type 0 where
   pub answer : Result ℕ HostRefusal
+  pub step : Step old.store.kept.repo (command.Limit limit) (reply_of Limited answer) [] new.store.kept.repo
   pub change : IsAllOrNothing old.store.kept new.store.kept answer (limiting limit old.store.kept)
+  pub one : IsOneCommand g old.store new.store (command.Limit limit) (reply_of Limited answer)
   pub transaction : IsOneTransaction g old.store new.store answer (limiting limit old.store.kept)
   pub left : IfOk answer (λ number. number ≡ count_of (remembered_by new.store.kept))
   pub refused : IfErr answer IsLimitRefusal
@@ -195,32 +163,6 @@ moment_before counts host = moment counts.calls counts.faults (remembered_by hos
 
 abbrev pub moment_after : {S : Type 0} → Counts → Host S → Moment
 moment_after counts host = moment counts.calls_after counts.faults_after (remembered_by host.store.kept)
-
--- the files and the stage that a line asks for, as the host names them
-abbrev pub which_of : FileChoice → Which
-which_of Changed = which.Changed
-which_of All = which.All
-which_of (Named paths) = which.Named paths
--- the caller reads the names first, so this case is never used
-which_of (Listed from) = which.Named []
-
-abbrev pub ask_stage_of_choice : StageChoice → AskStage
-ask_stage_of_choice PreCommit = ask_stage.PreCommit
-ask_stage_of_choice Manual = ask_stage.Manual
-
-abbrev pub options_of : RunChoice → RunOptions
-options_of choice = record { cautious = choice.cautious; verbose = choice.verbose }
-
--- what a line asks of the host, with the hooks to skip
-abbrev pub ask_of : FileChoice → Option (List ℕ) → StageChoice → Bool → RunChoice → List (List ℕ) → HostAsk
-ask_of files only stage fresh choice skip = record {
-  which = which_of files;
-  only = only;
-  stage = ask_stage_of_choice stage;
-  skip = skip;
-  fresh = fresh;
-  options = options_of choice;
-}
 
 -- What a run prints: what is reported of its hooks, which of them are unsteady, and if it is verbose how many
 -- commands were answered from the cache. A refused run prints why.
@@ -325,59 +267,44 @@ pub record Refuses (kept : Kept) (look_up : LookUp) (out err : Output) (ending :
 abbrev pub IsLookUp : Kept → LookUp → Output → Output → CommandEnding → Type 0
 IsLookUp kept look_up out err ending = Answers kept look_up out err ending ⊎ Refuses kept look_up out err ending
 
--- ---- all of them
-
--- the word that is the path, if there is one
-abbrev pub path_word_of : PathSource → List ℕ
-path_word_of (Words (path ∷ [])) = path
-path_word_of paths = []
-
--- the update is made in this way; `bytes` are those of the file to add, and `skip` has the names of the hooks
--- to skip
-abbrev pub IsUpdated : {S : Type 0} → Ghosts S → (List (List ℕ) → List File → Outcome → Type 0) → Counts → Host S
-    → Host S → Update → List ℕ → List (List ℕ) → Output → Output → CommandEnding → Type 0
-IsUpdated g tells counts old new (Add paths mode) bytes skip out err ending =
-    IsAddOver g old new (path_word_of paths) bytes mode out err ending
-IsUpdated g tells counts old new (Remove paths) bytes skip out err ending =
-    IsRemoveOver g old new (path_word_of paths) out err ending
-IsUpdated g tells counts old new (Run files only stage fresh choice) bytes skip out err ending =
-    IsRunOverHost g tells counts old new (ask_of files only stage fresh choice skip) out err ending
-IsUpdated g tells counts old new Accept bytes skip out err ending = IsAcceptOver g old new out err ending
-IsUpdated g tells counts old new (Commit message no_verify color) bytes skip out err ending =
-    IsCommitOverHost g tells counts old new message no_verify skip out err ending
-IsUpdated g tells counts old new Forget bytes skip out err ending = IsForgetOver g old new out err ending
-IsUpdated g tells counts old new (Limit limit) bytes skip out err ending = IsLimitOver g old new limit out err ending
-
--- the line is done in this way; a look-up leaves the host as it was
-abbrev pub IsEnded : {S : Type 0} → Ghosts S → (List (List ℕ) → List File → Outcome → Type 0) → Counts → Host S → Host S
-    → CommandLine → List ℕ → List (List ℕ) → Output → Output → CommandEnding → Type 0
-IsEnded g tells counts old new (line.Standalone asked) bytes skip out err ending = ⊥
-IsEnded g tells counts old new (line.LookUp asked) bytes skip out err ending =
-    (new ≡ old) × IsLookUp old.store.kept asked out err ending
-IsEnded g tells counts old new (line.Update update) bytes skip out err ending =
-    IsUpdated g tells counts old new update bytes skip out err ending
-
--- the update runs no hooks
-abbrev pub IsHookless : Update → Type 0
-IsHookless (Run files only stage fresh choice) = ⊥
-IsHookless (Commit message no_verify color) = ⊥
-IsHookless update = Unit {0}
-
--- the line runs no hooks
-abbrev pub IsHooklessLine : CommandLine → Type 0
-IsHooklessLine (line.Update update) = IsHookless update
-IsHooklessLine line = Unit {0}
-
--- children are started only by a line that runs hooks
-abbrev pub IsCalledBy : CommandLine → Counts → Type 0
-IsCalledBy line counts =
-    IsHooklessLine line → NoneCalled counts.calls counts.calls_after counts.faults counts.faults_after
-
--- the line ends in one of these ways, and has the exit status of that ending
-pub record IsCommandOver {S : Type 0} (g : Ghosts S) (tells : List (List ℕ) → List File → Outcome → Type 0)
-    (counts : Counts) (old new : Host S) (line : CommandLine) (bytes : List ℕ) (skip : List (List ℕ)) (out err : Output)
-    (status : ℕ) : Type 0 where
+-- the look-up ends in one of these ways, and has the exit status of that ending
+pub record IsLookUpOver (kept : Kept) (look_up : LookUp) (out err : Output) (status : ℕ) : Type 0 where
   pub ending : CommandEnding
-  pub ended : IsEnded g tells counts old new line bytes skip out err ending
-  pub called : IsCalledBy line counts
+  pub looked_up : IsLookUp kept look_up out err ending
+  pub exits : status ≡ status_of ending
+
+-- ---- all commands
+
+-- the command is done in this way
+abbrev pub IsDoneOver : {S : Type 0} → Ghosts S → (List (List ℕ) → List File → Outcome → Type 0) → Counts → Host S
+    → Host S → Command → Output → Output → CommandEnding → Type 0
+IsDoneOver g tells counts old new (command.Add path bytes mode) out err ending =
+    IsAddOver g old new path bytes mode out err ending
+IsDoneOver g tells counts old new (command.Remove path) out err ending = IsRemoveOver g old new path out err ending
+IsDoneOver g tells counts old new (command.Stage edits) out err ending = AreStagedOver g old new edits out err ending
+IsDoneOver g tells counts old new command.Accept out err ending = IsAcceptOver g old new out err ending
+IsDoneOver g tells counts old new (command.Run ask) out err ending =
+    IsRunOverHost g tells counts old new ask out err ending
+IsDoneOver g tells counts old new (command.Commit message no_verify skip) out err ending =
+    IsCommitOverHost g tells counts old new message no_verify skip out err ending
+IsDoneOver g tells counts old new command.Forget out err ending = IsForgetOver g old new out err ending
+IsDoneOver g tells counts old new (command.Limit most) out err ending = IsLimitOver g old new most out err ending
+
+-- the command runs no hooks
+abbrev pub IsHookless : Command → Type 0
+IsHookless (command.Run ask) = ⊥
+IsHookless (command.Commit message no_verify skip) = ⊥
+IsHookless done = Unit {0}
+
+-- children are started only by a command that runs hooks
+abbrev pub IsCalledBy : Command → Counts → Type 0
+IsCalledBy done counts =
+    IsHookless done → NoneCalled counts.calls counts.calls_after counts.faults counts.faults_after
+
+-- the command ends in one of these ways, and has the exit status of that ending
+pub record IsCommandOver {S : Type 0} (g : Ghosts S) (tells : List (List ℕ) → List File → Outcome → Type 0)
+    (counts : Counts) (old new : Host S) (done : Command) (out err : Output) (status : ℕ) : Type 0 where
+  pub ending : CommandEnding
+  pub over : IsDoneOver g tells counts old new done out err ending
+  pub called : IsCalledBy done counts
   pub exits : status ≡ status_of ending

@@ -1,10 +1,10 @@
-//! The commands of `hookhost` over a repository, with what they print and their exit statuses
-//! (`command_over`), and several changes of the staged files, all or none (`stage_over`).
+//! The commands of `hookhost` over a repository (`command_over`) and its look-ups (`look_up_over`), with what
+//! they print and their exit statuses.
 //!
 //! What a program needs besides these is in other crates. `command_line` reads the command line (`line_of`),
 //! and `configuration_run` runs and checks a configuration without a repository (`try_over`, `check_text`).
 //!
-//! The contracts cite `specs/CommandOver.antt` (what each command changes, prints and exits with) and
+//! The contracts cite `specs/CommandOver.antt` (what each command changes, prints and exits with), which uses
 //! `specs/StagingOver.antt` (what several changes do, and what is printed of a refusal). These build on the
 //! definitions of `commit_flow` and the texts of `repository_text`. They also use `specs/RunText.antt` (runs
 //! and commits), `specs/MemoryText.antt` (cached results), `specs/RefusalText.antt` (refusals) and
@@ -28,5 +28,5 @@ pub use command_line::{
 pub use configuration_run::{
     MOST_CONFIGURATION_BYTES, TryFault, check_text, skip_list_of, try_over,
 };
+pub use look_up::look_up_over;
 pub use over_host::command_over;
-pub use over_staging::stage_over;

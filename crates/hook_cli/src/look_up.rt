@@ -2,16 +2,17 @@
 //!
 //! The contracts cite `specs/CommandOver.antt`.
 
-ghost use Rattle.std.specs.Prelude.{◌≡◌, ℕ, List, IfOk, IfErr, OnOk};
+ghost use Rattle.std.specs.Prelude.{◌≡◌, ◌⊎◌, ℕ, List, IfOk, IfErr, OnOk};
 ghost use Rattle.std.specs.Option.{option_copied};
 ghost use Rattle.commit_flow.specs.StagedPaths.{IsLegal};
 ghost use Rattle.command_line.specs.declared.line.LookUp.TheVariants.{Status, Fixes, Cat, Log, Show, Memory};
 ghost use Rattle.hook_cli.specs.declared.command_ending.CommandEnding.TheVariants as ends;
-ghost use Rattle.hook_cli.specs.CommandOver.{IsLookUp, IsMissingText, IsPathRefusal, bytes_in};
+ghost use Rattle.hook_cli.specs.CommandOver.{IsLookUp, IsLookUpOver, IsMissingText, IsPathRefusal, bytes_in};
 ghost use Rattle.hook_cli.specs.Printing.{IsPrintedOnStandardError};
 ghost use Rattle.text_output.specs.Outputs.{output_of};
 
 use crate::CommandEnding;
+use crate::command_ending::status_of;
 use crate::printing::{say, say_remembered, tell, tell_no_commit, tell_no_file, tell_no_fixed};
 use command_line::{FileVersion, LookUp};
 use commit_flow::{Host, HostRefusal};
@@ -22,8 +23,31 @@ use sqlite::Alter;
 use std::alloc::Global;
 use std::io::Write;
 
-/// Prints what is looked up in a repository, or how many results its host has cached.
-pub(crate) fn looked_up<S: Alter, O: Write, E: Write>(
+/// Prints what is looked up in a repository, or how many results its host has cached, and answers the exit
+/// status.
+///
+/// It is 0 if `out` has the text. It is 3 if the look-up is refused. `err` then has
+/// `hookhost: refused: NUMBER NAME`, with the inner number if the refusal has one, and `out` nothing. For a
+/// commit that doesn't exist, `Show` says `hookhost: no commit N` instead, and `Cat` says what has no bytes of
+/// the path. Want of memory is refused as `OutOfMemory`; `Memory` is never refused. It is 3 too if a writer
+/// gives an error: what it took before is out. If it was `out`, `err` has
+/// `hookhost: standard output was not taken`.
+pub fn look_up_over<S: Alter, O: Write, E: Write>(
+    alloc: Global,
+    look_up: &LookUp,
+    host: &Host<S>,
+    out: &mut O,
+    err: &mut E,
+) -> u8
+    ensures looked_up { IsLookUpOver host.now.store.kept look_up.now
+        (output_of (O.contents out.old) (O.contents out.new))
+        (output_of (E.contents err.old) (E.contents err.new)) result }
+    ensures one_of { (result ≡ 0) ⊎ (result ≡ 1) ⊎ (result ≡ 3) }
+{
+    status_of(looked_up(alloc, look_up, host, out, err))
+}
+
+fn looked_up<S: Alter, O: Write, E: Write>(
     alloc: Global,
     look_up: &LookUp,
     host: &Host<S>,

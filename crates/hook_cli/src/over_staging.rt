@@ -8,35 +8,20 @@ ghost use Rattle.text_output.specs.Outputs.{Has, HasBeginning, output_of};
 ghost use Rattle.text_output.specs.QuotedPaths.{told_path};
 ghost use Rattle.hook_cli.specs.declared.command_ending.CommandEnding.TheVariants as ends;
 ghost use Rattle.hook_cli.specs.Printing.{IsPrintedOnStandardError};
-ghost use Rattle.hook_cli.specs.StagingOver.{AreStaged, IsStagingOver, at_path_text, at_text, path_at, path_of_edit, stop_text};
+ghost use Rattle.hook_cli.specs.StagingOver.{AreStaged, at_path_text, at_text, path_at, path_of_edit, stop_text};
 
 use crate::CommandEnding;
-use crate::command_ending::status_of;
 use crate::printing::tell;
 use commit_flow::{Host, StagingEdit, StagingStop};
 use sqlite::Alter;
 use std::io::Write;
 use text_output::{Unwritten, write_path, write_pieces};
 
-/// Makes several changes of the staged files by one call of the host, all or none, and answers the exit
-/// status. There must be at least one change.
-///
-/// It is 0 if they are made, and nothing is printed. It is 3 if they are refused, which leaves the repository
-/// as it was. `err` then has `hookhost: refused: NUMBER NAME`, as for the command that makes the refused
-/// change alone, with the inner number if the refusal has one. The next line is `hookhost: at PATH`, with the
-/// path of that change; a path whose bytes would end the line is in double quotes, as Git writes it. If
-/// memory or the database refuses all of them together, there is no such line. It is 3 too if `err` gives an
-/// error: what it took before is out.
-pub fn stage_over<S: Alter, E: Write>(edits: &[StagingEdit], host: &mut Host<S>, err: &mut E) -> u8
-    requires { edits.now ≢ [] }
-    ensures done { IsStagingOver S.Store host.old host.new edits.now
-        (output_of (E.contents err.old) (E.contents err.new)) result }
-    ensures one_of { (result ≡ 0) ⊎ (result ≡ 3) }
-{
-    status_of(staged(edits, host, err))
-}
-
-fn staged<S: Alter, E: Write>(
+/// Makes several changes of the staged files by one call of the host, all or none. There must be at least one.
+/// If they are made, nothing is printed. If they are refused, `err` has why, as for the command that makes the
+/// refused change alone, and on the next line its path. If memory or the database refuses all of them together,
+/// there is no such line.
+pub(crate) fn staged<S: Alter, E: Write>(
     edits: &[StagingEdit],
     host: &mut Host<S>,
     err: &mut E,

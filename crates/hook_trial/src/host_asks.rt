@@ -6,11 +6,8 @@
 //! - HOW of a run is `remembering`, or one or two of the words `fresh`, `cautious` and `verbose`;
 //! - HOW of a commit is `verified` or `unverified`.
 
-ghost use Rattle.hook_cli.specs.CommandOver.{IsNamed};
-
 use commit_flow::{AskStage, Which};
 use hook_base::{Items, Text};
-use hook_cli::{FileChoice, StageChoice};
 use std::alloc::Global;
 use trial_rows::{Stop, Words};
 
@@ -90,25 +87,6 @@ pub(crate) fn files_of(alloc: Global, words: &mut Words<'_>) -> Result<Which, St
             paths.push(Text::copy_of(alloc, path)?)?;
             Ok(Which::Named(Items::from(paths)))
         }
-    }
-}
-
-/// The files of a command line, from those that the host is asked for.
-pub(crate) fn chosen_files(which: Which) -> FileChoice
-    ensures { IsNamed result }
-{
-    match which {
-        Which::Changed => FileChoice::Changed,
-        Which::All => FileChoice::All,
-        Which::Named(paths) => FileChoice::Named(paths),
-    }
-}
-
-/// The stage of a command line, from the one that the host is asked for.
-pub(crate) fn chosen_stage(stage: AskStage) -> StageChoice {
-    match stage {
-        AskStage::PreCommit => StageChoice::PreCommit,
-        AskStage::Manual => StageChoice::Manual,
     }
 }
 

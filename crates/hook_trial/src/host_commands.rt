@@ -10,10 +10,9 @@
 //!
 //! The other steps answer:
 //!
-//! - `line OUT ERR COMMAND ..` plays a command (`host_lines.rt`) over writers of two habits
+//! - `line OUT ERR COMMAND ..` plays a command or a look-up (`host_lines.rt`) over writers of two habits
 //!   (`host_writers.rt`). It answers the exit status and how many bytes are on each writer, and after a line
 //!   end these bytes;
-//! - `several ERR COUNT EDIT..` (`host_edits.rt`) answers in the same way;
 //! - `store` answers the staged files, those of HEAD, and how many fixes and commits there are;
 //! - `forget` answers how many cached results are removed;
 //! - `counts` answers how many children were started, how many of them failed, and how many results are
@@ -26,7 +25,6 @@ ghost use Rattle.hook_base.specs.Paths.{message_path};
 
 use crate::child_tables::children_of;
 use crate::host_counts::{with_counts, with_forgotten, with_rows};
-use crate::host_edits::several_played;
 use crate::host_files::with_file;
 use crate::host_lines::line_played;
 use crate::turn_children::TurnChildren;
@@ -88,7 +86,6 @@ fn stepped(
     let mut host = host;
     match step {
         "line" => line_played(alloc, words, children, &mut host, told)?,
-        "several" => several_played(alloc, words, &mut host, told)?,
         "store" => tell_store(host.store(), told),
         "counts" => tell_counts(children, &host, told),
         "forget" => tell_forgotten(&mut host, told),

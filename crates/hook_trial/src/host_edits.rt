@@ -1,32 +1,9 @@
-//! Several changes of the staged files at once: `several ERR COUNT EDIT..`. ERR is the habit of the writer,
-//! and an EDIT is `add MODE PATH CONTENTS` or `rm PATH`. They are answered as a line is.
+//! Several changes of the staged files: `COUNT EDIT..`. An EDIT is `add MODE PATH CONTENTS` or `rm PATH`.
 
-use crate::host_commands::Played;
-use crate::host_lines::tell_end;
-use crate::host_writers::HabitWriter;
 use commit_flow::StagingEdit;
 use hook_base::{Bytes, Text};
-use hook_cli::stage_over;
 use std::alloc::Global;
-use trial_rows::{AnswerBytes, Stop, Words, mode_of};
-
-/// Makes the changes. There must be at least one.
-pub(crate) fn several_played(
-    alloc: Global,
-    words: &mut Words<'_>,
-    host: &mut Played,
-    told: &mut AnswerBytes,
-) -> Result<(), Stop> {
-    let out = HabitWriter::of(alloc, b"all")?;
-    let mut err = HabitWriter::of(alloc, words.bytes()?)?;
-    let edits = edits_of(alloc, words)?;
-    if edits.is_empty() {
-        return Err(Stop::BadLine);
-    }
-    let status = stage_over(edits.as_slice(), host, &mut err);
-    tell_end(status, out, err, told);
-    Ok(())
-}
+use trial_rows::{Stop, Words, mode_of};
 
 /// The changes of `COUNT EDIT..`.
 pub(crate) fn edits_of(alloc: Global, words: &mut Words<'_>) -> Result<Vec<StagingEdit>, Stop> {

@@ -10,6 +10,7 @@ mod calls;
 mod checks;
 mod child_tables;
 mod command_lines;
+mod command_words;
 mod fault_texts;
 mod fused_children;
 mod host_asks;

@@ -1,24 +1,19 @@
 //! Lists of commands that a host makes in one call, and what the host answers then.
 //!
-//! A row's arguments may begin with its children (`fused_children.rt`). Then come the commands, on a
-//! repository that is empty at first: `add MODE PATH CONTENTS`, `rm PATH`, `stage COUNT EDIT..`
-//! (`host_edits.rt`), `accept`, `run STAGE FILES ONLY HOW SKIP`, `commit MESSAGE HOW SKIP`
-//! (`host_lines.rt`), `forget` and `limit NUMBER`. The answer has each reply (`replies.rt`), a line on the
-//! children and on what is cached, and the repository.
+//! A row's arguments may begin with its children (`fused_children.rt`). Then come the commands
+//! (`command_words.rt`), on a repository that is empty at first. The answer has each reply (`replies.rt`), a
+//! line on the children and on what is cached, and the repository.
 
+use crate::command_words::command_of;
 use crate::fused_children::fused_children_of;
-use crate::host_asks::{asked_name, files_of, how_of, is_unverified, stage_of};
 use crate::host_commands::{Played, empty_store};
 use crate::host_counts::{with_counts, with_forgotten};
-use crate::host_edits::edits_of;
 use crate::host_files::with_file;
 use crate::replies::{with_changes, with_length, with_reply};
-use commit_flow::{Command, Host, HostAsk, Reply, StagingEdits};
-use hook_base::{Bytes, Text, Tree};
-use hook_cli::{AnswerLimit, skip_list_of};
-use run_options::RunOptions;
+use commit_flow::{Command, Host, Reply};
+use hook_base::Tree;
 use std::alloc::Global;
-use trial_rows::{AnswerBytes, Stop, Words, mode_of};
+use trial_rows::{AnswerBytes, Stop, Words};
 
 /// `play COMMAND..`: the replies, the counts, and the repository.
 pub(crate) fn played(alloc: Global, arguments: &[Vec<u8>]) -> Result<AnswerBytes, Stop> {
@@ -46,57 +41,10 @@ fn commands_of(alloc: Global, words: &mut Words<'_>) -> Result<Vec<Command>, Sto
         if words.left.is_empty() {
             break;
         }
-        commands.push(command_of(alloc, words)?)?;
+        let word = words.text()?;
+        commands.push(command_of(alloc, word, words)?)?;
     }
     Ok(commands)
-}
-
-fn command_of(alloc: Global, words: &mut Words<'_>) -> Result<Command, Stop> {
-    match words.text()? {
-        "add" => Ok(Command::Add {
-            mode: mode_of(words)?,
-            path: Text::copy_of(alloc, words.text()?)?,
-            bytes: Bytes::copy_of(alloc, words.bytes()?)?,
-        }),
-        "rm" => Ok(Command::Remove {
-            path: Text::copy_of(alloc, words.text()?)?,
-        }),
-        "stage" => Ok(Command::Stage {
-            edits: StagingEdits::of(edits_of(alloc, words)?).ok_or(Stop::BadLine)?,
-        }),
-        "accept" => Ok(Command::Accept),
-        "run" => Ok(Command::Run {
-            ask: ask_of(alloc, words)?,
-        }),
-        "commit" => Ok(Command::Commit {
-            message: Bytes::copy_of(alloc, words.bytes()?)?,
-            no_verify: is_unverified(words)?,
-            skip: skip_list_of(alloc, words.text()?)?,
-        }),
-        "forget" => Ok(Command::Forget),
-        "limit" => Ok(Command::Limit {
-            most: AnswerLimit::read(words.number()?).ok_or(Stop::BadLine)?,
-        }),
-        _ => Err(Stop::BadLine),
-    }
-}
-
-fn ask_of(alloc: Global, words: &mut Words<'_>) -> Result<HostAsk, Stop> {
-    let stage = stage_of(words)?;
-    let which = files_of(alloc, words)?;
-    let only = asked_name(alloc, words)?;
-    let how = how_of(words)?;
-    Ok(HostAsk {
-        stage,
-        which,
-        only,
-        fresh: how.fresh,
-        options: RunOptions {
-            cautious: how.cautious,
-            verbose: how.verbose,
-        },
-        skip: skip_list_of(alloc, words.text()?)?,
-    })
 }
 
 // Adds the staged files, those of HEAD, the fixes, and each commit with its files.

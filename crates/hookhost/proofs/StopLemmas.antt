@@ -1,4 +1,4 @@
--- What stops the opening of a store, or what an update needs beside it, stops the update.
+-- What stops the opening of a store, or what an update needs next to it, stops the update.
 use Rattle.hookhost.specs.declared.stop.CommandStop.{CommandStop}
 use Rattle.hookhost.specs.declared.stop.CommandStop.TheVariants.{Usage, NotText, CannotUse, Refused, NoConfiguration, NoRepository, NoNewRepository, RefusedCommand}
 use Rattle.hookhost.specs.Stops.{IsStopOfLookUp, IsStopOfOpening}

@@ -1,4 +1,4 @@
 pub mod BuildStamps
 pub mod FileTrees
 pub mod Stops
-pub mod Works
+pub mod StoreCalls

@@ -180,14 +180,14 @@ IsStopOfHooks stop = ⊥
 
 -- what stops an update for what it needs besides the store: the files that it stages, or what runs of hooks
 -- need, can't be used. Or memory was refused for these, which is then the host's refusal
-abbrev pub IsStopOfWork : Update → CommandStop → Type 0
-IsStopOfWork (Add paths mode) stop = IsStopOfStaging stop
-IsStopOfWork (Remove paths) stop = ⊥
-IsStopOfWork (Run files only stage fresh options) stop = IsStopOfHooks stop
-IsStopOfWork Accept stop = ⊥
-IsStopOfWork (Commit message no_verify color) stop = IsStopOfHooks stop
-IsStopOfWork Forget stop = ⊥
-IsStopOfWork (Limit limit) stop = ⊥
+abbrev pub IsStopOfCall : Update → CommandStop → Type 0
+IsStopOfCall (Add paths mode) stop = IsStopOfStaging stop
+IsStopOfCall (Remove paths) stop = ⊥
+IsStopOfCall (Run files only stage fresh options) stop = IsStopOfHooks stop
+IsStopOfCall Accept stop = ⊥
+IsStopOfCall (Commit message no_verify color) stop = IsStopOfHooks stop
+IsStopOfCall Forget stop = ⊥
+IsStopOfCall (Limit limit) stop = ⊥
 
 -- what stops a look-up: the store can't be used, or its lock
 abbrev pub IsStopOfLookUp : CommandStop → Type 0
@@ -196,4 +196,4 @@ IsStopOfLookUp stop = ⊥
 
 -- what stops an update: that, the file that lists its paths, or what it needs besides the store
 abbrev pub IsStopOfUpdate : Update → CommandStop → Type 0
-IsStopOfUpdate update stop = IsStopOfLookUp stop ⊎ IsStopOfItsList update stop ⊎ IsStopOfWork update stop
+IsStopOfUpdate update stop = IsStopOfLookUp stop ⊎ IsStopOfItsList update stop ⊎ IsStopOfCall update stop

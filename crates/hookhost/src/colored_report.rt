@@ -1,12 +1,12 @@
 //! The report in colors, for a terminal: how each hook ended is at the end of its first line.
 
+use crate::environment::variable;
 use crate::heard_children::SharedReport;
 use crate::runs::RealChildren;
 use crate::shown_report::ShownReport;
 use hook_cli::ColorChoice;
 use std::alloc::{AllocError, Global};
 use std::cell::RefCell;
-use std::env::{self, VarError};
 use std::io::{self, IsTerminal, Printer, Write};
 use std::rc::Rc;
 
@@ -67,16 +67,6 @@ pub(crate) fn report_writer<'r>(
         writer: io::writer(rt),
         is_on: is_colored,
         shown,
-    }
-}
-
-// A variable of the environment, empty if it isn't set or can't be read.
-fn variable(rt: &HostRuntime, name: &str) -> String {
-    match env::var(rt, name) {
-        Ok(text) => text,
-        Err(VarError::NotPresent | VarError::NotUnicode | VarError::OutOfMemory) => {
-            String::new(rt.alloc())
-        }
     }
 }
 

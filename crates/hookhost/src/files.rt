@@ -67,7 +67,8 @@ pub(crate) fn read_configuration<R: Files + AllocGlobal>(
 }
 
 /// The bytes of a file to stage, up to one past the limit: the host refuses a longer one. A file that isn't
-/// there or can't be read, or any pipe, is `CommandStop::CannotUse`; want of memory is `CommandStop::Refused`.
+/// there or can't be read, and anything but a regular file, is `CommandStop::CannotUse`; want of memory is
+/// `CommandStop::Refused`.
 pub(crate) fn read_staged<R: Files + AllocGlobal>(
     rt: &R,
     path: &Text,
@@ -75,7 +76,7 @@ pub(crate) fn read_staged<R: Files + AllocGlobal>(
     ensures { IfErr result (IsStopOfFile path.now) }
 {
     let word = path.clone()?;
-    // Reading a pipe would wait while the lock keeps other commands out.
+    // Reading a pipe or a terminal would wait while the lock keeps other commands out.
     match read_from(rt, open_file(rt, word.as_str()), MOST_FILE_BYTES + 1) {
         Ok(bytes) => Ok(bytes),
         Err(error) => Err(CommandStop::of_file(&error, word)),
@@ -120,10 +121,10 @@ fn read_from<R: Files + AllocGlobal>(
 }
 
 fn open_file<R: Files>(rt: &R, path: &str) -> io::Result<R::File> {
-    if is_pipe(rt, path) {
-        return Err(ErrorKind::Unsupported.into());
+    match fs::metadata(rt, path) {
+        Ok(found) if !found.is_file() => Err(ErrorKind::Unsupported.into()),
+        _ => open_seen_file(rt, path),
     }
-    open_seen_file(rt, path)
 }
 
 fn open_file_or_pipe<R: Files + AllocGlobal>(rt: &R, path: &str) -> io::Result<R::File> {

@@ -4,8 +4,9 @@ use crate::files::read_up_to;
 use crate::hint::hint;
 use crate::stop_hints::{CONFIGURATION, EXPLAIN, is_missing};
 use crate::store_call::StoreCall;
+use commit_flow::Command;
 use hook_base::RepoPath;
-use hook_cli::{CommandLine, MOST_CONFIGURATION_BYTES, Update};
+use hook_cli::MOST_CONFIGURATION_BYTES;
 use hook_config::{ConfigKind, read_config};
 use repo_store::Store;
 use sqlite::Alter;
@@ -34,15 +35,11 @@ pub(crate) enum Requirement {
 }
 
 /// What a command needs.
-pub(crate) fn need_of(work: &StoreCall) -> Requirement {
-    match work {
-        StoreCall::HookCall { .. } => Requirement::Configuration,
-        StoreCall::Call {
-            line: CommandLine::Update(Update::Accept),
-            ..
-        } => Requirement::Fixes,
-        StoreCall::Call { .. } | StoreCall::Stage(_) | StoreCall::Unstage(_) =>
-            Requirement::Nothing,
+pub(crate) fn need_of(call: &StoreCall) -> Requirement {
+    match call {
+        StoreCall::HookCommand { .. } => Requirement::Configuration,
+        StoreCall::Command(Command::Accept) => Requirement::Fixes,
+        _ => Requirement::Nothing,
     }
 }
 

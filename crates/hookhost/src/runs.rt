@@ -2,11 +2,11 @@
 
 ghost use Rattle.std.specs.Prelude.{◌≡◌, IfErr, IfOk};
 ghost use Rattle.hookhost.specs.Stops.{IsStopOfChildren, IsStopOfVariable};
-ghost use Rattle.hookhost.specs.Works.{skipped_by};
+ghost use Rattle.hookhost.specs.StoreCalls.{skipped_by};
 
+use crate::folder_links::linked;
 use crate::git_state::git_state;
 use crate::heard_children::HeardChildren;
-use crate::linked::linked;
 use crate::stop::CommandStop;
 use crate::terminal::terminal_of;
 use child_display::ShownChildren;

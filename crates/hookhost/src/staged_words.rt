@@ -119,7 +119,8 @@ fn gather_file<R: Files + AllocGlobal>(
     Ok(())
 }
 
-fn bytes_of<R: Files + AllocGlobal>(rt: &R, path: &Text) -> Result<Vec<u8>, CommandStop>
+/// The bytes of a file to stage, as `read_staged` reads them. An empty path has none: the store refuses it.
+pub(crate) fn bytes_of<R: Files + AllocGlobal>(rt: &R, path: &Text) -> Result<Vec<u8>, CommandStop>
     ensures { IfErr result IsStopOfReading }
 {
     if path.is_empty() {

@@ -10,6 +10,7 @@ use hook_config::ConfigFault;
 use repository_files::{LOCK, RepositoryFault, STORE};
 use std::alloc::{AllocError, AllocFailed};
 use std::io;
+use text_output::{Unwritten, write_path, write_pieces};
 
 // The exit status if the words name no command.
 const USAGE: u8 = 2;
@@ -182,13 +183,13 @@ impl<T: Drop> From<AllocFailed<T>> for CommandStop {
 
 /// Says on standard error why the program stops, and returns its exit status. If standard error takes
 /// nothing, that is ignored.
-pub(crate) fn tell<R: Eprint>(rt: &R, stop: &CommandStop) -> u8
+pub(crate) fn tell(rt: &HostRuntime, stop: &CommandStop) -> u8
     ensures { result ≡ status_of_stop stop.now }
 {
-    let (said, status) = match stop {
-        CommandStop::Usage(error) => (rt.eprint(error), USAGE),
-        CommandStop::NotText => (rt.eprintln("error: a word is not UTF-8"), USAGE),
-        CommandStop::CannotUse(word) => (say_unusable(rt, word.as_str()), REFUSED),
+    let (is_said, status) = match stop {
+        CommandStop::Usage(error) => (rt.eprint(error).is_ok(), USAGE),
+        CommandStop::NotText => (rt.eprintln("error: a word is not UTF-8").is_ok(), USAGE),
+        CommandStop::CannotUse(word) => (say_unusable(rt, word.as_str()).is_ok(), REFUSED),
         CommandStop::Refused(fault) => (say_refused(rt, fault.number(), fault.name()), REFUSED),
         CommandStop::NoConfiguration(fault) => (
             say_refused(rt, fault.number(), fault.name()),
@@ -203,22 +204,26 @@ pub(crate) fn tell<R: Eprint>(rt: &R, stop: &CommandStop) -> u8
             REFUSED,
         ),
     };
-    let _ = said;
+    let _ = is_said;
     status
 }
 
-fn say_unused<R: Eprint>(rt: &R, fault: &RepositoryFault) -> io::Result<()> {
+fn say_unused(rt: &HostRuntime, fault: &RepositoryFault) -> bool {
     match fault {
-        RepositoryFault::CannotUseStore => say_unusable(rt, STORE),
-        RepositoryFault::CannotUseLock => say_unusable(rt, LOCK),
+        RepositoryFault::CannotUseStore => say_unusable(rt, STORE).is_ok(),
+        RepositoryFault::CannotUseLock => say_unusable(rt, LOCK).is_ok(),
         RepositoryFault::NoStore(fault) => say_refused(rt, fault.number(), fault.name()),
     }
 }
 
-fn say_unusable<R: Eprint>(rt: &R, name: &str) -> io::Result<()> {
-    eprintln!(rt; "hookhost: cannot use {name}")
+// A name whose bytes would end the line is in double quotes.
+fn say_unusable(rt: &HostRuntime, name: &str) -> Result<(), Unwritten> {
+    let mut err = rt.stderr();
+    write_pieces(&mut err, &["hookhost: cannot use "])?;
+    write_path(&mut err, name)?;
+    write_pieces(&mut err, &["\n"])
 }
 
-fn say_refused<R: Eprint>(rt: &R, number: u8, name: &str) -> io::Result<()> {
-    eprintln!(rt; "hookhost: refused: {number} {name}")
+fn say_refused(rt: &HostRuntime, number: u8, name: &str) -> bool {
+    eprintln!(rt; "hookhost: refused: {number} {name}").is_ok()
 }

@@ -1,66 +1,76 @@
 //! What a line asks of the store, with all that it needs of the working folder.
 //!
-//! The contracts cite `specs/Works.antt`.
+//! The contracts cite `specs/StoreCalls.antt`.
 
-ghost use Rattle.std.specs.Prelude.{◌≡◌, ◌∷◌, ℕ, List, [], IfErr, IfOk};
+ghost use Rattle.std.specs.Prelude.{◌≡◌, IfErr, IfOk};
+ghost use Rattle.command_line.specs.declared.line.PathSource.{PathSource};
 ghost use Rattle.command_line.specs.declared.line.PathSource.TheVariants.{Words};
-ghost use Rattle.command_line.specs.declared.line.Update.TheVariants.{Add, Remove};
-ghost use Rattle.hook_cli.specs.CommandOver.{IsNamed};
-ghost use Rattle.hookhost.specs.Stops.{IsStopOfChildren, IsStopOfReading, IsStopOfWork};
-ghost use Rattle.hookhost.specs.Works.{IsWork, IsWorkOf, files_named};
+ghost use Rattle.command_line.specs.declared.line.Update.TheVariants.{Remove};
+ghost use Rattle.hookhost.specs.Stops.{IsStopOfChildren, IsStopOfReading, IsStopOfCall};
+ghost use Rattle.hookhost.specs.StoreCalls.{IsAddCall, IsCallOf, ask_stage_of_choice, options_of, which_of};
 
-use crate::files::read_staged;
 use crate::runs::{RealChildren, children_of, skipped};
-use crate::staged_words::{folder_of, staged_by};
+use crate::staged_words::{bytes_of, folder_of, staged_by};
 use crate::stop::CommandStop;
-use commit_flow::StagingEdit;
-use hook_base::{Items, Mode, Text};
-use hook_cli::{CommandLine, FileChoice, PathSource, Update};
+use commit_flow::{AskStage, Command, HostAsk, StagingEdits, Which};
+use hook_base::{Bytes, Items, Mode, Text};
+use hook_cli::{ColorChoice, FileChoice, LookUp, PathSource, RunChoice, StageChoice, Update};
+use run_options::RunOptions;
 use std::rt::Files;
 
 /// What is asked of the store.
 #[derive(Drop)]
 pub(crate) enum StoreCall {
-    /// The call of a line in which no hooks run, with the bytes of the file that it stages.
-    Call {
-        /// The line with all its names.
-        line: CommandLine,
-        /// The bytes, none for a line that stages no file.
-        bytes: Vec<u8>,
-    },
-    /// The call of a line that runs hooks.
-    HookCall {
-        /// The line with all its names.
-        line: CommandLine,
-        /// The ids and aliases of the hooks that are skipped.
-        skip: Items<Text>,
+    /// A look-up.
+    LookUp(LookUp),
+    /// A command that runs no hooks.
+    Command(Command),
+    /// A command that runs hooks.
+    HookCommand {
+        /// The command.
+        command: Command,
+        /// How its report is shown.
+        shown: ReportChoice,
         /// The children that run the hooks' commands.
         children: RealChildren,
     },
-    /// Changes of the staged files, all or none. There may be none to make.
-    Stage(Vec<StagingEdit>),
-    /// Staged files to unstage, all or none: the words name them, or folders of them.
-    Unstage(Items<Text>),
+    /// Staged files to unstage, all or none.
+    Unstage {
+        /// What names them, or folders of them.
+        words: Items<Text>,
+        /// Whether a file lists these words.
+        is_listed: bool,
+    },
+    /// No change: the words name folders without files.
+    Nothing,
+}
+
+/// How the report of hooks is shown.
+#[derive(Clone, Copy, Debug)]
+pub(crate) struct ReportChoice {
+    /// When it has colors.
+    pub(crate) color: ColorChoice,
+    /// Whether it says how long commands took.
+    pub(crate) has_durations: bool,
 }
 
 /// What an update asks of the store. The names are those that its `--paths-from` lists. What it stages is
 /// read, each file once and up to one byte past the limit: the host refuses a longer one. A word that can't
 /// be used is `CommandStop::CannotUse`, and so is a variable that children depend on. Want of memory is
 /// `CommandStop::RefusedCommand`, also for what runs of hooks need.
-pub(crate) fn work_of(
+pub(crate) fn call_of(
     rt: &HostRuntime,
     update: Update,
     names: Items<Text>,
 ) -> Result<StoreCall, CommandStop>
-    ensures can { IfOk result IsWork }
-    ensures work { IfOk result (IsWorkOf update names) }
-    ensures stopped { IfErr result (IsStopOfWork update) }
+    ensures call { IfOk result (IsCallOf update names) }
+    ensures stopped { IfErr result (IsStopOfCall update) }
 {
     match update {
-        Update::Add { paths, mode } => add_work(rt, paths, names, mode).map_err(
+        Update::Add { paths, mode } => add_call(rt, paths, names, mode).map_err(
             CommandStop::of_command,
         ),
-        Update::Remove { paths } => Ok(remove_work(rt, paths, names)),
+        Update::Remove { paths } => Ok(unstage_call(paths, names)),
         Update::Run {
             files,
             only,
@@ -69,121 +79,156 @@ pub(crate) fn work_of(
             options,
         } => {
             let (skip, children) = hook_needs(rt).map_err(CommandStop::of_command)?;
-            let files = named(files, names);
-            Ok(StoreCall::HookCall {
-                line: CommandLine::Update(Update::Run {
-                    files,
-                    only,
-                    stage,
-                    fresh,
-                    options,
-                }),
+            let ask = HostAsk {
+                which: which_of(files, names),
+                only,
+                stage: ask_stage_of_choice(stage),
                 skip,
+                fresh,
+                options: options_of(options),
+            };
+            Ok(StoreCall::HookCommand {
+                command: Command::Run { ask },
+                shown: ReportChoice {
+                    color: options.color,
+                    has_durations: options.verbose,
+                },
                 children,
             })
         }
-        Update::Accept => Ok(StoreCall::Call {
-            line: CommandLine::Update(Update::Accept),
-            bytes: Vec::new(rt.alloc()),
-        }),
+        Update::Accept => Ok(StoreCall::Command(Command::Accept)),
         Update::Commit {
             message,
             no_verify,
             color,
         } => {
             let (skip, children) = hook_needs(rt).map_err(CommandStop::of_command)?;
-            Ok(StoreCall::HookCall {
-                line: CommandLine::Update(Update::Commit {
-                    message,
+            Ok(StoreCall::HookCommand {
+                command: Command::Commit {
+                    message: message_of(message),
                     no_verify,
+                    skip,
+                },
+                shown: ReportChoice {
                     color,
-                }),
-                skip,
+                    has_durations: false,
+                },
                 children,
             })
         }
-        Update::Forget => Ok(StoreCall::Call {
-            line: CommandLine::Update(Update::Forget),
-            bytes: Vec::new(rt.alloc()),
-        }),
-        Update::Limit(limit) => Ok(StoreCall::Call {
-            line: CommandLine::Update(Update::Limit(limit)),
-            bytes: Vec::new(rt.alloc()),
-        }),
+        Update::Forget => Ok(StoreCall::Command(Command::Forget)),
+        Update::Limit(most) => Ok(StoreCall::Command(Command::Limit { most })),
     }
 }
 
-fn add_work<R: Files + AllocGlobal>(
+fn add_call<R: Files + AllocGlobal>(
     rt: &R,
     paths: PathSource,
     names: Items<Text>,
     mode: Option<Mode>,
 ) -> Result<StoreCall, CommandStop>
-    ensures can { IfOk result IsWork }
-    ensures work { IfOk result (IsWorkOf (Add paths mode) names) }
+    ensures call { IfOk result (IsAddCall paths mode) }
     ensures stopped { IfErr result IsStopOfReading }
 {
     match paths {
         PathSource::Words(words) => add_words(rt, words, mode),
-        PathSource::Listed(_from) => Ok(StoreCall::Stage(staged_by(rt, names.as_slice(), mode)?)),
+        PathSource::Listed(_from) => stage_call(rt, names.as_slice(), mode),
     }
 }
 
-// A single word that names no folder is the host's own call.
+// A single word that names no folder is a command of its own.
 fn add_words<R: Files + AllocGlobal>(
     rt: &R,
     words: Items<Text>,
     mode: Option<Mode>,
 ) -> Result<StoreCall, CommandStop>
-    ensures can { IfOk result IsWork }
-    ensures work { (names : List (List ℕ)) → IfOk result (IsWorkOf (Add (Words words) mode) names) }
+    ensures call { IfOk result (IsAddCall (Words words) mode) }
     ensures stopped { IfErr result IsStopOfReading }
 {
     let [word] = words.as_slice() else {
-        return Ok(StoreCall::Stage(staged_by(rt, words.as_slice(), mode)?));
+        return stage_call(rt, words.as_slice(), mode);
     };
     if folder_of(rt, word.as_str())?.is_some() {
-        return Ok(StoreCall::Stage(staged_by(rt, words.as_slice(), mode)?));
+        return stage_call(rt, words.as_slice(), mode);
     }
-    let bytes = read_staged(rt, word)?;
-    Ok(StoreCall::Call {
-        line: CommandLine::Update(Update::Add {
-            paths: PathSource::Words(words),
-            mode,
-        }),
-        bytes,
-    })
+    let bytes = bytes_of(rt, word)?;
+    Ok(StoreCall::Command(Command::Add {
+        path: word.clone()?,
+        bytes: Bytes::from(bytes),
+        mode,
+    }))
 }
 
-// A single word is a call too: `answer_line` of `commands` looks whether it is a folder of staged files.
-fn remove_work<R: AllocGlobal>(rt: &R, paths: PathSource, names: Items<Text>) -> StoreCall
-    ensures can { IsWork result }
-    ensures work { IsWorkOf (Remove paths) names result }
+// The changes that stage the files of the words, together.
+fn stage_call<R: Files + AllocGlobal>(
+    rt: &R,
+    words: &[Text],
+    mode: Option<Mode>,
+) -> Result<StoreCall, CommandStop>
+    ensures call { (paths : PathSource) → IfOk result (IsAddCall paths mode) }
+    ensures stopped { IfErr result IsStopOfReading }
+{
+    let edits = staged_by(rt, words, mode)?;
+    match StagingEdits::of(edits) {
+        Some(edits) => Ok(StoreCall::Command(Command::Stage { edits })),
+        None => Ok(StoreCall::Nothing),
+    }
+}
+
+// The words that name what is unstaged: those of the line, or those that its file lists.
+fn unstage_call(paths: PathSource, names: Items<Text>) -> StoreCall
+    ensures { IsCallOf (Remove paths) names result }
 {
     match paths {
-        PathSource::Words(words) if words.len() == 1 => StoreCall::Call {
-            line: CommandLine::Update(Update::Remove {
-                paths: PathSource::Words(words),
-            }),
-            bytes: Vec::new(rt.alloc()),
+        PathSource::Words(words) => StoreCall::Unstage {
+            words,
+            is_listed: false,
         },
-        PathSource::Words(words) => StoreCall::Unstage(words),
-        PathSource::Listed(_from) => StoreCall::Unstage(names),
+        PathSource::Listed(_from) => StoreCall::Unstage {
+            words: names,
+            is_listed: true,
+        },
     }
 }
 
 // The files of a run, of which those that a file lists are given by their names.
-fn named(files: FileChoice, names: Items<Text>) -> FileChoice
-    ensures named { result ≡ files_named files names }
-    ensures can { IsNamed result }
+fn which_of(files: FileChoice, names: Items<Text>) -> Which
+    ensures { result ≡ which_of files names }
 {
     match files {
-        FileChoice::Listed(_from) => FileChoice::Named(names),
-        files => files,
+        FileChoice::Changed => Which::Changed,
+        FileChoice::All => Which::All,
+        FileChoice::Named(paths) => Which::Named(paths),
+        FileChoice::Listed(_from) => Which::Named(names),
     }
 }
 
-// What a line that runs hooks needs: the hooks that it skips, and children.
+fn ask_stage_of_choice(stage: StageChoice) -> AskStage
+    ensures { result ≡ ask_stage_of_choice stage }
+{
+    match stage {
+        StageChoice::PreCommit => AskStage::PreCommit,
+        StageChoice::Manual => AskStage::Manual,
+    }
+}
+
+fn options_of(choice: RunChoice) -> RunOptions
+    ensures { result ≡ options_of choice }
+{
+    RunOptions {
+        cautious: choice.cautious,
+        verbose: choice.verbose,
+    }
+}
+
+// The bytes of a message. It takes no memory.
+fn message_of(message: Text) -> Bytes
+    ensures { result ≡ message }
+{
+    Bytes::from(message.into_string().into_bytes())
+}
+
+// What a command that runs hooks needs: the hooks that it skips, and children.
 fn hook_needs(rt: &HostRuntime) -> Result<(Items<Text>, RealChildren), CommandStop>
     ensures { IfErr result IsStopOfChildren }
 {

@@ -1,7 +1,7 @@
 //! The terminal that shows which child is running.
 
+use crate::environment::variable;
 use child_display::{Terminal, columns_of};
-use std::env;
 use std::io::{IsTerminal, Stderr};
 
 /// Standard error, if it is a terminal on which a line can be cleared. How many columns it has is what a
@@ -16,12 +16,4 @@ pub(crate) fn terminal_of(rt: &HostRuntime) -> Option<Terminal<Stderr>> {
         writer,
         columns: columns_of(variable(rt, "COLUMNS").as_str()),
     })
-}
-
-// A variable of the environment, empty if it isn't set or can't be read.
-fn variable(rt: &HostRuntime, name: &str) -> String {
-    match env::var(rt, name) {
-        Ok(text) => text,
-        Err(_) => String::new(rt.alloc()),
-    }
 }

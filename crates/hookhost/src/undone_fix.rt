@@ -1,38 +1,30 @@
 //! The fix that a line undoes by what it stages.
 
 use crate::store_call::StoreCall;
-use commit_flow::StagingEdit;
+use commit_flow::{Command, StagingEdit};
 use hook_base::{Change, RepoPath, Text};
-use hook_cli::{CommandLine, PathSource, Update};
 use repo_store::Store;
 use sqlite::Alter;
 use std::alloc::Global;
 
-/// The path of the first file to which the work gives other bytes than its fix would, if there is one. It is
-/// looked for before the work is done, since that drops the fixes. `None` also if memory is refused.
+/// The path of the first file to which the call gives other bytes than its fix would, if there is one. It is
+/// looked for before the call is made, since that drops the fixes. `None` also if memory is refused.
 pub(crate) fn undone_fix<S: Alter>(
     alloc: Global,
-    work: &StoreCall,
+    call: &StoreCall,
     store: &Store<S>,
 ) -> Option<RepoPath> {
     let Ok(fixes) = store.fixes() else {
         return None;
     };
-    match work {
-        StoreCall::Call {
-            line: CommandLine::Update(
-                Update::Add {
-                    paths: PathSource::Words(words),
-                    ..
-                },
-            ),
-            bytes,
-        } => match words.as_slice() {
-            [path] => undone_at(alloc, path, bytes.as_slice(), fixes.as_slice()),
-            _ => None,
-        },
-        StoreCall::Stage(edits) => undone_among(alloc, edits.as_slice(), fixes.as_slice()),
-        StoreCall::Call { .. } | StoreCall::HookCall { .. } | StoreCall::Unstage(_) => None,
+    match call {
+        StoreCall::Command(Command::Add { path, bytes, .. }) => {
+            undone_at(alloc, path, bytes.as_slice(), fixes.as_slice())
+        }
+        StoreCall::Command(Command::Stage { edits }) => {
+            undone_among(alloc, edits.as_slice(), fixes.as_slice())
+        }
+        _ => None,
     }
 }
 

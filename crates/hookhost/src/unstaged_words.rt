@@ -1,7 +1,7 @@
 //! The staged files that the words of `rm` name.
 
 use crate::staged_words::is_working_folder;
-use commit_flow::StagingEdit;
+use commit_flow::{Command, StagingEdit, StagingEdits};
 use hook_base::{OutOfMemory, PathFault, RepoPath, Text};
 use repo_store::{MOST_FILES, Store};
 use sqlite::Alter;
@@ -17,10 +17,47 @@ struct Gathered {
     paths: BTreeSet<String>,
 }
 
-/// The edits that unstage what the words name, in the order of the words. A word that isn't staged but is a
-/// folder of staged files means these, and what comes again is unstaged once. A word that is neither has an
-/// edit too, which the store refuses.
-pub(crate) fn unstaged_by<S: Alter>(
+/// The command that unstages what the words name, or `None` if there are no words. A single word of a line
+/// that is no folder of staged files is removed by a command of its own.
+pub(crate) fn removal_of<S: Alter>(
+    alloc: Global,
+    store: &Store<S>,
+    words: &[Text],
+    is_listed: bool,
+) -> Result<Option<Command>, OutOfMemory> {
+    let edits = unstaged_by(alloc, store, words)?;
+    match words {
+        [word] if !is_listed && is_removal_of(edits.as_slice(), word) => Ok(Some(
+            Command::Remove {
+                path: word.clone()?,
+            },
+        )),
+        _ => match StagingEdits::of(edits) {
+            Some(edits) => Ok(Some(Command::Stage { edits })),
+            None => Ok(None),
+        },
+    }
+}
+
+// Whether the changes are one alone, which removes the file that the word names.
+fn is_removal_of(edits: &[StagingEdit], word: &Text) -> bool {
+    match edits {
+        [edit] => removes(edit, word),
+        _ => false,
+    }
+}
+
+fn removes(edit: &StagingEdit, word: &Text) -> bool {
+    match edit {
+        StagingEdit::Remove { path } => path.as_str() == word.as_str(),
+        StagingEdit::Add { .. } => false,
+    }
+}
+
+// The edits that unstage what the words name, in the order of the words. A word that isn't staged but is a
+// folder of staged files means these, and what comes again is unstaged once. A word that is neither has an
+// edit too, which the store refuses.
+fn unstaged_by<S: Alter>(
     alloc: Global,
     store: &Store<S>,
     words: &[Text],
@@ -36,23 +73,6 @@ pub(crate) fn unstaged_by<S: Alter>(
         {
             gather(word.as_str(), &mut gathered)?;
         }
-    }
-    Ok(gathered.edits)
-}
-
-/// The edits that unstage the staged files below a word. There are none if the word itself is staged.
-pub(crate) fn unstaged_below<S: Alter>(
-    alloc: Global,
-    store: &Store<S>,
-    word: &Text,
-) -> Result<Vec<StagingEdit>, OutOfMemory> {
-    let mut gathered = Gathered {
-        alloc,
-        edits: Vec::new(alloc),
-        paths: BTreeSet::new(alloc),
-    };
-    if !is_staged(alloc, store, word.as_str())? {
-        let _any = gather_below(store, word.as_str(), &mut gathered)?;
     }
     Ok(gathered.edits)
 }

@@ -13,10 +13,10 @@ returns-in-Ok-clause-commit g c =
       faults_after =
           g.C.Children.fault_count c.commit.new.children;
     })
-    c.args.host.now c.commit.new.self c.as_bytes.result.now c.args.message.now c.args.no_verify c.args.skip.now
+    c.args.host.now c.commit.new.self c.args.message.now c.args.no_verify c.args.skip.now
     (record { held = g.O.Write.contents c.args.out.now; holds = g.O.Write.contents c.say_ending.new.out })
     (record { held = g.E.Write.contents c.args.err.now; holds = g.E.Write.contents c.say_ending.new.err })
-    c.say_ending.result (Ok c.in-Ok.ending) c.as_bytes.ensures.value c.in-Ok.ensures.step c.in-Ok.ensures.kept c.in-Ok.ensures.command c.say_ending.ensures
+    c.say_ending.result (Ok c.in-Ok.ending) c.in-Ok.ensures.step c.in-Ok.ensures.kept c.in-Ok.ensures.command c.say_ending.ensures
 
 pub returns-in-Err-clause-commit : goal.returns-in-Err-clause-commit
 returns-in-Err-clause-commit g c =
@@ -28,8 +28,8 @@ returns-in-Err-clause-commit g c =
       faults_after =
           g.C.Children.fault_count c.commit.new.children;
     })
-    c.args.host.now c.commit.new.self c.as_bytes.result.now c.args.message.now c.args.no_verify c.args.skip.now
+    c.args.host.now c.commit.new.self c.args.message.now c.args.no_verify c.args.skip.now
     (record { held = g.O.Write.contents c.args.out.now; holds = g.O.Write.contents c.args.out.now })
     (record { held = g.E.Write.contents c.args.err.now; holds = g.E.Write.contents c.tell.new.err })
-    c.tell.result (Err c.in-Err.refusal) c.as_bytes.ensures.value c.in-Err.ensures.step c.in-Err.ensures.kept c.in-Err.ensures.command
+    c.tell.result (Err c.in-Err.refusal) c.in-Err.ensures.step c.in-Err.ensures.kept c.in-Err.ensures.command
     (silent-itself (g.O.Write.contents c.args.out.now), c.tell.ensures)
