@@ -1,9 +1,9 @@
 //! What is said about a configuration that is taken.
 
 use crate::escaped_texts::{push_number, push_shown};
+use crate::hooks_never_run::push_never;
 use crate::ignored::push_ignored;
 use crate::marks::marks_in;
-use crate::never::push_never;
 use crate::refused::NamedBytes;
 use crate::selected::push_selected;
 use crate::stages::{push_each_time, push_stages};

@@ -15,7 +15,6 @@
 #![tactic(auto)]
 
 mod accepted_texts;
-mod doubled;
 mod edits;
 mod escaped_texts;
 mod explained_file;
@@ -23,19 +22,20 @@ mod finding;
 mod findings;
 mod flow_words;
 mod git_calls;
-mod heads;
 mod hook_names;
+mod hooks_never_run;
 mod ignored;
 mod known_words;
+mod line_parts;
 mod marks;
-mod never;
-mod own_line;
 mod patterns;
 mod places;
 mod plain_text;
 mod refused;
+mod repeated_key;
 mod selected;
 mod sentence;
+mod shown_line;
 mod stages;
 mod tables;
 mod tool_settings;

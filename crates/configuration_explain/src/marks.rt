@@ -8,7 +8,7 @@
 ghost use Rattle.std.specs.Prelude.{◌≤◌, length};
 ghost use Rattle.yaml_lines.specs.Characters.{most_bytes};
 
-use crate::heads::{behind_dash, closes_flow, column_behind};
+use crate::line_parts::{behind_dash, closes_flow, column_behind};
 use std::alloc::{AllocError, Global};
 use yaml_lines::{
     Entry, Line, MOST_NODES, RawLine, YamlKind, begins_flow, characters, is_item, raw_lines,

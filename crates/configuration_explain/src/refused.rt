@@ -1,14 +1,14 @@
 //! What is said about a configuration that is refused.
 
-use crate::doubled::{Doubled, doubled_in};
 use crate::escaped_texts::{push_number, push_quoted, push_shown};
 use crate::finding::{Finding, finding_of};
 use crate::findings::{MOST_FINDINGS, findings_in};
 use crate::marks::marks_in;
-use crate::own_line::{line_at, push_own_line};
 use crate::places::{Place, PlacedFinding, places_of};
 use crate::plain_text::{GOES_ON, goes_on};
+use crate::repeated_key::{Doubled, doubled_in};
 use crate::sentence::push_sentence;
+use crate::shown_line::{line_at, push_own_line};
 use crate::yaml_sentence::{yaml_column, yaml_sentence};
 use hook_config::{ConfigFault, ConfigKind};
 use std::alloc::{AllocError, Global};

@@ -1,6 +1,6 @@
 //! The sentence for a fault of the YAML, and its place in its line, if that is known.
 
-use crate::own_line::column_of;
+use crate::shown_line::column_of;
 use yaml_profile::YamlKind;
 
 /// The sentence for the fault in this line.

@@ -32,8 +32,8 @@ const PAGE_BYTES: u64 = 4_096;
 // The fewest pages that are kept in memory. A database without rows has fewer.
 const FEWEST_PAGES: u64 = 64;
 
-// The most pages, which is the library's own number: 8 MB.
-const MOST_PAGES: u64 = 2_000;
+// The most pages: 64 MiB. Of a larger database pages are read again and again.
+const MOST_PAGES: u64 = 16_384;
 
 /// Opens the database at the path, or makes it if there is none. The library reserves memory for its pages
 /// when it opens the file. For the most pages this takes longer than everything else that it does with a

@@ -57,16 +57,17 @@ pub(crate) enum Folder {
     Made,
 }
 
-/// Makes the repository's folder if there is none. The error is `RepositoryFault::CannotUseStore`.
+/// Makes the repository's folder if there is none. The error is `RepositoryFault::CannotUseStore`, also if a
+/// link is there: no child would run in the folder that it leads to.
 pub(crate) fn make_folder<R: Files>(rt: &R) -> Result<Folder, RepositoryFault>
     ensures { IfErr result (λ fault. fault ≡ CannotUseStore) }
 {
     if fs::create_dir(rt, FOLDER).is_ok() {
         return Ok(Folder::Made);
     }
-    match fs::create_dir_all(rt, FOLDER) {
-        Ok(()) => Ok(Folder::Found),
-        Err(_) => Err(RepositoryFault::CannotUseStore),
+    match fs::symlink_metadata(rt, FOLDER) {
+        Ok(found) if found.is_dir() => Ok(Folder::Found),
+        _ => Err(RepositoryFault::CannotUseStore),
     }
 }
 

@@ -13,7 +13,7 @@ mod checkout;
 mod connect;
 mod database;
 mod folder;
-mod kept_out;
+mod git_exclude;
 mod new_repository;
 mod repository_fault;
 
@@ -21,6 +21,6 @@ pub use checkout::is_in_checkout;
 pub use connect::DatabaseFile;
 pub use database::{Before, Database, DatabaseOver, leave_database, open_database, open_store};
 pub use folder::{FOLDER, LOCK, Lock, SCRATCH, STORE, look_at_store, take_lock};
-pub use kept_out::{keep_out_of_git, replace_ignore_file};
+pub use git_exclude::{keep_out_of_git, replace_ignore_file};
 pub use new_repository::init;
 pub use repository_fault::RepositoryFault;

@@ -13,7 +13,7 @@ use crate::folder::{
     FOLDER, FileState, Folder, LOCK, Lock, STORE, found_at, look_for_no_store, make_folder,
     take_away, take_lock,
 };
-use crate::kept_out::keep_out_of_git;
+use crate::git_exclude::keep_out_of_git;
 use crate::repository_fault::RepositoryFault;
 use repo_store::Store;
 use sqlite::{Alter, Connection};
@@ -33,7 +33,8 @@ const NEW_LOG: &str = ".hookhost/new.db-wal";
 /// `CannotUseStore` if anything is at the store's name, or if the folder can't be made; `CannotUseLock`;
 /// `CannotUseStore` if another `init` has made a store since, or if anything but a file is at the log's name;
 /// and then `CannotUseStore` or `NoStore` if the database can't be made or renamed. An error leaves the
-/// folder as it was, except for its lock if the folder was there, and for what a killed `init` left.
+/// folder as it was, except for its lock if the folder was there, and for what a killed `init` left. If the
+/// system refuses the last of the renames, a log without a store is gone, as after a success.
 pub fn init(rt: &HostRuntime) -> Result<(), RepositoryFault> {
     look_for_no_store(rt)?;
     let folder = make_folder(rt)?;

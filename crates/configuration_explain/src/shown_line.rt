@@ -5,10 +5,10 @@ use crate::places::Place;
 use bstr::ByteSlice;
 use std::alloc::{AllocError, Global};
 
-/// The line with this number, from 1, without its end and without a byte order mark. Each piece that isn't
-/// UTF-8 is U+FFFD. It is empty if there is no such line. `AllocError` if memory is refused.
+/// The line with this number, from 1, without its end. A byte order mark before the first is left out. Each
+/// piece that isn't UTF-8 is U+FFFD. It is empty if there is no such line. `AllocError` if memory is refused.
 pub(crate) fn line_at(alloc: Global, bytes: &[u8], number: usize) -> Result<String, AllocError> {
-    String::from_utf8_lossy(alloc, without_mark(bytes_at(bytes, number)))
+    String::from_utf8_lossy(alloc, bytes_at(without_mark(bytes), number))
 }
 
 fn bytes_at(bytes: &[u8], number: usize) -> &[u8] {
