@@ -22,12 +22,14 @@ import time
 from pathlib import Path
 
 sys.path.insert(0, os.path.abspath(f"{__file__}/../../shared"))
+import children_ahead
 import children_beside
 import children_ends
 import children_files
 import children_folder
 import children_limits
 import children_reads
+import children_settled
 from children_trial import BASE, MIB, READS, TELLING, WORDS, Trial, Wrong, check, digits, kind_of
 
 # What other scripts play children with too.
@@ -40,7 +42,8 @@ def cases_of(module):
     return [case for name, case in found if callable(case) and case.__module__ == module.__name__ and name.count("_") > 1 and case.__code__.co_argcount == 0]
 
 
-CASES = [case for module in (children_ends, children_files, children_folder, children_beside, children_reads, children_limits) for case in cases_of(module)]
+MODULES = [children_ends, children_ahead, children_files, children_folder, children_beside, children_reads, children_settled, children_limits]
+CASES = [case for module in MODULES for case in cases_of(module)]
 # What depends on when a process is at work, or on how much is read.
 UNLIKE = [children_beside.a_killed_program_leaves_no_harm, children_reads.a_rewrite_right_behind_a_look_is_seen, children_reads.a_rewrite_around_a_look_is_seen, children_limits.a_signal_to_the_group_ends_a_child_too]
 SETTLED = [children_reads.files_that_have_settled_are_read_once]
@@ -56,6 +59,7 @@ READING = [
     children_reads.a_rewrite_around_a_look_is_seen,
     children_reads.a_rewrite_in_the_tick_in_which_files_were_laid_is_seen,
     children_reads.what_no_child_can_have_changed_is_not_read,
+    *cases_of(children_settled),
 ]
 
 

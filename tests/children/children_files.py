@@ -10,17 +10,61 @@ from children_trial import BASE, MIB, NOBODY, TREE, Trial, built, check, equal, 
 # ---- what is read back
 
 def changes_are_read_back():
-    trial = Trial(TREE | {"big": b"x" * 70_000})
+    whole = {"whole": b"x" * 65_536, "twice": b"x" * 131_072}
+    trial = Trial(TREE | whole | {"big": b"x" * 70_000})
     equal(trial.sh("rm a.txt"), (0, b"", {"a.txt": None}), "a file is gone")
     equal(trial.sh("rm -r d; : > d"), (0, b"", {"d/c.txt": None, "d/e/f.txt": None}), "a file in a folder's place")
     equal(trial.sh("rm a.txt; mkdir a.txt"), "ScratchFailed", "a folder in a file's place")
     equal(trial.sh("echo more >> big; : > b.txt; echo new > new; chmod 600 d-e"), (0, b"", {"b.txt": b"", "big": b"x" * 70_000 + b"more\n"}), "changed files")
+    # What was there is read to its end, so that nothing but the length tells that more follows.
+    for path, data in {"d/e/f.txt": b"", **whole}.items():
+        equal(trial.sh(f"printf y >> {path}"), (0, b"", {path: data + b"y"}), f"a file of {len(data)} bytes that grew")
     equal(trial.sh("printf 'y' | dd of=big bs=1 seek=69999 conv=notrunc 2>/dev/null"), (0, b"", {"big": b"x" * 69_999 + b"y"}), "the last byte")
     equal(trial.sh("head -c 16777216 /dev/zero > a.txt")[2]["a.txt"], bytes(16 * MIB), "16 MiB")
     equal(trial.sh("head -c 16777217 /dev/zero > a.txt"), "ScratchFailed", "16 MiB and a byte")
     equal(trial.sh("truncate -s 1T a.txt"), "ScratchFailed", "a file of holes")
     equal(trial.sh("rm -rf ./* .git"), (0, b"", dict.fromkeys(trial.tree)), "all that is in the folder is gone")
     trial.sees_the_tree("an emptied folder")
+
+
+# A program that goes on until there is a file go in the folder that it is given, or until that folder is gone.
+GOES_ON = r"""
+#include <fcntl.h>
+#include <stdio.h>
+#include <unistd.h>
+
+static char place[4096];
+
+static const char *at(const char *top, const char *name) {
+    snprintf(place, sizeof place, "%s/%s", top, name);
+    return place;
+}
+
+int main(int count, char **words) {
+    close(open(at(words[1], "started"), O_WRONLY | O_CREAT, 0666));
+    while (access(at(words[1], "go"), F_OK) != 0 && access(words[1], F_OK) == 0) usleep(200);
+    close(open(at(words[1], "done.1"), O_WRONLY | O_CREAT, 0666));
+    return 0;
+}
+"""
+
+
+def a_program_that_still_runs_is_read_back():
+    """The system lets nobody write its file, and so it is read by a second name. A program that was killed may have left such a name."""
+    data = Path(built("goes-on", GOES_ON)).read_bytes()
+    for user in users():
+        trial = Trial(TREE | {"d/goes-on": data}, user=user, programs={"d/goes-on"})
+        top = trial.top
+        starts = f"d/goes-on {top} > /dev/null 2>&1 < /dev/null & until [ -e {top}/started ]; do sleep 0.001; done"
+        for text in (starts, "true", "touch $(printf '\\001')look", "chmod 400 a.txt; touch $(printf '\\001')look", "chmod 500 d/goes-on"):
+            equal(trial.sh(text), (0, b"", {}), f"{text} as {user}")
+            trial.sees_the_tree(text)
+        changes = {"a.txt": b"one\nmore\n", "d/goes-on": None}
+        equal(trial.sh("echo more >> a.txt; chmod 400 a.txt; rm d/goes-on"), (0, b"", changes), f"a change as {user}")
+        Path(top, "go").touch()
+        wait_for(f"{top}/done.1")
+        trial.sees_the_tree("a program that has ended")
+        trial.end()
 
 
 def modes_hide_nothing_from_the_next():
@@ -49,6 +93,8 @@ STRAYS = [
     "ln a.txt second",
     "touch $(printf '\\377') $(printf 'd/\\200\\201'); mkdir $(printf '\\376'); touch $(printf '\\376/\\375'); mkdir -p $(printf 'd/\\374/\\373')",
     "mkdir -p $(printf '\\001')0/1/0 $(printf '\\001')1; touch $(printf '\\001')2 $(printf '\\001')0/0; rm a.txt",
+    "mkdir d/$(printf '\\001')0; touch d/$(printf '\\001')0/x",
+    "mkdir -p d/n/$(printf '\\001')0 d/n/m/$(printf '\\001')1",
     "i=0; while [ $i -lt 300 ]; do mkdir dddddddddddddddddddddd; cd dddddddddddddddddddddd; i=$((i+1)); done; touch x",
     "mkdir -p d/$(printf 'x%.0s' $(seq 250)); touch d/$(printf 'y%.0s' $(seq 255))",
     "rm -r d a.txt b.txt; mkdir -p d/c.txt/e d/e/f.txt; chmod 000 d/c.txt d/e d",
@@ -71,7 +117,7 @@ def whatever_a_child_left_is_gone():
         trial.sees_the_tree("folders 3,000 deep")
     if os.getuid() == 0:
         trial = Trial(TREE)
-        for text in ("chown 65534 a.txt", "chown 65534:65534 d", "chown -R 65534 ."):
+        for text in ("chown 65534 a.txt", "chown 65534:65534 d", "chown -R 65534 .", "chgrp 65534 a.txt", "chgrp 65534 d", "chgrp 65534 ."):
             equal(trial.sh(text), (0, b"", {}), text)
             trial.sees_the_tree(text)
 
@@ -236,6 +282,21 @@ def no_file_is_written_in_place():
     trial.file("b.txt", b"same\n")
     trial.sh("rm b.txt; ln a.txt b.txt")
     equal(trial.sh("echo x >> a.txt"), (0, b"", {"a.txt": b"same\nx\n"}), "two files that the child before had linked")
+
+
+def folders_whose_names_begin_alike_are_told_apart():
+    paths = ["q-/f", "q.f", "q/0/f", "q/00/f", "q/f", "q0/f", "q00/f", "q00/q/f", "q00/q0/f", "q00/qq"]
+    for chosen in (paths, [path for path in paths if not path.startswith("q/0")]):
+        tree = {path: f"{path}\n".encode() for path in chosen}
+        trial = Trial(tree)
+        for _ in range(2):
+            equal(trial.run("cat", *tree), (0, b"".join(tree.values()), {}), "what files contain")
+        for path in tree:
+            equal(trial.run("sh", "-c", f"echo more >> {path}"), (0, b"", {path: tree[path] + b"more\n"}), f"{path} is changed")
+            trial.file(path, f"other {path}\n".encode())
+            equal(trial.run("cat", *tree), (0, b"".join(trial.tree[it] for it in tree), {}), f"what files contain after {path} is")
+        trial.sees_the_tree("all of them")
+        trial.end()
 
 
 # ---- long paths and names

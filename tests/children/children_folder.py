@@ -1,6 +1,7 @@
 """The scratch folder of the children of tests/children/children.py: its folder `.git`, its programs, its loss, and its end."""
 import os
 import shutil
+import subprocess
 import tempfile
 from pathlib import Path
 
@@ -259,6 +260,91 @@ def a_folder_that_is_changed_for_another_tells_no_file_as_removed():
         check(True in told, "no child has lost its folder")
         trial.sees_the_tree("a folder that was changed for another")
         trial.end()
+
+
+# ---- how the folder is named
+
+# Each name of the folder that a program is given, and the folder that holds it.
+HOLDERS = {
+    "h/scratch/": "h",
+    "h/scratch///": "h",
+    "./h/scratch/": "h",
+    "TOP/h/scratch": "h",
+    "TOP/h/scratch/": "h",
+    "n/h/scratch/": "n/h",
+    "scratch": ".",
+    "scratch/": ".",
+}
+
+
+def slashes_at_the_end_of_its_name_change_nothing():
+    for given, holder in HOLDERS.items():
+        is_played_by_its_name(given, holder)
+
+
+def is_played_by_its_name(given, holder):
+    """Plays a folder that is named so: its place, what is told of it, the folder next to it, and its end."""
+    top = tempfile.mkdtemp(prefix="children-", dir=BASE)
+    given = given.replace("TOP", top)
+    named = given.rstrip("/")
+    text = f"a folder named {given!r}"
+    trial = Trial(TREE, keep=top, folder=given)
+    place = os.path.realpath(f"{top}/{holder}/scratch")
+    equal(trial.sh("pwd -P"), (0, f"{place}\n".encode(), {}), text)
+    equal(sorted(os.listdir(f"{top}/{holder}")), ["scratch", "scratch.run"], f"what is next to {text}")
+    equal(trial.sh("echo more >> a.txt; rm d/c.txt; touch new"), (0, b"", {"a.txt": b"one\nmore\n", "d/c.txt": None}), text)
+    trial.sees_the_tree(text)
+    equal(trial.sh("rm a.txt; mkdir a.txt"), "ScratchFailed", text)
+    equal(trial.ask("trouble"), f"{named}/a.txt: no file stands there", f"what is told of {text}")
+    trial.sees_the_tree(text)
+    second = Trial(TREE, keep=top, folder=named, env=os.environ | REMOVED)
+    equal(second.sh("pwd -P"), (0, f"{place}.1\n".encode(), {}), f"the folder next to {text}")
+    second.end()
+    trial.end()
+    equal(os.listdir(f"{top}/{holder}"), ["scratch"], f"what stays of {text}")
+    last = Trial(TREE, keep=top, folder=given, env=os.environ | REMOVED)
+    last.sees_the_tree(text)
+    last.end()
+    check(not os.path.exists(f"{top}/{holder}") or os.listdir(f"{top}/{holder}") == [], f"what is left of {text}")
+
+
+# ---- a system that doesn't show what is open
+
+# What a child does, and what is read back of it, or told of it.
+CHANGES = {
+    "echo more >> d/c.txt; touch d/new new": {"d/c.txt": b"three\nmore\n"},
+    "rm -r d; touch d": {"d/c.txt": None, "d/e/f.txt": None},
+    "chmod 000 d; mkdir -p n/m; touch n/m/x; chmod 000 n/m n": {},
+    "rmdir .git; touch .git; printf 1 1<> z/1": {"z/1": b"1" + b"z" * 399},
+}
+TROUBLES = {
+    "rm a.txt; ln -s /etc/passwd a.txt": "h/scratch/a.txt: no file stands there",
+    "rm -r d; ln -s /etc d": "h/scratch/d/c.txt: a link stands there",
+    'rm -rf "$PWD"': LOST,
+    "mv ../scratch ../x; cp -r ../x ../scratch": LOST,
+}
+WITHOUT_PROC = "unshare", "-m", "sh", "-c", 'mount -t tmpfs none /proc && exec "$@"', "sh"
+
+
+def what_is_open_need_not_be_shown():
+    """Without /proc the folder is found by its name alone."""
+    if subprocess.run([*WITHOUT_PROC, "true"], capture_output=True).returncode != 0:
+        print("children: only root can mount, so no system without /proc was played")
+        return
+    trial = Trial(FILLED, starter=WITHOUT_PROC)
+    for _ in range(2):
+        equal(trial.sh("ls /proc"), (0, b"", {}), "a child without /proc")
+    trial.sees_the_tree("a child without /proc")
+    for text, changes in CHANGES.items():
+        equal(trial.sh(text), (0, b"", changes), f"{text} without /proc")
+        trial.sees_the_tree(text)
+    for text, told in TROUBLES.items():
+        first = Trial(TREE, starter=WITHOUT_PROC)
+        equal(first.sh(text), "ScratchFailed", f"{text} without /proc")
+        equal(first.ask("trouble"), told, f"what is told of {text} without /proc")
+        first.sees_the_tree(text)
+        first.end()
+    trial.end()
 
 
 # ---- calls that are written down

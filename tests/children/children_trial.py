@@ -34,8 +34,8 @@ for number in DEADLY:
 NOBODY = 65534
 MIB = 1 << 20
 NAMES = ["NotStarted", "WaitFailed", "Signal", "OutputTooLong", "ScratchFailed"]
-# What a child sees: each entry's kind, mode, links and path, and what each file contains.
-SEEN = "find . -printf '%y %m %n %U %P\\n' | sed 's/^d \\([0-7]*\\) [0-9]*/d \\1/' | LC_ALL=C sort; find . -type f -print0 | LC_ALL=C sort -z | xargs -0r sha256sum"
+# What a child sees: each entry's kind, mode, links, owner, group and path, and what each file contains.
+SEEN = "find . -printf '%y %m %n %U %G %P\\n' | sed 's/^d \\([0-7]*\\) [0-9]*/d \\1/' | LC_ALL=C sort; find . -type f -print0 | LC_ALL=C sort -z | xargs -0r sha256sum"
 # What the program reads of the files, by what its environment says.
 READS = {"what may have changed": {}, "everything": {"CHILD_TRIAL_READS": "everything"}}
 TREE = {"a.txt": b"one\n", "b.txt": b"two\n", "d/c.txt": b"three\n", "d/e/f.txt": b"", "d-e": b"x", "é/日本": b"y"}
@@ -66,7 +66,7 @@ class Trial:
     reads = READS["what may have changed"]
     told = []
 
-    def __init__(self, tree=(), user=None, keep=None, limit=None, programs=(), **how):
+    def __init__(self, tree=(), user=None, keep=None, limit=None, programs=(), folder="h/scratch", starter=(), **how):
         self.top = keep or tempfile.mkdtemp(prefix="children-", dir=BASE)
         os.chmod(self.top, 0o777)
         self.tree = {}
@@ -75,8 +75,8 @@ class Trial:
         self.calls = self.faults = 0
         as_user = {"user": user, "group": user, "extra_groups": []} if user is not None and os.getuid() == 0 else {}
         how["env"] = how.get("env", os.environ) | Trial.reads
-        # A shell sets a limit, and has the program in its place.
-        words = [PROGRAM, "h/scratch"] if limit is None else ["sh", "-c", f'ulimit {limit}; exec "$@"', "sh", PROGRAM, "h/scratch"]
+        # A shell sets a limit, and has the program in its place. So has what `starter` names.
+        words = [*starter, PROGRAM, folder] if limit is None else ["sh", "-c", f'ulimit {limit}; exec "$@"', "sh", PROGRAM, folder]
         self.process = subprocess.Popen(words, cwd=self.top, stdin=subprocess.PIPE, stdout=subprocess.PIPE, stderr=subprocess.DEVNULL, **as_user, **how)
         for path, data in dict(tree).items():
             (self.program if path in programs else self.file)(path, data)

@@ -6,7 +6,7 @@ use child_port::{Children, Outcome};
 use hook_base::{Bytes, Content, FileEntry, Mode, OutOfMemory, RepoPath, Text, Tree};
 use hook_config::{Config, read_config};
 use hook_run::run_hooks;
-use process_children::{Obstacle, ProcessChildren};
+use process_children::{ChildAsk, Obstacle, ProcessChildren};
 use result_book::{Book, ListBook};
 use std::alloc::Global;
 use store_faults::FIRST_LIMIT;
@@ -41,6 +41,7 @@ impl Play {
             "letters" => self.letters(arguments),
             "remove" => self.remove(arguments),
             "run" => self.run(arguments),
+            "ahead" => self.ahead(arguments),
             "measure" => self.measure(arguments),
             "hooks" => self.hooks(arguments),
             "counts" => self.counts(),
@@ -96,6 +97,39 @@ impl Play {
         let outcome = self.outcome_of(arguments)?;
         let (calls, faults) = (self.children.calls(), self.children.faults());
         outcome_text(self.alloc, outcome, calls, faults)
+    }
+
+    // Starts children ahead of their turns, on the tree as it is: `MOST COMMAND..`, where at most MOST run at
+    // once, and a COMMAND is a line for a shell.
+    fn ahead(&mut self, arguments: &[Vec<u8>]) -> Result<Vec<u8>, Stop> {
+        let Some((most, commands)) = arguments.split_first() else {
+            return Err(Stop::BadLine);
+        };
+        let most = number_of(most.as_slice())? as usize;
+        let commands = self.commands_of(commands)?;
+        let seen = Tree::new(self.alloc);
+        let mut asks = Vec::new(self.alloc);
+        for words in &commands {
+            asks.push(ChildAsk {
+                words: words.as_slice(),
+                seen: &seen,
+            })?;
+        }
+        self.children.start_ahead(asks.as_slice(), most, &self.tree);
+        Ok(Vec::new(self.alloc))
+    }
+
+    // The words of commands that are lines for a shell.
+    fn commands_of(&self, lines: &[Vec<u8>]) -> Result<Vec<Vec<Text>>, Stop> {
+        let mut commands = Vec::new(self.alloc);
+        for line in lines {
+            let mut words = Vec::new(self.alloc);
+            for word in ["sh", "-c", text_of(line.as_slice())?] {
+                words.push(Text::copy_of(self.alloc, word)?)?;
+            }
+            commands.push(words)?;
+        }
+        Ok(commands)
     }
 
     // Runs a child with these words, and answers only the numbers of its result, for a script that measures.

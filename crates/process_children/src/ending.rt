@@ -1,6 +1,6 @@
 //! How a child ended.
 
-use crate::outputs::Outputs;
+use crate::outputs::{Outputs, Pipes};
 use crate::stop::ChildStop;
 use child_port::Fault;
 use hook_base::Bytes;
@@ -33,14 +33,22 @@ where
     P::Stderr: AsRawFd,
 {
     let mut outputs = Outputs::new(alloc);
-    let read = match (child.stdout.take(), child.stderr.take()) {
-        (Some(output), Some(error)) => outputs.read_from(output, error, piece).is_ok(),
-        _ => false,
-    };
+    let mut pipes = Pipes::of(child.stdout.take(), child.stderr.take());
+    let is_read = outputs.read_from(&mut pipes, piece).is_ok();
+    end(child, outputs, is_read)
+}
+
+/// Waits for the end of a child whose outputs were read to their ends, if `is_read`. The errors are those of
+/// `ending_of`.
+pub(crate) fn end<P: OpenProcess + Drop>(
+    mut child: Child<P>,
+    outputs: Outputs,
+    is_read: bool,
+) -> Result<ChildEnding, ChildStop> {
     let Ok(status) = child.wait() else {
         return Err(ChildStop::Fault(Fault::WaitFailed));
     };
-    if !read {
+    if !is_read {
         return Err(ChildStop::Fault(Fault::WaitFailed));
     }
     match status.code().map(u8::try_from) {

@@ -12,7 +12,7 @@ use crate::own_files::OwnFiles;
 use crate::search::belongs;
 use crate::stamp::Stamp;
 use crate::stop::is_want_of_memory;
-use crate::strays::{Belonging, Besides, GIT_FOLDER, empty_trash, take_strays};
+use crate::stray_files::{Belonging, Besides, GIT_FOLDER, empty_trash, take_strays};
 use crate::trash::Trash;
 use hook_base::{SharedFile, Tree};
 use std::alloc::Global;

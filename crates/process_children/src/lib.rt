@@ -1,12 +1,12 @@
 //! Children that are real processes: `ProcessChildren` implements the trait `Children` with the system's
 //! programs and files.
 //!
-//! One call goes through four stations (`stations`). First the scratch folder is made to hold the files of
-//! the tree, the folder `.git`, links to what is installed, and nothing else (`keep`, `links`). What doesn't
-//! belong there is removed (`strays`, `trash`), and what is as it would be made stays (`fresh`). Then the
-//! words are started in it (`start`). Both outputs are read at the same time to their ends, and the child is
-//! waited for (`outputs`, `ending`). Last, the files are read back (`read_back`). The first fault decides,
-//! except that a call which was recorded meanwhile takes precedence over how the child ended.
+//! One call has four steps (`child_runner`). First the scratch folder is made to hold the files of the tree,
+//! the folder `.git`, links to what is installed, and nothing else (`kept_folder`, `links`). What doesn't
+//! belong there is removed (`stray_files`, `trash`), and what is as it would be made stays (`new_file_modes`).
+//! Then the words are started in it (`start`). Both outputs are read at the same time to their ends, and the
+//! child is waited for (`outputs`, `ending`). Last, the files are read back (`read_back`). The first fault
+//! decides, except that a call which was recorded meanwhile takes precedence over how the child ended.
 //!
 //! Each file is found and opened in its folder, which is held open meanwhile (`own_files`, `held_folder`). So
 //! no process can put a link or a fifo between a look and what is done there. The scratch folder itself is
@@ -17,14 +17,20 @@
 //! (`known_files`). This shows in the metadata of each (`stamp`), and in what the times of files show in this
 //! run (`file_ages`) and on this file system (`file_system`).
 //!
-//! Before the first call a folder is taken that no other run uses (`scratch_folder`). The file of `mark` says
-//! so. `removal` removes what a run left that a signal ended, and `input` shows whether a child of such a run
-//! is still alive.
+//! Children may be started ahead of their turns, several at once (`side_by_side`). Their answers are kept if
+//! none of them changed a file of the tree (`ahead`), and each is given in its turn, if the tree is still the
+//! same then.
+//!
+//! Before the first call a folder is taken that no other run uses (`scratch_folder`). The file of `run_mark`
+//! says so. `removal` removes what a run left that a signal ended, and `input` shows whether a child of such
+//! a run is still alive.
 //!
 //! What a process does can't be known beforehand. So the contracts speak of the counts alone, in the terms of
 //! `child_port`: any outcome may be reported (`specs/Anything.antt`).
 #![tactic(auto)]
 
+mod ahead;
+mod child_runner;
 mod contents;
 mod disk_paths;
 mod ending;
@@ -38,7 +44,6 @@ mod kept_folder;
 mod known_files;
 mod laid_folder;
 mod links;
-mod mark;
 mod new_file_modes;
 mod obstacle;
 mod outputs;
@@ -46,14 +51,16 @@ mod own_files;
 mod process_children;
 mod read_back;
 mod removal;
+mod run_mark;
 mod scratch_folder;
 mod search;
+mod side_by_side;
 mod stamp;
 mod start;
-mod stations;
 mod stop;
-mod strays;
+mod stray_files;
 mod trash;
 
+pub use ahead::ChildAsk;
 pub use obstacle::Obstacle;
 pub use process_children::ProcessChildren;

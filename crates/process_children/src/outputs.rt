@@ -46,25 +46,34 @@ impl Outputs {
     /// wait for room in a pipe (pipe(7)).
     pub(crate) fn read_from<O: Read + AsRawFd + Drop, E: Read + AsRawFd + Drop>(
         &mut self,
-        standard_output: O,
-        standard_error: E,
+        pipes: &mut Pipes<O, E>,
         piece: &mut [u8],
     ) -> io::Result<()> {
-        let mut standard_output = Some(standard_output);
-        let mut standard_error = Some(standard_error);
         for _ in 0..u64::MAX {
-            if standard_output.is_none() && standard_error.is_none() {
+            if pipes.are_closed() {
                 break;
             }
-            let ready = wait_for_either(number_of(&standard_output), number_of(&standard_error))?;
-            if ready.standard_output {
-                let count = read_or_close(&mut standard_output, piece)?;
-                self.keep(Stream::Output, &piece[..count]);
-            }
-            if ready.standard_error {
-                let count = read_or_close(&mut standard_error, piece)?;
-                self.keep(Stream::Error, &piece[..count]);
-            }
+            let mut both = pipes.asked();
+            wait_for_any(&mut both)?;
+            self.read_ready(pipes, both, piece)?;
+        }
+        Ok(())
+    }
+
+    /// Reads once from each of the pipes that has something, or is at its end.
+    pub(crate) fn read_ready<O: Read + AsRawFd + Drop, E: Read + AsRawFd + Drop>(
+        &mut self,
+        pipes: &mut Pipes<O, E>,
+        found: [pollfd; 2],
+        piece: &mut [u8],
+    ) -> io::Result<()> {
+        if found[0].revents != 0 {
+            let count = read_or_close(&mut pipes.output, piece)?;
+            self.keep(Stream::Output, &piece[..count]);
+        }
+        if found[1].revents != 0 {
+            let count = read_or_close(&mut pipes.error, piece)?;
+            self.keep(Stream::Error, &piece[..count]);
         }
         Ok(())
     }
@@ -137,6 +146,33 @@ fn read_or_close<P: Read + Drop>(pipe: &mut Option<P>, piece: &mut [u8]) -> io::
     Ok(count)
 }
 
+/// The pipes of a child's outputs. One that was read to its end is closed.
+#[derive(Drop)]
+pub(crate) struct Pipes<O: Drop, E: Drop> {
+    output: Option<O>,
+    error: Option<E>,
+}
+
+impl<O: Read + AsRawFd + Drop, E: Read + AsRawFd + Drop> Pipes<O, E> {
+    /// The two pipes of a child.
+    pub(crate) fn of(output: Option<O>, error: Option<E>) -> Pipes<O, E> {
+        Pipes { output, error }
+    }
+
+    /// Whether both were read to their ends.
+    pub(crate) fn are_closed(&self) -> bool {
+        self.output.is_none() && self.error.is_none()
+    }
+
+    /// What poll(2) is asked about them.
+    pub(crate) fn asked(&self) -> [pollfd; 2] {
+        [
+            asked(number_of(&self.output)),
+            asked(number_of(&self.error)),
+        ]
+    }
+}
+
 // The descriptor of an open pipe, or -1, which poll(2) ignores.
 fn number_of<P: AsRawFd>(pipe: &Option<P>) -> i32 {
     match pipe {
@@ -145,32 +181,21 @@ fn number_of<P: AsRawFd>(pipe: &Option<P>) -> i32 {
     }
 }
 
-// Which of the two has something to read, or is at its end.
-#[derive(Clone, Copy, Debug)]
-struct Ready {
-    standard_output: bool,
-    standard_error: bool,
-}
-
-fn wait_for_either(standard_output: i32, standard_error: i32) -> io::Result<Ready> {
-    let asked = |fd| pollfd {
+fn asked(fd: i32) -> pollfd {
+    pollfd {
         fd,
         events: POLLIN,
         revents: 0,
-    };
-    let mut both = [asked(standard_output), asked(standard_error)];
-    if libc::net::poll(&mut both, -1) < 0 {
+    }
+}
+
+/// Waits until one of the pipes has something to read, or is at its end. After a signal none may be (poll(2)).
+pub(crate) fn wait_for_any(pipes: &mut [pollfd]) -> io::Result<()> {
+    if libc::net::poll(pipes, -1) < 0 {
         let error = io::Error::from_raw_os_error(os::errno());
         if error.kind() != ErrorKind::Interrupted {
             return Err(error);
         }
-        return Ok(Ready {
-            standard_output: false,
-            standard_error: false,
-        });
     }
-    Ok(Ready {
-        standard_output: both[0].revents != 0,
-        standard_error: both[1].revents != 0,
-    })
+    Ok(())
 }

@@ -2,9 +2,10 @@
 
 ghost use Rattle.std.specs.Prelude.{◌≡◌, ◌+◌, ◌<◌, ◌^◌};
 
+use crate::ahead::ChildAsk;
+use crate::child_runner::ChildRunner;
 use crate::obstacle::Obstacle;
 use crate::scratch_folder::AtEnd;
-use crate::stations::Stations;
 use crate::stop::ChildStop;
 use child_port::{Children, Outcome};
 use hook_base::{OutOfMemory, RepoPath, Text, Tree};
@@ -17,7 +18,7 @@ use std::process::{Processes, SystemProcess};
 /// Their folder is taken for the first of them, and left when this value is dropped. Meanwhile a locked file
 /// next to it shows other processes that it is in use.
 pub struct ProcessChildren<R: Files<File = File> + AllocGlobal + Drop> {
-    stations: Stations<R>,
+    runner: ChildRunner<R>,
     completed: u64,
     failed: u64,
     ghost countable: { completed + failed < 2 ^ 64 },
@@ -44,7 +45,7 @@ impl<
         ensures no_faults { ⟦<ProcessChildren<R> as Children>⟧.fault_count result ≡ 0 }
     {
         ProcessChildren {
-            stations: Stations::new(runtime, folder, calls, AtEnd::FolderStays),
+            runner: ChildRunner::new(runtime, folder, calls, AtEnd::FolderStays),
             completed: 0,
             failed: 0,
         }
@@ -57,7 +58,7 @@ impl<
         ensures no_faults { ⟦<ProcessChildren<R> as Children>⟧.fault_count result ≡ 0 }
     {
         ProcessChildren {
-            stations: Stations::new(runtime, folder, None, AtEnd::FolderGoes),
+            runner: ChildRunner::new(runtime, folder, None, AtEnd::FolderGoes),
             completed: 0,
             failed: 0,
         }
@@ -74,7 +75,7 @@ impl<
         ensures faults { ⟦<ProcessChildren<R> as Children>⟧.fault_count self.new
             ≡ ⟦<ProcessChildren<R> as Children>⟧.fault_count self.old }
     {
-        self.stations.link(places);
+        self.runner.link(places);
     }
 
     /// From now on a child that has seen the file of this path, which represents Git's state, finds the
@@ -85,7 +86,7 @@ impl<
         ensures faults { ⟦<ProcessChildren<R> as Children>⟧.fault_count self.new
             ≡ ⟦<ProcessChildren<R> as Children>⟧.fault_count self.old }
     {
-        self.stations.tell_state(path);
+        self.runner.tell_state(path);
     }
 
     /// From now on all files of each child are read: none counts as unchanged by its times. For trials of
@@ -96,28 +97,44 @@ impl<
         ensures faults { ⟦<ProcessChildren<R> as Children>⟧.fault_count self.new
             ≡ ⟦<ProcessChildren<R> as Children>⟧.fault_count self.old }
     {
-        self.stations.read_everything();
+        self.runner.read_everything();
+    }
+
+    /// Starts children ahead of their turns on this tree, at most so many at once, and waits for all. What
+    /// each answers is kept. A later [`run`](Children::run) gives it in place of starting the child again, if
+    /// its words, seen files and tree are the same.
+    ///
+    /// Nothing is kept if a file of the tree was changed meanwhile, and of a child that gave no answer neither.
+    /// These children run in their turns. The children share the folder, so each may find new files that
+    /// others make; these are gone before the next turn.
+    pub fn start_ahead(&mut self, asks: &[ChildAsk<'_>], most: usize, tree: &Tree)
+        ensures calls { ⟦<ProcessChildren<R> as Children>⟧.call_count self.new
+            ≡ ⟦<ProcessChildren<R> as Children>⟧.call_count self.old }
+        ensures faults { ⟦<ProcessChildren<R> as Children>⟧.fault_count self.new
+            ≡ ⟦<ProcessChildren<R> as Children>⟧.fault_count self.old }
+    {
+        self.runner.start_ahead(asks, most, tree);
     }
 
     /// What kept the files of a child from being laid or read back, the first time that this was a fault.
     pub fn trouble(&self) -> Option<&Obstacle> {
-        self.stations.troubles().of_files()
+        self.runner.troubles().of_files()
     }
 
     /// The first word that could not be started, as the place of the trouble, with the system's error.
     pub fn unstarted(&self) -> Option<&Obstacle> {
-        self.stations.troubles().of_a_start()
+        self.runner.troubles().of_a_start()
     }
 }
 
 impl<R: Files<File = File> + AllocGlobal + Drop> Drop for ProcessChildren<R> {
     fn drop(self) {
         let ProcessChildren {
-            stations,
+            runner,
             completed: _,
             failed: _,
         } = self;
-        stations.leave();
+        runner.leave();
     }
 }
 
@@ -136,7 +153,7 @@ impl<R: Files<File = File> + Processes<Started = SystemProcess> + AllocGlobal + 
     ghost faults_at_most_calls = { λ children. omega arith };
 
     fn run(&mut self, words: &[Text], tree: &Tree, seen: &Tree) -> Result<Outcome, OutOfMemory> {
-        match self.stations.answer(words, tree, seen) {
+        match self.runner.answer(words, tree, seen) {
             Ok(answer) => {
                 self.completed += 1;
                 Ok(Outcome::Done(answer))

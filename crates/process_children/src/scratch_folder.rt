@@ -2,9 +2,9 @@
 
 use crate::disk_paths::{refuse_link, standing, standing_scratch};
 use crate::input;
-use crate::mark::{Marking, RunMark};
 use crate::obstacle::{Obstacle, at_place};
 use crate::removal::{put_away, remove};
+use crate::run_mark::{Marking, RunMark};
 use std::alloc::{AllocError, Global};
 use std::fs::{File, Files};
 use std::io::ErrorKind;

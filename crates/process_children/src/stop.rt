@@ -15,8 +15,8 @@ pub(crate) enum ChildStop {
 }
 
 impl ChildStop {
-    /// The stop for an error at a station: want of memory, whether the allocator or the system refused it,
-    /// and otherwise the station's fault.
+    /// The stop for an error at a step: want of memory, whether the allocator or the system refused it,
+    /// and otherwise the step's fault.
     pub(crate) fn of(error: &io::Error, fault: Fault) -> ChildStop {
         if is_want_of_memory(error) {
             ChildStop::OutOfMemory

@@ -1,0 +1,71 @@
+//! Answers of children that were started ahead of their turn.
+
+use crate::ending::ChildEnding;
+use hook_base::{Items, Text, Tree};
+use std::alloc::Global;
+
+/// What a child is asked, before its turn: its words, and the files of the tree that it has seen.
+#[derive(Clone, Copy)]
+pub struct ChildAsk<'a> {
+    /// The words of its command.
+    pub words: &'a [Text],
+    /// The files that identify it, together with its words.
+    pub seen: &'a Tree,
+}
+
+/// Answers of children that ran on one tree and changed nothing, each kept until its turn comes.
+#[derive(Drop)]
+pub(crate) struct AheadAnswers {
+    tree: Tree,
+    // The one whose turn comes first is the last.
+    answers: Vec<AheadAnswer>,
+}
+
+/// An answer, and what was asked.
+#[derive(Drop)]
+pub(crate) struct AheadAnswer {
+    /// The words of the command.
+    pub words: Items<Text>,
+    /// The files that it has seen.
+    pub seen: Tree,
+    /// How it ended.
+    pub ending: ChildEnding,
+}
+
+impl AheadAnswers {
+    /// None.
+    pub(crate) fn none(alloc: Global) -> AheadAnswers {
+        AheadAnswers {
+            tree: Tree::new(alloc),
+            answers: Vec::new(alloc),
+        }
+    }
+
+    /// These, of children that ran on this tree. The one whose turn comes first is the last.
+    pub(crate) fn of(tree: Tree, answers: Vec<AheadAnswer>) -> AheadAnswers {
+        AheadAnswers { tree, answers }
+    }
+
+    /// Takes the answer to these words and seen files on this tree, if there is one. Answers of another tree
+    /// are dropped.
+    pub(crate) fn take(&mut self, words: &[Text], seen: &Tree, tree: &Tree) -> Option<ChildEnding> {
+        if self.answers.is_empty() {
+            return None;
+        }
+        if self.tree != *tree {
+            self.answers.clear();
+            return None;
+        }
+        let at = self
+            .answers
+            .iter()
+            .rposition(|answer| answer.is_for(words, seen))?;
+        Some(self.answers.remove(at).ending)
+    }
+}
+
+impl AheadAnswer {
+    fn is_for(&self, words: &[Text], seen: &Tree) -> bool {
+        self.words.as_slice() == words && self.seen == *seen
+    }
+}
