@@ -49,7 +49,7 @@ def staged_in_git(place):
     """The files of the index, in the form that Git gives to working files."""
     top = os.fsdecode(git("rev-parse", "--show-toplevel")).removesuffix("\n")
     folder = os.fsdecode(git("rev-parse", "--absolute-git-dir")).removesuffix("\n")
-    rows = git("ls-files", "--full-name", "--stage", "-z", ":/").split(b"\0")[:-1]
+    rows = git("ls-files", "--full-name", "--stage", "-z", cwd=top).split(b"\0")[:-1]
     tree, plain, left_out = os.path.join(place, "tree"), {}, 0
     for row in rows:
         mode, number, stage, path = *row.partition(b"\t")[0].split(b" "), os.fsdecode(row.partition(b"\t")[2])

@@ -54,6 +54,21 @@ def hooks_of_others_stay(top, env):
     refused(git.bridge("install"), "no plain file")
 
 
+def a_link_to_our_own_hook_stays(top, env):
+    """The user has made the link, so neither command takes it for the hook's own file."""
+    git = Repository.made(os.path.join(top, "git"), env).installed()
+    git.configure(WORDS)
+    hook, shared = (os.path.join(git.folder, path) for path in (".git/hooks/pre-commit", ".git/shared"))
+    os.rename(hook, shared)
+    os.symlink("../shared", hook)
+    held = content(shared)
+    refused(git.bridge("install"), f"not installed, since {hook} is there: it is a link to ../shared")
+    refused(git.bridge("uninstall"), f"left as it is: {hook} is a link to ../shared")
+    same("the link", (os.readlink(hook), content(shared), os.listdir(os.path.dirname(hook)).count("pre-commit")), ("../shared", held, 1))
+    git.add("a.txt", "BAD\n")
+    not_made(git.commit(), "a.txt:1:BAD")
+
+
 def the_hook_lies_where_git_looks(top, env):
     for name, path in (("relative", "my hooks"), ("absolute", os.path.join(top, "everyone's"))):
         git = Repository.made(os.path.join(top, name), env)
@@ -552,6 +567,39 @@ def a_merge(top, env):
     holds_index(git)
 
 
+def a_message_of_a_merge_that_goes_away(top, env):
+    """While a merge is committed, another program removes the file that lists the conflicts."""
+    git = repository(top, env, WORDS, names_hook("files: 'txt$'"))
+    git.add("a.txt", "1\n")
+    made(git.commit())
+    git.git("branch", "side")
+    git.add("a.txt", "of ours\n")
+    made(git.commit())
+    git.git("checkout", "--quiet", "side")
+    git.add("a.txt", "of theirs\n")
+    git.add("theirs.txt", "theirs\n")
+    made(git.commit())
+    git.git("checkout", "--quiet", "main")
+    same("the merge", git.run("git", "merge", "--quiet", "side").status, 1)
+    git.add("a.txt", "BAD\n")
+    path, folder = os.path.join(git.folder, ".git/MERGE_MSG"), os.path.join(top, "tools")
+    message, awk = content(path), quoted(shutil.which("awk", path=env["PATH"]))
+    removes = 'for word; do case $word in */MERGE_MSG) rm -f "$word" ;; esac; done'
+    git.write(os.path.join(folder, "awk"), f'#!/bin/sh\n{removes}\nexec {awk} "$@"\n', 0o755)
+    meanwhile = {"PATH": folder + ":" + env["PATH"]}
+    for goes in (lambda: git.bridge("run", env=meanwhile), lambda: git.commit("-m", "m", env=meanwhile)):
+        git.write(path, message)
+        answer = goes()
+        check(not os.path.exists(path) and answer.status, f"the message is there, or the run passes: {answer!r}")
+        check("hookhost-git: cannot list the files of the merge" in answer.err and not answer.out, f"{answer!r}")
+    # Once it is gone, hooks get what differs from HEAD.
+    not_made(git.commit("-m", "m"), "a.txt:1:BAD")
+    git.add("a.txt", "of both\n")
+    answer = git.commit("-m", "m")
+    made(answer)
+    same("the files without a message", names_in(answer), ["a.txt", "theirs.txt"])
+
+
 # ---- locks, and stores that aren't as they were left
 
 
@@ -654,9 +702,11 @@ def shellcheck(top, env):
 
 
 CASES = [
-    install_and_uninstall, hooks_of_others_stay, the_hook_lies_where_git_looks, the_script_lies_anywhere, the_program_is_looked_for, the_words,
+    install_and_uninstall, hooks_of_others_stay, a_link_to_our_own_hook_stays, the_hook_lies_where_git_looks, the_script_lies_anywhere,
+    the_program_is_looked_for, the_words,
     a_day, run_prints_the_report, a_second_try_starts_no_child, which_files, the_first_commit, no_configuration, skipped_hooks, working_trees_of_hard_names,
     modes_follow_the_index, links_and_submodules, hard_names, paths_change_places, large_files, many_names_are_left_out, files_have_their_working_form,
     fixes_of_filtered_files, other_objects_and_indexes, the_index_that_git_hands_in, working_trees, a_bare_repository_with_a_working_tree, a_merge,
-    another_at_work, a_program_that_ends_otherwise, what_was_synced_is_looked_at, a_broken_store, other_shells, shellcheck,
+    a_message_of_a_merge_that_goes_away, another_at_work, a_program_that_ends_otherwise, what_was_synced_is_looked_at, a_broken_store,
+    other_shells, shellcheck,
 ]

@@ -3,7 +3,8 @@ text of another program is lost by it."""
 import os
 import shutil
 
-from git_bridge_repository import BLANKS, BRIDGE, CONFIGURATION, Repository, Wrong, check, holds_index, made, not_made, quoted, refused, repository, same
+from git_bridge_repository import (BLANKS, BRIDGE, CONFIGURATION, Repository, Wrong, check, holds_index, made, not_made, quoted, refused,
+                                   repository, same, shell)
 
 MOST_REMOVED = 10
 TIDY = "id: tidy, name: Tidy, language: system, entry: rm -f --, files: 'tmp$', require_serial: true"
@@ -40,6 +41,55 @@ def fixes_are_written(top, env):
     holds_index(git)
 
 
+def modes_outlive_the_umask(top, env):
+    """A fix leaves a file the rights that the umask takes from new files."""
+    git = repository(top, env)
+    modes = {"all.txt": 0o666, "group.txt": 0o664, "program.txt": 0o777, "read only.txt": 0o444}
+    for umask in ("022", "077"):
+        for path, mode in modes.items():
+            git.add(path, f"{umask} \n", mode)
+        answer = git.run("sh", "-c", 'umask "$1" && exec "$0" run', BRIDGE, umask)
+        same(f"under {umask}", (answer.status, answer.lines()), (1, [f"fixed: {path}" for path in sorted(modes)]))
+        found = {path: held for path, held in git.working_files().items() if path != CONFIGURATION}
+        same(f"the files under {umask}", found, {path: (mode, f"{umask}\n".encode()) for path, mode in modes.items()})
+
+
+# Refuses to remove a folder that may not be written, as it does for a user who isn't root.
+REMOVES = """#!/bin/sh
+for last; do :; done
+[ ! -d "$last" ] || [ -z "$(find "$last" -prune ! -perm -200)" ] || exit 1
+exec {command} "$@"
+"""
+
+
+def options_come_before_operands(top, env):
+    """With POSIXLY_CORRECT a command takes no option after its first operand. Then the same is said and done."""
+    calls = "id: calls, name: Calls, language: system, pass_filenames: false, always_run: true, "
+    git = repository(top, env, BLANKS, TIDY, calls + shell("git ls-files && chmod -R 000 \"$(git rev-parse --git-dir)\""))
+    git.add("a.txt", "x \n")
+    git.add("read only.txt", "y \n", 0o444)
+    git.add("b.tmp", "b\n")
+    git.git("config", "hookhost.versions", "echo 1")
+    git.git("config", "hookhost.link", "linked")
+    git.write(os.path.join(top, "tools/rm"), REMOVES.format(command=quoted(shutil.which("rm", path=env["PATH"]))), 0o755)
+    git.env = env | {"PATH": os.path.join(top, "tools") + ":" + env["PATH"]}
+    files = git.working_files()
+
+    def done(variables):
+        git.forget()
+        git.env = git.env | variables
+        for path, (mode, held) in files.items():
+            git.write(path, held, mode)
+        answers = [git.bridge(*words) for words in (["run", "--show-diff-on-failure"], ["uninstall"], ["install"])]
+        return [(answer.status, answer.out, answer.err) for answer in answers], git.working_files(), sorted(os.listdir(git.home()))
+
+    wanted = done({})
+    lines = [f"hookhost-git: {line}" for line in ("fixed: a.txt", "removed: b.tmp", "fixed: read only.txt")]
+    same("the lines", wanted[0][0][2].splitlines(), lines)
+    check("repository" not in wanted[2], "the repository of hooks is left")
+    same("with POSIXLY_CORRECT", done({"POSIXLY_CORRECT": "1"}), wanted)
+
+
 def unstaged_changes_stay(top, env):
     git = repository(top, env)
     for path in ("a's.txt", "b.txt", "gone.txt", "in/c.txt", "linked.txt"):
@@ -72,6 +122,32 @@ def a_hook_removes_files(top, env):
     not_made(answer)
     same("the lines", [line.partition(", which")[0] for line in answer.lines()], ["removed: a.tmp", "left as it is: b.tmp", "removed already, and not staged: c.tmp"])
     same("the files", sorted(git.working_files()), [CONFIGURATION, "b.tmp"])
+
+
+def links_that_a_hook_removes(top, env):
+    """Tracked links stay in the working tree and in the commit, as does a link in the place of a file that a hook removes."""
+    removes = "rm -f link linked; git rm -q --cached --ignore-unmatch link linked; rm -f -- \"$@\""
+    git = repository(top, env, "id: removes, name: Removes, language: system, files: 'tmp$', require_serial: true, " + shell(removes))
+    for path in ("a.tmp", "b.tmp", "c.tmp", "kept"):
+        git.add(path, "x\n")
+    for path in ("link", "linked"):
+        os.symlink("kept", os.path.join(git.folder, path))
+        git.git("add", path)
+    git.git("config", "hookhost.link", "linked")
+    for path, leads_to in (("b.tmp", os.path.join(git.folder, "kept")), ("c.tmp", "nowhere")):
+        os.remove(os.path.join(git.folder, path))
+        os.symlink(leads_to, os.path.join(git.folder, path))
+    before, staged = git.working_files(), git.git("ls-files", "--stage")
+    answer = git.commit()
+    not_made(answer)
+    left = [f"left as it is: {path}, which isn't what is staged; the hooks remove it" for path in ("b.tmp", "c.tmp")]
+    same("the lines", answer.lines(), ["left out: 2 links", "removed: a.tmp", *left])
+    before.pop("a.tmp")
+    same("the files", (git.working_files(), git.git("ls-files", "--stage")), (before, staged))
+    git.git("rm", "--quiet", "--cached", "--force", "a.tmp", "b.tmp", "c.tmp")
+    git.add("d.tmp.txt", "x\n")
+    made(git.commit())
+    same("the links of the commit", [line.split()[0] for line in git.git("ls-tree", "HEAD", "link", "linked").splitlines()], ["120000"] * 2)
 
 
 def new_files_are_dropped(top, env):
@@ -151,7 +227,7 @@ def typing_commands(top, env):
     return {"PATH": folder + ":" + env["PATH"], "HOOKHOST": os.path.join(folder, "hookhost"), "TYPE_COUNT": os.path.join(top, "count")}
 
 
-def typed_into(git, typing, links, at, file):
+def typed_into(git, typing, links, at, file, fixed):
     """Runs the hooks on a file into which a line is written before a command of that number, and answers whether there was one."""
     copy = Repository(f"{git.folder} {links} {at}", git.env)
     shutil.copytree(git.folder, copy.folder)
@@ -164,7 +240,7 @@ def typed_into(git, typing, links, at, file):
     with open(typing["TYPE_COUNT"], encoding="utf-8") as counted:
         is_typed = len(counted.readlines()) >= at
     lines = [line for line in answer.lines() if file in line]
-    whole = (b"x\n" if file.endswith("txt") else None) if lines and lines[0].startswith(("fixed: ", "removed: ")) else before
+    whole = fixed if lines and lines[0].startswith(("fixed: ", "removed: ")) else before
     same("the status", answer.status, 1)
     if is_typed:
         check(any(found and found.endswith(b"typed\n") for found in (held, *aside)), f"what was written is lost: {held!r}, {aside!r}, {answer!r}")
@@ -178,14 +254,14 @@ def typed_into(git, typing, links, at, file):
 
 def nothing_that_is_written_meanwhile_is_lost(top, env):
     typing = typing_commands(top, env)
-    for file, hook in (("a.txt", BLANKS), ("b.tmp", TIDY)):
+    for file, hook, fixed in (("a.txt", BLANKS, b"x\n"), ("b.tmp", TIDY, None)):
         git = repository(top, env, hook, name=file)
         git.add(file, "x \n")
         same("the first run", git.bridge("run").status, 1)
         git.write(file, "x \n")
         for links in ("anywhere", "beside"):
             try:
-                count = next(at for at in range(1, MOST_COMMANDS) if not typed_into(git, typing, links, at, file))
+                count = next(at for at in range(1, MOST_COMMANDS) if not typed_into(git, typing, links, at, file, fixed))
             except Wrong as wrong:
                 raise Wrong(f"with links {links}, {file}: {wrong}") from None
             check(count > 8, f"only {count} commands are started")
@@ -224,6 +300,7 @@ def a_killed_fix_is_cleared_up(top, env):
 
 
 CASES = [
-    fixes_are_written, unstaged_changes_stay, a_hook_removes_files, new_files_are_dropped, many_removed_files_stay, diff_of_fixes,
+    fixes_are_written, modes_outlive_the_umask, options_come_before_operands, unstaged_changes_stay, a_hook_removes_files,
+    links_that_a_hook_removes, new_files_are_dropped, many_removed_files_stay, diff_of_fixes,
     nothing_that_is_written_meanwhile_is_lost, without_links_nothing_is_fixed, a_killed_fix_is_cleared_up,
 ]
