@@ -31,7 +31,7 @@ FILES = [
     (".pre-commit-config.yaml", "The configuration. try reads the file that it is given and check the one of the current folder; \
 run, run-files and commit read the staged one."),
     (".hookhost/store.db", ["The commands on a repository keep it ", "`store.db` is a store or ", "What a killed `init` "]),
-    (".hookhost/store.db-wal", ["SQLite's log lies beside it, "]),
+    (".hookhost/store.db-wal", ["SQLite's log lies next to it, "]),
     (".hookhost/lock", ["'hookhost: cannot use .hookhost/lock' says "]),
     (".git/info/exclude", "In a checkout of Git the line .hookhost/ of this file keeps the repository out of Git. init adds it, and so does a later \
 command that changes something, if it is missing. A .hookhost/.gitignore that an earlier hookhost wrote is removed then."),

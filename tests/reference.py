@@ -34,7 +34,7 @@ LIMITS = [
     ("configuration", "{} hooks", "hook_config", "most_hooks", 0),
     ("path", "{} bytes", "hook_base", "most_path_bytes", 0),
     ("file, message", "16 MiB ({} bytes)", "hook_base", "most_file_bytes", 0),
-    ("first line of a script, behind `#!`", "{} bytes", "file_tags", "most_shebang_bytes", 0),
+    ("first line of a script, after `#!`", "{} bytes", "file_tags", "most_shebang_bytes", 0),
     ("name of a hook in a report", "1 MiB ({} bytes)", "report_text", "most_name_bytes", 0),
     ("[command of a hook](#the-parts-of-a-command), with its names", "{} bytes", "hook_run", "most_command_bytes", 0),
     ("[command of a hook](#the-parts-of-a-command), with its names", "{} names", "hook_run", "most_names", 0),

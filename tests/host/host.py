@@ -1,6 +1,6 @@
 #!/usr/bin/env python3
-"""Checks the commands on a repository with the built program. The cases are of files with hard names, files and folders that can't be used,
-several programs at once, kills, limits of the cache, and how often the disk is waited for.
+"""Checks the commands on a repository with the built program. The cases are of files with hard names, as many files as may be, files and
+folders that can't be used, several programs at once, kills, limits of the cache, and how often the disk is waited for.
 
 Usage: tests/host/host.py [--kills | --no-kills] [KILLS [PROGRAM [STORE_TRIAL]]]   (default: 30 kills of each command, and the built
 programs)
@@ -28,20 +28,23 @@ import host_checkout
 import host_explain
 import host_files
 import host_folder
+import host_init
 import host_kills
 import host_limit
 import host_links
 import host_log
 import host_names
+import host_pages
 import host_put_kills
 import host_runs
 import host_tracked
 import host_unusable
 import host_version_1
+import host_words
 from host_program import Wrong
 
 KILLS = [host_kills, host_put_kills, host_limit, host_version_1]
-OTHERS = [host_names, host_unusable, host_folder, host_checkout, host_tracked, host_calls, host_at_once, host_log, host_files, host_runs, host_links, host_explain, host_answers]
+OTHERS = [host_names, host_words, host_unusable, host_folder, host_init, host_checkout, host_tracked, host_calls, host_at_once, host_log, host_pages, host_files, host_runs, host_links, host_explain, host_answers]
 TOPICS = {"": OTHERS + KILLS, "--no-kills": OTHERS, "--kills": KILLS}
 
 

@@ -5,7 +5,7 @@ import os
 from kept_answers import SELECT_ROWS, SELECT_USES
 from store_cases import LARGE_CHILDREN, LARGE_STORY, ONE, ONE_STAGED, SHOWN, TOO_LARGE, TOO_MANY, largest_answers
 from store_model import key_of, model_of
-from store_program import answers, ask, check, check_file, check_story, rows_of_model, shown
+from store_program import answers, ask, check, check_file, check_story, files_of, rows_of, rows_of_model, shown
 
 
 def refuses_what_is_too_large(folder):
@@ -70,6 +70,27 @@ def refuses_more_files_than_a_tree_may_have(folder):
               f"{count} files: answered {given!r}")
 
 
+# More changes than a new store keeps answers.
+MANY_CHANGES = 10_001
+
+
+def makes_many_changes_at_once(folder):
+    """Each of many files that a host adds together is there, and after as many other changes by the store itself only those that they
+    left. If the last change is refused, none is made."""
+    path, names = os.path.join(folder, "store.db"), [f"many/{at:05}" for at in range(MANY_CHANGES)]
+    added = " | ".join(f"add - {name} {at % 7}" for at, name in enumerate(names))
+    others = " | ".join(f"remove {name}" if at % 2 else f"add executable {name} {at % 5}" for at, name in enumerate(names))
+    first = files_of({name: ("plain", str(at % 7)) for at, name in enumerate(names)})
+    then = files_of({name: ("executable", str(at % 5)) for at, name in enumerate(names) if at % 2 == 0})
+    refused = f"refused\tNotStaged\tnone\tat\t{MANY_CHANGES}"
+    story = [("create", f"edit-all {added}", "ok", first), ("open", f"stage-all {others} | remove many/x", refused, first),
+             ("open", f"stage-all {others}", "ok", then)]
+    for begin, line, wanted, staged in story:
+        given = answers(path, [begin, line, "close"])
+        check(given == ["ok", wanted, "ok"], f"{line[:50]!r} is answered {given!r:.500}")
+        check(rows_of(path)["staged"] == staged, f"after {line[:50]!r} other files are staged")
+
+
 def refuses_more_commits_than_a_store_may_have(folder):
     """The 100,000th commit is taken, one more is refused and leaves the store as it was, and its file can be opened."""
     path, model = os.path.join(folder, "store.db"), model_of(["create", "stage plain a.txt 1"])
@@ -87,4 +108,4 @@ def refuses_more_commits_than_a_store_may_have(folder):
 
 
 CASES = [refuses_what_is_too_large, refuses_answers_that_are_too_large, stops_at_an_answer_that_is_too_large,
-         refuses_more_files_than_a_tree_may_have, refuses_more_commits_than_a_store_may_have]
+         refuses_more_files_than_a_tree_may_have, makes_many_changes_at_once, refuses_more_commits_than_a_store_may_have]
