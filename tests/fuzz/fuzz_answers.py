@@ -94,7 +94,17 @@ FAILED = {"": REPORT, "try": REPORT, "run": REPORT, "run-files": REPORT, "commit
 # The lines that report a commit that isn't there, and bytes that aren't.
 MISSING = {"show": rb"no commit \d+", "cat": rb"no commit \d+|no [^\n]* in commit \d+|no fixed bytes of [^\n]*"}
 AT = rb'hookhost: at [^\x00-\x1f\x7f]*\n'
+# The bytes with an escape of their own in a path that is shown in quotes.
+ESCAPES = {7: rb"\a", 8: rb"\b", 9: rb"\t", 10: rb"\n", 11: rb"\v", 12: rb"\f", 13: rb"\r", 34: rb'\"', 92: rb"\\"}
 STOPPED_BEHIND_A_COMMIT = rb"(?:hookhost: [^\n]*\n)?"
+
+
+def told_path(path):
+    """A path as a line shows it: in double quotes, with the escapes of C, if it has control bytes, double quotes or backslashes."""
+    is_control = lambda byte: byte < 32 or byte == 127
+    if not any(is_control(byte) or byte in ESCAPES for byte in path):
+        return path
+    return b'"' + b"".join(ESCAPES.get(byte) or (b"\\%03o" % byte if is_control(byte) else bytes([byte])) for byte in path) + b'"'
 
 
 def is_unusable(words, told):
@@ -103,8 +113,8 @@ def is_unusable(words, told):
     command, values = command_of(words), [word.encode() if isinstance(word, str) else word for word in words[1:]]
     if command in ("check", "explain", "try", ""):
         known = [CONFIGURATION.encode()] if command in ("check", "explain") and not values else []
-        return told in [*known, *values]
-    return command == "add" or told in [STORE.encode(), LOCK.encode(), *values, *(value.partition(b"=")[2] for value in values)]
+        return told in map(told_path, [*known, *values])
+    return command == "add" or told in map(told_path, [STORE.encode(), LOCK.encode(), *values, *(value.partition(b"=")[2] for value in values)])
 
 
 def is_refusal(words, err):

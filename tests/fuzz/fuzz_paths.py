@@ -2,7 +2,7 @@
 import os
 
 import fuzz_inputs
-from fuzz_answers import CONFIGURATION, MOST_PATH_BYTES, PATH_FAULTS, Answer, is_no_text
+from fuzz_answers import CONFIGURATION, MOST_PATH_BYTES, PATH_FAULTS, Answer, is_no_text, told_path
 from fuzz_play import NO_TEXT, entry_at
 from host_program import check
 
@@ -72,9 +72,9 @@ def adds(case, path, staged):
     words, kind, fault = ["add", "--", path], stands_for(case, path), fault_of(path)
     if is_no_text(path):
         case.has(words, NO_TEXT)
-    elif kind == "nothing":
-        case.has(words, Answer(3, b"", b"hookhost: cannot use " + path + b"\n"))
-    elif kind == "file" and fault is not None:
+    elif kind == "nothing" and path:
+        case.has(words, Answer(3, b"", b"hookhost: cannot use " + told_path(path) + b"\n"))
+    elif kind in ("file", "nothing") and fault is not None:
         case.refuses(words, "BadPath", fault)
     elif kind == "file" and clashes(path, staged):
         case.refuses(words, "Clash")
@@ -164,7 +164,7 @@ def reads_no_end(case):
         case.has([command, b"--paths-from=" + ENDLESS], unusable)
     os.symlink(ENDLESS, os.path.join(os.fsencode(case.folder), b"endless"))
     case.changes()
-    case.refuses(["add", b"endless"], "TooLarge")
+    case.has(["add", b"endless"], Answer(3, b"", b"hookhost: cannot use endless\n"))
     case.has(["try", CONFIGURATION, ENDLESS], unusable)
     case.refuses(["try", ENDLESS, "a"], "Config")
     check(case.run("explain", ENDLESS).status != 0, "a configuration without an end is taken")

@@ -56,9 +56,9 @@ def keeps_the_longest_path_that_the_system_opens(folder):
 
 def refuses_control_bytes(folder):
     do(folder, "init")
-    for byte in ("\n", "\t", "\x01", "\x1f", "\x7f"):
+    for byte, told in (("\n", "\\n"), ("\t", "\\t"), ("\x01", "\\001"), ("\x1f", "\\037"), ("\x7f", "\\177")):
         name = f"a{byte}b"
-        refuses(folder, ["add", name], f"cannot use {name}")
+        refuses(folder, ["add", name], f'cannot use "a{told}b"')
         write(folder, name, b"1")
         for word in ("add", "rm", "cat"):
             refuses(folder, [word, name], "refused: 3 BadPath 6")

@@ -63,7 +63,6 @@ pub(crate) fn call_of(
     update: Update,
     names: Items<Text>,
 ) -> Result<StoreCall, CommandStop>
-    ensures call { IfOk result (IsCallOf update names) }
     ensures stopped { IfErr result (IsStopOfCall update) }
 {
     match update {
@@ -127,7 +126,6 @@ fn add_call<R: Files + AllocGlobal>(
     names: Items<Text>,
     mode: Option<Mode>,
 ) -> Result<StoreCall, CommandStop>
-    ensures call { IfOk result (IsAddCall paths mode) }
     ensures stopped { IfErr result IsStopOfReading }
 {
     match paths {
