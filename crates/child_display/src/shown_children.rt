@@ -4,7 +4,7 @@ ghost use Rattle.std.specs.Prelude.{◌≡◌};
 
 use crate::ShownHook;
 use crate::line::{clearing, line_of_child, line_of_hook};
-use child_port::{Children, News, Outcome};
+use child_port::{ChildAsk, Children, News, Outcome};
 use hook_base::{OutOfMemory, Text, Tree};
 use std::alloc::Global;
 use std::io::Write;
@@ -111,6 +111,21 @@ impl<C: Children, W: Write> Children for ShownChildren<C, W> {
             }),
             Err(OutOfMemory) => None,
         };
+    }
+
+    fn at_once(&self) -> usize {
+        self.inner.at_once()
+    }
+
+    fn start_ahead(&mut self, asks: Vec<ChildAsk>, tree: &Tree) {
+        let before = self.inner.calls();
+        let (Some(terminal), Some(first)) = (&mut self.terminal, asks.first()) else {
+            self.inner.start_ahead(asks, tree);
+            return;
+        };
+        terminal.show(self.hook.as_ref(), first.words.as_slice(), before);
+        self.inner.start_ahead(asks, tree);
+        terminal.clear();
     }
 }
 

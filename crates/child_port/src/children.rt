@@ -1,6 +1,6 @@
 //! The trait of everything that starts children.
 
-use crate::{News, Outcome};
+use crate::{ChildAsk, News, Outcome};
 use hook_base::{OutOfMemory, Text, Tree};
 
 /// Starts children, and reports what became of each.
@@ -53,6 +53,21 @@ pub trait Children {
     /// Receives the news of a run while that goes on; by default it ignores them. News decide nothing: the
     /// outcomes that may be reported stay the same, and so do the counts.
     fn hear(&mut self, _news: News)
+        ensures calls { call_count self.new ≡ call_count self.old }
+        ensures faults { fault_count self.new ≡ fault_count self.old }
+        ensures same { SameTells (tells self.old) (tells self.new) }
+    {}
+
+    /// How many children it starts at once, ahead of their turns. With 1, which is the default, the run needn't
+    /// foresee any.
+    fn at_once(&self) -> usize {
+        1
+    }
+
+    /// Receives what the run asks next on this tree, if no child changes it; by default it ignores that. It
+    /// may start these children ahead of their turns, and answer `run` with what they answered. That decides
+    /// nothing: the outcomes that may be reported stay the same, and so do the counts.
+    fn start_ahead(&mut self, _asks: Vec<ChildAsk>, _tree: &Tree)
         ensures calls { call_count self.new ≡ call_count self.old }
         ensures faults { fault_count self.new ≡ fault_count self.old }
         ensures same { SameTells (tells self.old) (tells self.new) }

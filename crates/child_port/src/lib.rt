@@ -3,8 +3,8 @@
 //!
 //! `Outcome` is what became of a child, `Answer` what a completed one answered, and `Fault` how one failed.
 //! [`seen_of`] says which files a child has seen, [`is_stray`] whether an answer changes others, and
-//! [`plain_word`] which path a word may be. `News` is what a run reports of itself while it goes on.
-//! `TableChildren` answers from a table of `TableRow`s, and `FuseChildren` answers as others do, except for
+//! [`plain_word`] which path a word may be. `News` is what a run reports of itself while it goes on, and
+//! `ChildAsk` what it may ask next. `TableChildren` answers from a table of `TableRow`s, and `FuseChildren` answers as others do, except for
 //! one call.
 //!
 //! The contracts cite `specs/Telling.antt`, `specs/Outcomes.antt`, `specs/Seen.antt`, `specs/Tables.antt`,
@@ -13,6 +13,7 @@
 #![tactic(auto)]
 
 mod answer;
+mod child_ask;
 mod children;
 mod fault;
 mod fuse;
@@ -29,6 +30,7 @@ mod table_row;
 mod words;
 
 pub use answer::{Answer, Outcome};
+pub use child_ask::ChildAsk;
 pub use children::Children;
 pub use fault::Fault;
 pub use fuse::FuseChildren;

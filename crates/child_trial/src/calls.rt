@@ -2,11 +2,11 @@
 
 use crate::outcomes::{measured_text, outcome_text};
 use crate::runs::{ask_of, run_text};
-use child_port::{Children, Outcome};
-use hook_base::{Bytes, Content, FileEntry, Mode, OutOfMemory, RepoPath, Text, Tree};
+use child_port::{ChildAsk, Children, Outcome};
+use hook_base::{Bytes, Content, FileEntry, Items, Mode, OutOfMemory, RepoPath, Text, Tree};
 use hook_config::{Config, read_config};
 use hook_run::run_hooks;
-use process_children::{ChildAsk, Obstacle, ProcessChildren};
+use process_children::{Obstacle, ProcessChildren};
 use result_book::{Book, ListBook};
 use std::alloc::Global;
 use store_faults::FIRST_LIMIT;
@@ -106,30 +106,26 @@ impl Play {
             return Err(Stop::BadLine);
         };
         let most = number_of(most.as_slice())? as usize;
-        let commands = self.commands_of(commands)?;
-        let seen = Tree::new(self.alloc);
-        let mut asks = Vec::new(self.alloc);
-        for words in &commands {
-            asks.push(ChildAsk {
-                words: words.as_slice(),
-                seen: &seen,
-            })?;
-        }
-        self.children.start_ahead(asks.as_slice(), most, &self.tree);
+        let asks = self.asks_of(commands)?;
+        self.children.run_at_once(most);
+        self.children.start_ahead(asks, &self.tree);
         Ok(Vec::new(self.alloc))
     }
 
-    // The words of commands that are lines for a shell.
-    fn commands_of(&self, lines: &[Vec<u8>]) -> Result<Vec<Vec<Text>>, Stop> {
-        let mut commands = Vec::new(self.alloc);
+    // What children are asked whose commands are lines for a shell. They see no file.
+    fn asks_of(&self, lines: &[Vec<u8>]) -> Result<Vec<ChildAsk>, Stop> {
+        let mut asks = Vec::new(self.alloc);
         for line in lines {
             let mut words = Vec::new(self.alloc);
             for word in ["sh", "-c", text_of(line.as_slice())?] {
                 words.push(Text::copy_of(self.alloc, word)?)?;
             }
-            commands.push(words)?;
+            asks.push(ChildAsk {
+                words: Items::from(words),
+                seen: Tree::new(self.alloc),
+            })?;
         }
-        Ok(commands)
+        Ok(asks)
     }
 
     // Runs a child with these words, and answers only the numbers of its result, for a script that measures.

@@ -1,5 +1,5 @@
 -- What the calls of a store make of it as a book.
-use Rattle.std.specs.Prelude.{◌≡◌, ◌⊎◌, ◌≤◌, ℕ, true, false, not, ◌||◌, List, [], ◌∷◌, map, length, is_some, Option, None, Some, Result, Ok, Err, IsTrue, option_map, refl}
+use Rattle.std.specs.Prelude.{◌≡◌, ◌⊎◌, ◌≤◌, ℕ, Bool, true, false, not, ◌||◌, List, [], ◌∷◌, map, length, is_some, Option, None, Some, Result, Ok, Err, IsTrue, option_map, refl}
 use Rattle.std.proofs.Common.{ap, sym, ◌∙◌, inl, inr, subst, arith}
 use Rattle.std.proofs.lemmas.List.{length-map}
 use Rattle.std.specs.List.{list_any}
@@ -29,7 +29,7 @@ use Rattle.repo_store.proofs.RememberLemmas.{still_there}
 use Rattle.repo_store.specs.SoundAnswers.{KeepToSeen}
 use Rattle.repo_store.proofs.AlikeLemmas.{left_alike}
 use Rattle.result_book.specs.Calls.{AfterFind, AfterForget, AfterPut, brought, with_row}
-use Rattle.result_book.specs.Contents.{Contents, Finds, IsBook, count_of, with_rows}
+use Rattle.result_book.specs.Contents.{Contents, Finds, IsBook, IsHeld, count_of, with_rows}
 use Rattle.result_book.specs.OrderLemmas.{after_found, after_putting}
 use Rattle.repo_store.specs.RestLemmas.{rests_itself, rests_on}
 use Rattle.repo_store.specs.StoreBooks.{IsAtRest, LeavesRepository, MayLeave, MayRemember, answer_in, given_answer, remembered_by, row_of}
@@ -47,6 +47,21 @@ module _ (words : List (List ℕ)) (seen : List File) where
       → Finds words seen (remembered_by kept) given
   finds_from kept given found given_is is =
       subst (Finds words seen (remembered_by kept)) (sym (given_is ∙ ap (option_map answer_in) is)) (finds_as kept.limit kept.answers (answer_for words seen kept.answers) refl)
+
+  held_as : (limit : ℕ) (answers : List KeptAnswer) (found : Option KeptAnswer) → answer_for words seen answers ≡ found
+      → IsHeld words seen (with_rows limit (map row_of answers)) (is_some found)
+  held_as limit answers None is = lacks_from words seen answers is
+  held_as limit answers (Some found) is = (given_answer found, has_from words seen answers found is)
+
+  pub held_from : (kept : Kept) (held : Bool) → held ≡ is_some (answer_for words seen kept.answers) → IsHeld words seen (remembered_by kept) held
+  held_from kept held is = subst (IsHeld words seen (remembered_by kept)) (sym is) (held_as kept.limit kept.answers (answer_for words seen kept.answers) refl)
+
+-- if two options are the same but for what they hold, both hold something or none does
+pub some_alike : {A B C : Type 0} (f : A → C) (g : B → C) (x : Option A) (y : Option B) → option_map f x ≡ option_map g y → is_some x ≡ is_some y
+some_alike f g None None same = refl
+some_alike f g None (Some y) same = absurd (cc)
+some_alike f g (Some x) None same = absurd (cc)
+some_alike f g (Some x) (Some y) same = refl
 
 -- ---- what is remembered
 

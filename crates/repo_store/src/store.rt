@@ -476,6 +476,17 @@ impl<S: Alter> Store<S> {
         Ok(Some(found.answer))
     }
 
+    /// Whether an answer is cached for the words of a command and the files that its child saw. Nothing
+    /// changes. Memory may refuse it, and so may contents of others under a digest of the key (`Collision`).
+    pub fn has_answer(&self, words: &[Text], seen: &Tree) -> Result<bool, StoreFault>
+        ensures held { IfOk result (λ held. held ≡ is_some (answer_for words.now seen.now self.now.kept.answers)) }
+        ensures why { IfErr result (IsRefusal ⊥ ⊥
+            (AnyCollides (contents_of_key words.now seen.now) self.now.kept.contents)) }
+    {
+        let found = self.lists.find_answer(words, seen)?;
+        Ok(found.is_some())
+    }
+
     // Brings the answer of a key to the front. There must be one, and a tick must be left.
     fn use_answer(&mut self, words: [u8; 32], seen: [u8; 32]) -> Result<(), StoreFault>
         requires there { Any (λ (answer : KeptAnswer). key_of answer ≡ (words, seen)) self.old.kept.answers }

@@ -39,6 +39,11 @@ impl<S: Alter> Book for Store<S> {
         Ok(given(found))
     }
 
+    fn holds(&self, words: &[Text], seen: &Tree) -> Result<bool, BookFault> {
+        let held = self.has_answer(words, seen)?;
+        Ok(held)
+    }
+
     fn put(&mut self, words: &[Text], seen: &Tree, answer: &Answer) -> Result<(), BookFault> {
         self.answer_put(words, seen, handed(answer))?;
         Ok(())

@@ -1,6 +1,6 @@
 -- The place of a key among rows of which the most recently used is the last: how it is found, and what it makes of them to move a
 -- row to the end or to put one there.
-use Rattle.std.specs.Prelude.{◌≡◌, ◌⊎◌, ◌<◌, ◌≤◌, ℕ, zero, suc, true, false, not, List, [], ◌∷◌, ◌++◌, length, reverse, take, cond, refl}
+use Rattle.std.specs.Prelude.{◌≡◌, ◌⊎◌, ◌<◌, ◌≤◌, ℕ, zero, suc, true, false, not, List, [], ◌∷◌, ◌++◌, length, reverse, take, cond, is_some, Option, None, Some, refl}
 use Rattle.std.specs.List.{remove}
 use Rattle.std.proofs.Common.{ap, sym, ◌∙◌, inl, inr, subst, get_or, arith}
 use Rattle.std.proofs.lemmas.Grind.{reverse_onto}
@@ -10,10 +10,10 @@ use Rattle.child_port.specs.declared.answer.Answer.{Answer}
 use Rattle.hook_base.specs.declared.file.File.{File}
 use Rattle.result_book.specs.declared.book_row.BookRow.{BookRow}
 use Rattle.result_book.specs.Calls.{AfterPut, brought, new_row, with_row}
-use Rattle.result_book.specs.Contents.{HasKey, HaveRow, LackRow, HaveDistinctKeys, IsBook, is_row_for, other_rows, with_rows}
+use Rattle.result_book.specs.Contents.{HasKey, HaveRow, LackRow, HaveDistinctKeys, IsBook, IsHeld, is_row_for, other_rows, with_rows}
 use Rattle.result_book.specs.KeyLemmas.{other_row, row_decides, same_lack}
 use Rattle.result_book.specs.OrderLemmas.{after_putting, all_first, all_others, book_put, brings, brings_none, first_apart, one_fewer, row_is}
-use Rattle.result_book.specs.Places.{IsBookRowAt, shown_rows}
+use Rattle.result_book.specs.Places.{IsBookPlace, IsBookRowAt, shown_rows}
 
 pub at_within : (words : List (List ℕ)) (seen : List File) (rows : List BookRow) (index : ℕ) → IsBookRowAt words seen rows index → index < length rows
 at_within words seen [] index at = absurd at
@@ -74,6 +74,14 @@ have_back words seen answer rows have = have_reversed words seen answer (reverse
 
 pub lack_reversed : (words : List (List ℕ)) (seen : List File) (rows : List BookRow) → LackRow words seen rows → LackRow words seen (reverse rows)
 lack_reversed words seen rows lack answer have = lack answer (have_reversed words seen answer rows have)
+
+-- the place of a key shows whether an answer is held
+pub held_at : (words : List (List ℕ)) (seen : List File) (limit : ℕ) (rows : List BookRow) (place : Option ℕ) → IsBookPlace words seen rows place
+    → IsHeld words seen (shown_rows limit rows) (is_some place)
+held_at words seen limit rows None lack = lack_reversed words seen rows lack
+held_at words seen limit [] (Some index) at = absurd at
+held_at words seen limit (row ∷ rows) (Some index) at =
+    ((get_or (row ∷ rows) index row).answer, have_back words seen (get_or (row ∷ rows) index row).answer (row ∷ rows) (at_have words seen (row ∷ rows) index row at))
 
 distinct_end : (rows : List BookRow) (row : BookRow) → HaveDistinctKeys rows → LackRow row.words row.seen rows → HaveDistinctKeys (rows ++ row ∷ [])
 distinct_end [] row distinct lack = (λ answer have. have, tt)

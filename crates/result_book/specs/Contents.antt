@@ -1,6 +1,6 @@
 -- The contents of a book: rows, one for each words and seen files, the most recently used first, and their
 -- limit. A key finds its answer whatever the order; the order says which row is dropped first.
-use Rattle.std.specs.Prelude.{◌≡◌, ◌⊎◌, ◌≤◌, ℕ, Bool, ◌&&◌, not, List, [], ◌∷◌, length, filter, Option, None, Some}
+use Rattle.std.specs.Prelude.{◌≡◌, ◌⊎◌, ◌≤◌, ℕ, Bool, true, false, ◌&&◌, not, List, [], ◌∷◌, length, filter, Option, None, Some}
 use Rattle.std.specs.Cmp.Lexicographic.{pointwise}
 use Rattle.std.specs.List.{find}
 use Rattle.std.specs.Str.{bytes_eq}
@@ -63,6 +63,11 @@ Lacks words seen contents = LackRow words seen contents.rows
 abbrev pub Finds : List (List ℕ) → List File → Contents → Option Answer → Type 0
 Finds words seen contents None = Lacks words seen contents
 Finds words seen contents (Some answer) = Holds words seen answer contents
+
+-- whether an answer is cached for the words and the seen files
+abbrev pub IsHeld : List (List ℕ) → List File → Contents → Bool → Type 0
+IsHeld words seen contents false = Lacks words seen contents
+IsHeld words seen contents true = (answer : Answer) × Holds words seen answer contents
 
 -- how many answers are cached
 abbrev pub count_of : Contents → ℕ

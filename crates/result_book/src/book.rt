@@ -14,7 +14,7 @@ pub trait Book {
     ghost use Rattle.child_port.specs.declared.answer.Answer.{Answer};
     ghost use Rattle.hook_base.specs.declared.file.File.{File};
     ghost use Rattle.result_book.specs.declared.book_fault.BookFault.{BookFault};
-    ghost use Rattle.result_book.specs.Contents.{Contents, Finds, HaveDistinctKeys, count_of};
+    ghost use Rattle.result_book.specs.Contents.{Contents, Finds, HaveDistinctKeys, IsHeld, count_of};
     ghost use Rattle.result_book.specs.Calls.{AfterFind, AfterPut, AfterForget};
     ghost use Rattle.child_port.specs.Seen.{is_stray};
 
@@ -41,6 +41,12 @@ pub trait Book {
         ensures left { (left : Contents) → leaves self.new left
             → leaves self.old left ⊎ AfterFind words.now seen.now (contents self.old) left }
         ensures rest { rests self.old self.new };
+
+    /// Whether an answer is cached for the words and the seen files. Nothing changes, and no row moves.
+    /// `OutOfMemory` if memory is refused, `Store` if the store refuses.
+    fn holds(&self, words: &[Text], seen: &Tree) -> Result<bool, BookFault>
+        ensures held { IfOk result (IsHeld words.now seen.now (contents self.now)) }
+        ensures refused { IfErr result (λ fault. refuses fault) };
 
     /// Caches an answer for the words and the seen files. Its row comes to the front and replaces the one
     /// with the same key. If there are more rows than the limit then, the last one is dropped. Each file that

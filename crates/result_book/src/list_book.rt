@@ -2,7 +2,7 @@
 
 ghost use Rattle.std.specs.Prelude.{◌≡◌};
 
-use crate::rows::{found_in, put_row};
+use crate::rows::{found_in, is_held, put_row};
 use crate::{Book, BookFault, BookRow};
 use child_port::Answer;
 use hook_base::{Text, Tree};
@@ -67,6 +67,10 @@ impl Book for ListBook {
 
     fn find(&mut self, words: &[Text], seen: &Tree) -> Result<Option<Answer>, BookFault> {
         Ok(found_in(&mut self.rows, &mut self.next, words, seen)?)
+    }
+
+    fn holds(&self, words: &[Text], seen: &Tree) -> Result<bool, BookFault> {
+        Ok(is_held(self.rows.as_slice(), self.next, words, seen))
     }
 
     fn put(&mut self, words: &[Text], seen: &Tree, answer: &Answer) -> Result<(), BookFault> {

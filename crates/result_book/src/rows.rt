@@ -5,7 +5,7 @@ ghost use Rattle.std.specs.Prelude.{◌≡◌, ◌<◌, ◌∷◌, ◌++◌, [],
 ghost use Rattle.std.specs.Vec.{vec_capacity, vec_len};
 ghost use Rattle.std.specs.List.{remove};
 ghost use Rattle.result_book.specs.Calls.{AfterPut, brought};
-ghost use Rattle.result_book.specs.Contents.{Finds, HaveDistinctKeys, IsBook};
+ghost use Rattle.result_book.specs.Contents.{Finds, HaveDistinctKeys, IsBook, IsHeld};
 ghost use Rattle.result_book.specs.Places.{IsGoing, IsBookPlace, shown_rows};
 
 use crate::BookRow;
@@ -33,6 +33,13 @@ fn place_near(rows: &[BookRow], near: usize, words: &[Text], seen: &Tree) -> Opt
         return Some(near);
     }
     place_of(rows, words, seen)
+}
+
+/// Whether there is a row for the words and the seen files. The row at the index `near` is tried first.
+pub(crate) fn is_held(rows: &[BookRow], near: usize, words: &[Text], seen: &Tree) -> bool
+    ensures { (limit : ℕ) → IsHeld words.now seen.now (shown_rows limit rows.now) result }
+{
+    place_near(rows, near, words, seen).is_some()
 }
 
 // Removes the row at the index, and answers it.

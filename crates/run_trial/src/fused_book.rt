@@ -67,6 +67,10 @@ impl Book for FusedBook {
         self.inner.find(words, seen)
     }
 
+    fn holds(&self, words: &[Text], seen: &Tree) -> Result<bool, BookFault> {
+        self.inner.holds(words, seen)
+    }
+
     fn put(&mut self, words: &[Text], seen: &Tree, answer: &Answer) -> Result<(), BookFault> {
         if self.is_refused() {
             return Err(self.fault);
