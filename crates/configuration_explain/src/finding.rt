@@ -8,7 +8,7 @@ use crate::known_words::{argument_words, is_among, keys_of, local_words, truth_w
 use crate::marks::Owner;
 use crate::patterns::{is_refused_entry, is_refused_pattern};
 use crate::tables::{hook_at, items_at, items_in, rows_in, text_at, text_in, value_at};
-use hook_config::{ConfigFault, ConfigKind, KeyKind, Stage, is_key};
+use hook_config::{ConfigFault, ConfigKind, KeyKind, Stage, is_key, name_count_of_word};
 use std::alloc::{AllocError, Global};
 use yaml_profile::Node;
 
@@ -20,6 +20,7 @@ pub(crate) enum Wanted {
     Text,
     Texts,
     Truth,
+    NameCount,
     /// A key that isn't there.
     Key,
     Stage,
@@ -232,6 +233,7 @@ pub(crate) fn wanted_by(kind: KeyKind) -> Option<Wanted> {
         KeyKind::RequiredList => Some(Wanted::List),
         KeyKind::Texts => Some(Wanted::Texts),
         KeyKind::Truth => Some(Wanted::Truth),
+        KeyKind::NameCount => Some(Wanted::NameCount),
         KeyKind::Ignored => None,
     }
 }
@@ -251,6 +253,7 @@ pub(crate) fn is_of_kind(value: &Node, wanted: Wanted) -> bool {
     match wanted {
         Wanted::Text => text_in(value).is_some(),
         Wanted::Truth => is_truth(value),
+        Wanted::NameCount => is_name_count(value),
         _ => matches!(value, Node::List(_)),
     }
 }
@@ -261,6 +264,16 @@ fn is_truth(value: &Node) -> bool {
             text,
             quoted: false,
         } => is_among(truth_words(), text.as_str()),
+        _ => false,
+    }
+}
+
+fn is_name_count(value: &Node) -> bool {
+    match value {
+        Node::Text {
+            text,
+            quoted: false,
+        } => name_count_of_word(text.as_str()).is_some(),
         _ => false,
     }
 }

@@ -105,6 +105,7 @@ fn wanted_text(finding: &Finding<'_>) -> &'static str {
         Wanted::Text => "a text",
         Wanted::Texts => "a list of texts",
         Wanted::Truth => "an unquoted `true` or `false`",
+        Wanted::NameCount => "an unquoted number from 1 to 100000",
         Wanted::NoLog => "empty: no output is kept in a file",
         Wanted::NothingInstalled => "empty: nothing is installed for a hook",
         _ => word_text(finding.wanted),

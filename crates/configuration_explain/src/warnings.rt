@@ -8,12 +8,12 @@ use crate::known_words::{is_among, tag_words};
 use crate::sentence::push_meant;
 use crate::tool_settings::left_out;
 use hook_base::Text;
-use hook_config::{ConfigWithNode, Hook, TagNames};
+use hook_config::{ConfigWithNode, Hook, MOST_NAMES, TagNames};
 use std::alloc::{AllocError, Global};
 
-/// Puts a line for each tag that no file has, each id that an earlier hook has, and each known tool whose
-/// settings the hook's own `x_reads` leaves out. So it does for each command that calls Git, if its `x_reads`
-/// doesn't name Git's state. `AllocError` if memory is refused.
+/// Puts a line for each tag that no file has, each id that an earlier hook has, each number of names that has
+/// no effect, and each known tool whose settings the hook's own `x_reads` leaves out. So it does for each
+/// command that calls Git, if its `x_reads` doesn't name Git's state. `AllocError` if memory is refused.
 pub(crate) fn push_warnings(
     alloc: Global,
     text: &mut String,
@@ -29,6 +29,7 @@ pub(crate) fn push_warnings(
         let number = i.saturating_add(1);
         warnings.take_tags(number, hook)?;
         warnings.take_id(number, hook, hooks)?;
+        warnings.take_name_count(number, hook)?;
         warnings.take_reads(number, hook, left_out(alloc, read, number, hook, paths)?)?;
         warnings.take_git(number, hook)?;
     }
@@ -90,6 +91,15 @@ impl Warnings {
             }
             _ => Ok(()),
         }
+    }
+
+    // Which of the two keys counts, if a hook has both.
+    fn take_name_count(&mut self, number: usize, hook: &Hook) -> Result<(), AllocError> {
+        if !hook.x_per_file || hook.x_at_most == MOST_NAMES {
+            return Ok(());
+        }
+        self.begin(number, hook)?;
+        self.text.push_str("its `x_at_most` has no effect, since `x_per_file` is true\n")
     }
 
     fn take_reads(

@@ -1,3 +1,4 @@
+pub mod NameCounts
 pub mod FirstWords
 pub mod Views
 pub mod HookLists

@@ -175,7 +175,8 @@ reads_short : (rs : List ConfigurationRow) → Holds AreShortReads (reads_of rs)
 unfolding reads_of
 reads_short rs =
     and_then IsShort AreShortReads key.x_reads rs _ short_pattern no_path_short (λ x_reads p.
-    then_any AreShortReads _ (λ x_per_file. p) (at_key key.x_per_file rs))
+    then_any AreShortReads _ (λ x_per_file.
+    then_any AreShortReads _ (λ x_at_most. p) (at_key key.x_at_most rs)) (at_key key.x_per_file rs))
 
 abbrev AreShortConditions : Conditions → Type 0
 AreShortConditions conditions = IsShortSelection conditions.selection × AreShortReads conditions.reads

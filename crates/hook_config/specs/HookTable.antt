@@ -74,22 +74,26 @@ switches_of default rows =
     given (at_key key.verbose rows) (λ verbose.
     given (at_key key.pass_filenames rows) (λ pass_filenames.
     given (at_key key.fail_fast rows) (λ fail_fast.
+    given (at_key key.require_serial rows) (λ require_serial.
     Some (record {
       stages = stages;
       always_run = always_run;
       verbose = verbose;
       pass_filenames = pass_filenames;
       fail_fast = fail_fast;
-    }))))))
+      require_serial = require_serial;
+    })))))))
 
 unfoldable pub reads_of : List ConfigurationRow → Option Reads
 reads_of rows =
     given (at_key key.x_reads rows) (λ x_reads.
     given (at_key key.x_per_file rows) (λ x_per_file.
+    given (at_key key.x_at_most rows) (λ x_at_most.
     Some (record {
       x_reads = x_reads;
       x_per_file = x_per_file;
-    })))
+      x_at_most = x_at_most;
+    }))))
 
 -- the groups after the command, with these default stages
 unfoldable pub conditions_of : Stages → List ConfigurationRow → Option Conditions
@@ -122,8 +126,10 @@ hook_of_groups unserved names command conditions = record {
   verbose = conditions.switches.verbose;
   pass_filenames = conditions.switches.pass_filenames;
   fail_fast = conditions.switches.fail_fast;
+  require_serial = conditions.switches.require_serial;
   x_reads = conditions.reads.x_reads;
   x_per_file = conditions.reads.x_per_file;
+  x_at_most = conditions.reads.x_at_most;
   log_file = unserved.log_file;
   additional_dependencies = unserved.additional_dependencies;
 }

@@ -1,11 +1,14 @@
 -- The kinds of a configuration's values, and how a value is taken from a table.
-use Rattle.std.specs.Prelude.{ℕ, List, [], ◌∷◌, length, Bool, true, false, if◌then◌else◌, nat_le, codes, Option, Some, None, option_map, option_and_then}
+use Rattle.std.specs.Prelude.{ℕ, List, [], ◌∷◌, length, Bool, true, false, ◌&&◌, if◌then◌else◌, nat_le, nat_lt, codes, Option, Some, None, option_map, option_and_then}
+use Rattle.std.specs.Char.{digit_value}
+use Rattle.std.specs.List.{list_all}
+use Rattle.std.specs.Str.Parse.{digits_value, without_leading_plus}
 use Rattle.yaml_lines.specs.Meaning.{Meaning, text, list, table, empty}
 use Rattle.hook_config.specs.Rows.{ConfigurationRow, value_of_key, is_known_word, list_of}
 use Rattle.hook_config.specs.Stages.{stage_of_word, stages_among}
 use Rattle.hook_config.specs.declared.stage.Stage.{Stage}
 use Rattle.hook_config.specs.declared.stage.Stages.{Stages}
-use Rattle.hook_config.specs.Limits.{most_text_bytes}
+use Rattle.hook_config.specs.Limits.{most_names, most_text_bytes}
 
 -- a text that is no longer than a configuration, quoted or not
 abbrev pub text_of : Meaning → Option (List ℕ)
@@ -34,12 +37,40 @@ abbrev pub truth_of_word : List ℕ → Option Bool
 truth_of_word word =
     if is_known_word true_words word then Some true else (if is_known_word false_words word then Some false else None)
 
+abbrev pub is_true : Option Bool → Bool
+is_true None = false
+is_true (Some truth) = truth
+
 -- an unquoted word for true or false
 abbrev pub truth_of : Meaning → Option Bool
 truth_of (text content quoted) = if quoted then None else truth_of_word content
 truth_of (list items) = None
 truth_of (table rows) = None
 truth_of empty = None
+
+-- one decimal digit or more, and nothing else
+abbrev pub is_numeral : List ℕ → Bool
+is_numeral word = nat_lt 0 (length word) && list_all (λ c. nat_lt (digit_value c) 10) word
+
+-- the number, if a child may be given so many names
+abbrev pub name_count : ℕ → Option ℕ
+name_count number = if nat_le 1 number && nat_le number most_names then Some number else None
+
+-- the number from 1 to `most_names` that decimal digits write, which a `+` may precede
+abbrev pub name_count_of_word : List ℕ → Option ℕ
+name_count_of_word word =
+    if is_numeral (without_leading_plus word) then name_count (digits_value 10 (without_leading_plus word)) else None
+
+-- an unquoted number of names
+abbrev pub name_count_of : Meaning → Option ℕ
+name_count_of (text content quoted) = if quoted then None else name_count_of_word content
+name_count_of (list items) = None
+name_count_of (table rows) = None
+name_count_of empty = None
+
+-- the truth, or false if the value is none
+abbrev pub lenient_truth_of : Meaning → Option Bool
+lenient_truth_of value = Some (is_true (truth_of value))
 
 -- ---- lists
 

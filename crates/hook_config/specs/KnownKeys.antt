@@ -4,13 +4,14 @@
 use Rattle.std.specs.Prelude.{ℕ, List, [], ◌∷◌, codes, Bool, true, false, if◌then◌else◌, bytes_eq, map, Option, Some, None}
 use Rattle.std.specs.Borrow.{Bor}
 use Rattle.yaml_lines.specs.Meaning.{Meaning}
-use Rattle.hook_config.specs.Kinds.{text_of, truth_of, texts_of_list, stages_of, empty_text_of, empty_texts_of, kind_or}
+use Rattle.hook_config.specs.Kinds.{name_count_of, text_of, truth_of, lenient_truth_of, texts_of_list, stages_of, empty_text_of, empty_texts_of, kind_or}
 use Rattle.hook_config.specs.Languages.{language_name_of}
+use Rattle.hook_config.specs.Limits.{most_names}
 use Rattle.hook_config.specs.Patterns.{pattern_of, every_path, no_path}
 use Rattle.hook_config.specs.Rows.{ConfigurationRow, value_of_key, list_of}
 use Rattle.hook_config.specs.Stages.{all_stages}
 use Rattle.hook_config.specs.declared.known_keys.KeyKind.{KeyKind}
-use Rattle.hook_config.specs.declared.known_keys.KeyKind.TheVariants.{RequiredText, RequiredList, Text, Texts, Truth, Pattern, Ignored}
+use Rattle.hook_config.specs.declared.known_keys.KeyKind.TheVariants.{RequiredText, RequiredList, Text, Texts, Truth, Pattern, NameCount, Ignored}
 use Rattle.hook_config.specs.declared.languages.LanguageName.{LanguageName}
 use Rattle.hook_config.specs.declared.stage.Stages.{Stages}
 
@@ -135,14 +136,22 @@ verbose = record { word = codes "verbose"; wanted = Truth; kind = truth_of; abse
 abbrev pub pass_filenames : ConfigurationKey Bool
 pass_filenames = record { word = codes "pass_filenames"; wanted = Truth; kind = truth_of; absent = Some true }
 
--- these two are keys of this runner: pre-commit has neither
+-- any value is accepted
+abbrev pub require_serial : ConfigurationKey Bool
+require_serial =
+    record { word = codes "require_serial"; wanted = Ignored; kind = lenient_truth_of; absent = Some false }
+
+-- these three are keys of this runner: pre-commit has none of them
 abbrev pub x_reads : ConfigurationKey (List ℕ)
 x_reads = record { word = codes "x_reads"; wanted = Pattern; kind = pattern_of; absent = Some no_path }
 
 abbrev pub x_per_file : ConfigurationKey Bool
 x_per_file = record { word = codes "x_per_file"; wanted = Truth; kind = truth_of; absent = Some false }
 
--- the keys that are read, in their order, and then those that are read and ignored
+abbrev pub x_at_most : ConfigurationKey ℕ
+x_at_most = record { word = codes "x_at_most"; wanted = NameCount; kind = name_count_of; absent = Some most_names }
+
+-- the keys that are read, in their order, and then those whose value may be anything
 abbrev pub hook_keys : List (List ℕ × KeyKind)
 hook_keys =
     listed log_file
@@ -165,9 +174,10 @@ hook_keys =
     ∷ listed fail_fast
     ∷ listed x_reads
     ∷ listed x_per_file
+    ∷ listed x_at_most
     ∷ (codes "language_version", Ignored)
     ∷ (codes "minimum_pre_commit_version", Ignored)
-    ∷ (codes "require_serial", Ignored)
+    ∷ listed require_serial
     ∷ (codes "description", Ignored)
     ∷ []
 

@@ -7,6 +7,10 @@ use Rattle.yaml_lines.specs.Characters.{most_bytes}
 abbrev pub most_hooks : ℕ
 most_hooks = 500
 
+-- the most names that a child of a hook is given
+abbrev pub most_names : ℕ
+most_names = 100_000
+
 -- the greatest number of bytes of a text, which is that of the whole configuration
 abbrev pub most_text_bytes : ℕ
 most_text_bytes = most_bytes

@@ -60,10 +60,15 @@ pub struct Hook {
     pub pass_filenames: bool,
     /// Whether a run stops if this hook failed.
     pub fail_fast: bool,
+    /// Whether no other child runs at the same time as one of this hook's.
+    pub require_serial: bool,
     /// Found in the path of each further file that the hook's children see.
     pub x_reads: SharedPattern,
     /// Whether a child of the hook is given at most one name.
     pub x_per_file: bool,
+    /// The most names that a child of the hook is given, from 1 to [`MOST_NAMES`](crate::MOST_NAMES). With
+    /// `x_per_file` it is given at most one all the same.
+    pub x_at_most: usize,
     /// The file that a hook's output would be written to. It is empty, since no such file is served.
     pub log_file: ConfigText,
     /// What would be installed for the hook. There are none, since none are served.

@@ -1,18 +1,20 @@
 //! The values of a table's keys.
 
-ghost use Rattle.std.specs.Prelude.{◌≡◌, option_map, [], ◌∷◌};
+ghost use Rattle.std.specs.Prelude.{◌≡◌, false, option_map, [], ◌∷◌, Some};
 ghost use Rattle.yaml_lines.specs.View.{view};
 ghost use Rattle.hook_config.specs.Gives.{GivesValue, GivesValueSurely};
-ghost use Rattle.hook_config.specs.Kinds.{text_of, truth_of, texts_of_list, stages_of, empty_text_of, empty_texts_of, required, or_default};
+ghost use Rattle.hook_config.specs.Kinds.{name_count_of, text_of, truth_of, lenient_truth_of, texts_of_list, stages_of, empty_text_of, empty_texts_of, required, or_default};
 ghost use Rattle.hook_config.specs.KnownKeys.{file_word};
 ghost use Rattle.hook_config.specs.Languages.{language_name_of};
+ghost use Rattle.hook_config.specs.Limits.{most_names};
 ghost use Rattle.hook_config.specs.Patterns.{pattern_of};
 ghost use Rattle.hook_config.specs.Rows.{rows_of, meanings_of_nodes, value_of_key, list_of};
 
 use crate::config_fault::ConfigKind;
 use crate::config_text::ConfigText;
-use crate::kinds::{list_of, text_in, text_of, truth_of};
+use crate::kinds::{list_of, name_count_of, text_in, text_of, truth_of};
 use crate::languages::LanguageName;
+use crate::limits::MOST_NAMES;
 use crate::shared_pattern::SharedPattern;
 use crate::stage::Stages;
 use crate::stage_lists::stages_of;
@@ -100,6 +102,30 @@ pub(crate) fn truth_or(
     match value_at(rows, key) {
         Some(value) => truth_of(value),
         None => Ok(default),
+    }
+}
+
+/// The truth at the key. It is false if the value is no truth, or if the key isn't there.
+pub(crate) fn lenient_truth_at(rows: &[(String, Node)], key: &str) -> bool
+    ensures { or_default lenient_truth_of false key.now (rows_of rows.now) ≡ Some result }
+{
+    let Some(value) = value_at(rows, key) else {
+        return false;
+    };
+    match truth_of(value) {
+        Ok(truth) => truth,
+        Err(_) => false,
+    }
+}
+
+/// The number of names at the key, or the most that there may be if the key isn't there.
+pub(crate) fn name_count_or_most(rows: &[(String, Node)], key: &str) -> Result<usize, ConfigKind>
+    ensures { GivesValueSurely (λ count. count) result
+        (or_default name_count_of most_names key.now (rows_of rows.now)) }
+{
+    match value_at(rows, key) {
+        Some(value) => name_count_of(value),
+        None => Ok(MOST_NAMES),
     }
 }
 

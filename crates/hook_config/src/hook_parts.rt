@@ -10,8 +10,9 @@ use crate::config_text::ConfigText;
 use crate::configuration::Language;
 use crate::defaults::Defaults;
 use crate::fields::{
-    empty_text_at, empty_texts_at, pattern_or, required_language, required_text, stages_or,
-    tags_or_file, tags_or_none, text_or_empty, texts_or_none, truth_or,
+    empty_text_at, empty_texts_at, lenient_truth_at, name_count_or_most, pattern_or,
+    required_language, required_text, stages_or, tags_or_file, tags_or_none, text_or_empty,
+    texts_or_none, truth_or,
 };
 use crate::languages::language_of;
 use crate::shared_pattern::SharedPattern;
@@ -115,6 +116,7 @@ pub(crate) struct Switches {
     pub(crate) verbose: bool,
     pub(crate) pass_filenames: bool,
     pub(crate) fail_fast: bool,
+    pub(crate) require_serial: bool,
 }
 
 #[tactic(auto, unfolding(crate::specs::HookTable::switches_of))]
@@ -130,6 +132,7 @@ pub(crate) fn switches_of(
         verbose: truth_or(rows, "verbose", false)?,
         pass_filenames: truth_or(rows, "pass_filenames", true)?,
         fail_fast: truth_or(rows, "fail_fast", false)?,
+        require_serial: lenient_truth_at(rows, "require_serial"),
     })
 }
 
@@ -139,6 +142,7 @@ pub(crate) fn switches_of(
 pub(crate) struct Reads {
     pub(crate) x_reads: SharedPattern,
     pub(crate) x_per_file: bool,
+    pub(crate) x_at_most: usize,
 }
 
 #[tactic(auto, unfolding(crate::specs::HookTable::reads_of))]
@@ -152,6 +156,7 @@ pub(crate) fn reads_of(
     Ok(Reads {
         x_reads: pattern_or(alloc, rows, "x_reads", defaults.exclude())?,
         x_per_file: truth_or(rows, "x_per_file", false)?,
+        x_at_most: name_count_or_most(rows, "x_at_most")?,
     })
 }
 

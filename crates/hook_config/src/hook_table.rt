@@ -86,8 +86,10 @@ fn hook_of_groups(
         verbose: switches.verbose,
         pass_filenames: switches.pass_filenames,
         fail_fast: switches.fail_fast,
+        require_serial: switches.require_serial,
         x_reads: reads.x_reads,
         x_per_file: reads.x_per_file,
+        x_at_most: reads.x_at_most,
         log_file: unserved.log_file,
         additional_dependencies: unserved.additional_dependencies,
     }

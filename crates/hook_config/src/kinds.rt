@@ -3,13 +3,13 @@
 ghost use Rattle.std.specs.Prelude.{◌≡◌, IfOk};
 ghost use Rattle.yaml_lines.specs.View.{view};
 ghost use Rattle.hook_config.specs.Gives.{GivesValue, GivesValueSurely};
-ghost use Rattle.hook_config.specs.Kinds.{text_of, truth_of, truth_of_word};
+ghost use Rattle.hook_config.specs.Kinds.{name_count, name_count_of, name_count_of_word, text_of, truth_of, truth_of_word};
 ghost use Rattle.hook_config.specs.Limits.{IsShort};
 ghost use Rattle.hook_config.specs.Rows.{ConfigurationRow, rows_of, meanings_of_nodes, table_of, list_of, is_known_word, texts};
 
 use crate::config_fault::ConfigKind;
 use crate::config_text::ConfigText;
-use crate::limits::MOST_TEXT_BYTES;
+use crate::limits::{MOST_NAMES, MOST_TEXT_BYTES};
 use std::alloc::Global;
 use yaml_profile::Node;
 
@@ -92,6 +92,40 @@ fn truth_of_word(word: &str) -> Option<bool>
         Some(true)
     } else if is_among(&FALSE_WORDS, word) {
         Some(false)
+    } else {
+        None
+    }
+}
+
+/// The number of names that an unquoted word writes. A quoted one is a text, and so `Shape`.
+pub(crate) fn name_count_of(node: &Node) -> Result<usize, ConfigKind>
+    ensures { GivesValueSurely (λ count. count) result (name_count_of (view node.now)) }
+{
+    match node {
+        Node::Text {
+            text,
+            quoted: false,
+        } => name_count_of_word(text.as_str()).ok_or(ConfigKind::Shape),
+        _ => Err(ConfigKind::Shape),
+    }
+}
+
+/// The number from 1 to [`MOST_NAMES`] that the word writes in decimal digits, which a `+` may precede.
+/// `None` if it writes no such number.
+pub fn name_count_of_word(word: &str) -> Option<usize>
+    ensures { result ≡ name_count_of_word word.now }
+{
+    match word.parse::<usize>() {
+        Ok(number) => name_count(number),
+        Err(_) => None,
+    }
+}
+
+fn name_count(number: usize) -> Option<usize>
+    ensures { result ≡ name_count number }
+{
+    if 1 <= number && number <= MOST_NAMES {
+        Some(number)
     } else {
         None
     }

@@ -23,7 +23,10 @@ pub enum KeyKind {
     Truth,
     /// A text in which `regex` reads a pattern.
     Pattern,
-    /// Anything: the key is read and ignored.
+    /// An unquoted number from 1 to [`MOST_NAMES`](crate::MOST_NAMES), as
+    /// [`name_count_of_word`](crate::name_count_of_word) reads it.
+    NameCount,
+    /// Anything: a value that says nothing to this runner is ignored.
     Ignored,
 }
 
@@ -80,6 +83,7 @@ pub fn hook_keys() -> &'static [(&'static str, KeyKind)]
         ("fail_fast", KeyKind::Truth),
         ("x_reads", KeyKind::Pattern),
         ("x_per_file", KeyKind::Truth),
+        ("x_at_most", KeyKind::NameCount),
         ("language_version", KeyKind::Ignored),
         ("minimum_pre_commit_version", KeyKind::Ignored),
         ("require_serial", KeyKind::Ignored),

@@ -1,4 +1,5 @@
 pub mod AdvanceLemmas
+pub mod AheadLemmas
 pub mod BeginLemmas
 pub mod BoundLemmas
 pub mod CandidateLemmas

@@ -1,5 +1,6 @@
 -- There is a run, whatever its children answer to their words and what they see.
-use Rattle.std.proofs.Common.{◌≡◌, refl, ℕ, ◌≤◌, Bool, true, false, List, [], ◌∷◌, ◌++◌, Option, None, Some, arith}
+use Rattle.std.proofs.Common.{◌≡◌, refl, ℕ, ◌≤◌, max, Bool, true, false, List, [], ◌∷◌, ◌++◌, Option, None, Some, arith}
+use Rattle.std.proofs.Math.Nat.{le-max_right}
 use Rattle.std.specs.Prelude.{MatchBool, MatchOption, if◌then◌else◌, not, ◌&&◌}
 use Rattle.arg_partition.specs.Parts.{fits, too_long_at}
 use Rattle.arg_partition.specs.SomePartsLemmas.{parts-exist}
@@ -25,7 +26,7 @@ use Rattle.hook_run.specs.declared.run_out.RunOut.{RunOut}
 use Rattle.hook_run.specs.Asks.{hooks_of_run, is_skipped}
 use Rattle.hook_run.specs.Commands.{command_of}
 use Rattle.hook_run.specs.HookRun.{AreItsParts, IsCommandRun, IsEnding, IsHookRun, IsLanguageRun, IsResult, commands_of, ending_of_answer, ending_of_misfit, further_of, most_names_of, names_for, rules_of, sees_whole}
-use Rattle.hook_run.specs.Limits.{most_command_bytes, most_names}
+use Rattle.hook_run.specs.Limits.{most_command_bytes}
 use Rattle.hook_run.specs.Parts.{AllTold, ArePartsOf, Part, after_parts, all_parts, tree_after}
 use Rattle.hook_run.specs.PartsEnding.{ending_of_parts}
 use Rattle.hook_run.specs.RunOuts.{IsRunOut, out_of, unsteady_ids}
@@ -85,7 +86,7 @@ no-parts : (answers : Answers) (is : Ending) → SomeEnding answers (λ parts en
 no-parts answers is = record { parts = []; ending = is; is = (refl, refl); answered = tt }
 
 some-names : (hook : Hook) → 1 ≤ most_names_of hook
-some-names hook = elim hook.x_per_file as (λ (b : Bool). 1 ≤ (if b then 1 else most_names)) [ true ↦ omega arith | false ↦ omega arith ]
+some-names hook = elim hook.x_per_file as (λ (b : Bool). 1 ≤ (if b then 1 else max hook.x_at_most 1)) [ true ↦ omega arith | false ↦ le-max_right hook.x_at_most 1 ]
 
 fitting-ending : (answers : Answers) (hook : Hook) (words names : List (List ℕ)) (tree : List File) → too_long_at (fits words most_command_bytes) names ≡ None
     → SomeEnding answers (λ parts ending. AreItsParts hook words names tree parts × (ending ≡ ending_of_parts tree parts))

@@ -1,5 +1,5 @@
 -- How one hook of a run ends on the tree that the hooks before it left, and its parts: each is a child of it.
-use Rattle.std.specs.Prelude.{◌≡◌, ℕ, Bool, ◌&&◌, true, false, not, MatchBool, MatchOption, if◌then◌else◌, List, [], ◌∷◌, ◌++◌, map}
+use Rattle.std.specs.Prelude.{◌≡◌, ℕ, max, Bool, ◌&&◌, true, false, not, MatchBool, MatchOption, if◌then◌else◌, List, [], ◌∷◌, ◌++◌, map}
 use Rattle.std.specs.Str.{bytes_eq}
 use Rattle.arg_partition.specs.declared.cut.Cut.{Cut}
 use Rattle.arg_partition.specs.Parts.{AreParts, fits, names_of, too_long_at}
@@ -21,7 +21,7 @@ use Rattle.report_text.specs.Report.{is_empty}
 use Rattle.hook_run.specs.declared.run_ask.RunAsk.{RunAsk}
 use Rattle.hook_run.specs.Asks.{is_skipped}
 use Rattle.hook_run.specs.Commands.{command_of}
-use Rattle.hook_run.specs.Limits.{most_command_bytes, most_names}
+use Rattle.hook_run.specs.Limits.{most_command_bytes}
 use Rattle.hook_run.specs.Parts.{ArePartsOf, Part}
 use Rattle.hook_run.specs.PartsEnding.{ending_of_parts}
 
@@ -59,9 +59,10 @@ sees_whole hook = not hook.pass_filenames
 abbrev pub further_of : Hook → List File → List (List ℕ)
 further_of hook tree = if bytes_eq hook.x_reads no_path then [] else found_in hook.x_reads tree
 
--- the most names of one part of the hook
+-- The most names of one part of the hook: one with `x_per_file`, otherwise as many as `x_at_most` says, which is
+-- at least one for a hook that was read.
 abbrev pub most_names_of : Hook → ℕ
-most_names_of hook = if hook.x_per_file then 1 else most_names
+most_names_of hook = if hook.x_per_file then 1 else max hook.x_at_most 1
 
 -- the commands of the parts that names are cut into
 abbrev pub commands_of : List (List ℕ) → List (List ℕ) → List Cut → List (List (List ℕ))

@@ -26,7 +26,7 @@ use Rattle.hook_run.specs.declared.plan_state.PlanState.{PlanState}
 use Rattle.hook_run.specs.declared.plan_state.PlanState.TheVariants.{Waits, Over}
 use Rattle.hook_run.specs.Asks.{hooks_of_run, names_of_run}
 use Rattle.hook_run.specs.CandidateFiles.{files_at}
-use Rattle.hook_run.specs.HookRun.{commands_of, further_of, sees_whole}
+use Rattle.hook_run.specs.HookRun.{IsEnding, commands_of, further_of, sees_whole}
 use Rattle.hook_run.specs.Parts.{ArePartsOf, Part}
 use Rattle.hook_run.specs.PartsEnding.{ending_of_parts}
 use Rattle.hook_run.specs.Plans.{AtHook, AtPart, Completes, GoesOn, GoesOnAt, Plan, ending_of_gathered, hooks_after, left_at, nothing_gathered, progress_with}
@@ -121,23 +121,7 @@ abbrev pub FitsAt : RunContext → PlanState → Type 0
 FitsAt course (Waits waiting) = FitsName course waiting.work.hook.now.name
 FitsAt course (Over report) = Unit {0}
 
--- ---- a plan
-
--- how the fields of a plan belong together
-pub record IsPlanned (course : RunContext) (done : Progress) (files : List File) (standing : PlanState) : Type 0 where
-  pub fits : FitsResults course done.results
-  pub fits_at : FitsAt course standing
-  pub planned : IsCourse course
-  pub held : files ≡ files_at course.ask.now.candidates done.tree
-  pub stored : IsStored course.config.now course.ask.now done standing
-
--- ---- how a hook goes on
-
--- the hook has ended if no command is left; otherwise the next part waits
-abbrev pub HasGoneOn : AtHook → List File → HookState → Type 0
-HasGoneOn at tree (begun.Ended ending unsteady) =
-    (at.commands ≡ []) × (ending ≡ ending_of_gathered at.gathered at.before tree) × (unsteady ≡ at.gathered.unsteady)
-HasGoneOn at tree (begun.Waits waiting) = (at_hook waiting ≡ at) × IsSeenOn tree waiting
+-- ---- how a hook begins
 
 -- parts of the commands that are left, from this tree on, end the hook with what they give
 pub record IsFirstOf (EndsWith : List Part → Ending → Type 0) (hook : Hook) (tree : List File)
@@ -153,6 +137,33 @@ abbrev pub HasBegun : (List Part → Ending → Type 0) → Hook → List File �
 HasBegun EndsWith hook tree (begun.Ended ending unsteady) = EndsWith [] ending × (unsteady ≡ false)
 HasBegun EndsWith hook tree (begun.Waits waiting) =
     IsFirstOf EndsWith hook tree (at_hook waiting) × IsSeenOn tree waiting
+
+-- these hooks begin so on the tree, as far as it was found ahead
+abbrev pub AreBegunAhead : Config → RunAsk → List File → List Hook → List HookState → Type 0
+AreBegunAhead config ask tree hooks [] = Unit {0}
+AreBegunAhead config ask tree [] (state ∷ states) = Unit {0}
+AreBegunAhead config ask tree (hook ∷ hooks) (state ∷ states) =
+    HasBegun (IsEnding config ask tree hook) hook tree state × AreBegunAhead config ask tree hooks states
+
+-- ---- a plan
+
+-- how the fields of a plan belong together
+pub record IsPlanned (course : RunContext) (done : Progress) (files : List File) (place : ℕ) (standing : PlanState)
+    (ahead : List HookState) : Type 0 where
+  pub fits : FitsResults course done.results
+  pub fits_at : FitsAt course standing
+  pub planned : IsCourse course
+  pub held : files ≡ files_at course.ask.now.candidates done.tree
+  pub stored : IsStored course.config.now course.ask.now done standing
+  pub begun : AreBegunAhead course.config.now course.ask.now done.tree (hooks_from course place) ahead
+
+-- ---- how a hook goes on
+
+-- the hook has ended if no command is left; otherwise the next part waits
+abbrev pub HasGoneOn : AtHook → List File → HookState → Type 0
+HasGoneOn at tree (begun.Ended ending unsteady) =
+    (at.commands ≡ []) × (ending ≡ ending_of_gathered at.gathered at.before tree) × (unsteady ≡ at.gathered.unsteady)
+HasGoneOn at tree (begun.Waits waiting) = (at_hook waiting ≡ at) × IsSeenOn tree waiting
 
 -- ---- what finished hooks left
 

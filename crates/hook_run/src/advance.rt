@@ -5,12 +5,12 @@ ghost use Rattle.hook_run.specs.CandidateFiles.{files_at};
 ghost use Rattle.hook_run.specs.PlanBounds.{most_left, most_of_hooks};
 ghost use Rattle.hook_run.specs.Plans.{hooks_after};
 ghost use Rattle.hook_run.specs.StageRun.{is_last};
-ghost use Rattle.hook_run.specs.PlanStates.{FitsName, FitsResults, IsCourse, IsPlanFrom, hooks_from};
+ghost use Rattle.hook_run.specs.PlanStates.{FitsName, FitsResults, AreBegunAhead, IsCourse, IsPlanFrom, hooks_from};
 
 use crate::RunPlan;
-use crate::begin::begin_hook;
 use crate::candidate_files::CandidateFiles;
 use crate::hook_state::HookState;
+use crate::hooks_ahead::begin_next;
 use crate::plan_state::PlanState;
 use crate::progress::{Progress, progress_with};
 use crate::run_context::RunContext;
@@ -19,26 +19,29 @@ use hook_config::{Config, Hook};
 use report_text::{Ending, hook_texts};
 use std::alloc::Global;
 
-/// The plan of the hooks from this place on, after those that are done.
+/// The plan of the hooks from this place on, after those that are done. Some may have begun ahead.
 pub(crate) fn advance<'a>(
     alloc: Global,
     course: RunContext<'a>,
     done: Progress,
     files: CandidateFiles,
     place: usize,
+    ahead: Vec<HookState<'a>>,
 ) -> Result<RunPlan<'a>, OutOfMemory>
     requires course { IsCourse course }
     requires fits { FitsResults course done.results }
     requires held { files ≡ files_at course.ask.now.candidates done.tree }
+    requires ahead { AreBegunAhead course.config.now course.ask.now done.tree (hooks_from course place) ahead.items }
     ensures from { IfOk result (IsPlanFrom course.entry done place) }
     ensures within { IfOk result (λ plan. most_left plan ≤ most_of_hooks (hooks_from course.entry place) done.tree) }
 {
     let mut done = done;
     let mut place = place;
+    let mut ahead = ahead;
     'hooks: while place < course.hooks.len() {
         let hook = hook_at(&course, place);
         place += 1;
-        match begin_hook(alloc, &course, hook, &done.tree, &files)? {
+        match begin_next(alloc, &course, hook, &done.tree, &files, &mut ahead)? {
             HookState::Waits(waiting) => {
                 return Ok(RunPlan {
                     course,
@@ -46,6 +49,7 @@ pub(crate) fn advance<'a>(
                     files,
                     place,
                     standing: PlanState::Waits(waiting),
+                    ahead,
                 });
             }
             HookState::Ended(ending, unsteady) => {
@@ -54,10 +58,11 @@ pub(crate) fn advance<'a>(
             }
         }
     }
-    over(alloc, course, done, files, place)
+    over(alloc, course, done, files, place, ahead)
 }
 
-fn hook_at<'a>(course: &RunContext<'a>, place: usize) -> &'a Hook
+/// The hook at this place, which there must be.
+pub(crate) fn hook_at<'a>(course: &RunContext<'a>, place: usize) -> &'a Hook
     requires { place < length course.now.hooks.items }
     ensures left { hooks_from course.now place ≡ result.now ∷ hooks_from course.now (place + 1) }
     ensures fits { FitsName course.now result.now.name }
@@ -94,6 +99,7 @@ fn over<'a>(
     done: Progress,
     files: CandidateFiles,
     place: usize,
+    ahead: Vec<HookState<'a>>,
 ) -> Result<RunPlan<'a>, OutOfMemory>
     requires course { IsCourse course }
     requires fits { FitsResults course done.results }
@@ -109,5 +115,6 @@ fn over<'a>(
         files,
         place,
         standing: PlanState::Over(Bytes::from(report)),
+        ahead,
     })
 }

@@ -13,7 +13,7 @@ use crate::command::command_of;
 use crate::further_files::further_of;
 use crate::hook_choice::is_skipped;
 use crate::hook_state::HookState;
-use crate::limits::{MOST_COMMAND_BYTES, MOST_NAMES};
+use crate::limits::MOST_COMMAND_BYTES;
 use crate::part_totals::nothing_gathered;
 use crate::run_context::RunContext;
 use crate::running_hook::{RunningHook, go_on};
@@ -181,12 +181,17 @@ fn cuts_of(
     }
 }
 
-// The most names of one part of the hook.
+// The most names of one part of the hook: the smaller number of its two keys. A hook that was read asks for
+// one at least.
 fn most_names_of(hook: &Hook) -> usize
     ensures most { result ≡ most_names_of hook.now }
     ensures some { 1 ≤ result }
 {
-    if hook.x_per_file { 1 } else { MOST_NAMES }
+    if hook.x_per_file {
+        1
+    } else {
+        hook.x_at_most.max(1)
+    }
 }
 
 fn ending_of_misfit(alloc: Global) -> Result<Ending, OutOfMemory>

@@ -10,7 +10,7 @@ ghost use Rattle.result_book.specs.Told.{IsTold};
 ghost use Rattle.hook_run.specs.declared.run_ask.RunAsk.{RunAsk};
 ghost use Rattle.hook_run.specs.declared.run_out.RunOut.{RunOut};
 ghost use Rattle.hook_run.specs.ChildFaults.{child_faults};
-ghost use Rattle.hook_run.specs.Limits.{most_command_bytes, most_names};
+ghost use Rattle.hook_run.specs.Limits.{most_command_bytes};
 ghost use Rattle.hook_run.specs.Moments.{Moment};
 ghost use Rattle.hook_run.specs.OneAnswer.{AreSameRuns, IsFaultless, OneAnswer};
 ghost use Rattle.hook_run.specs.Parts.{AllTold, Part, all_parts, faults_of};
@@ -19,13 +19,12 @@ ghost use Rattle.hook_run.specs.RunOuts.{IsRunOut, IsRunOver};
 ghost use Rattle.hook_run.specs.SameRuns.{IsNextOf, outcomes_of, without_marks};
 ghost use Rattle.hook_run.specs.UnseenEdits.{EndAlike, HasRunAlike, HoldsAll, IsUnseenEdit, reusing_all};
 
-use crate::{MOST_COMMAND_BYTES, MOST_NAMES};
+use crate::MOST_COMMAND_BYTES;
 use child_port::Children;
 
-/// The limits of the code are those of the definitions.
+/// The limit of the code is that of the definitions.
 pub fn the_limits_are_those_defined()
-    ensures bytes { MOST_COMMAND_BYTES ≡ most_command_bytes }
-    ensures names { MOST_NAMES ≡ most_names }
+    ensures { MOST_COMMAND_BYTES ≡ most_command_bytes }
 {}
 
 /// Whatever is asked of a configuration on a tree, and whatever outcomes its children give for their words

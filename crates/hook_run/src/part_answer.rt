@@ -66,7 +66,8 @@ fn start_part<C: Children, B: Book>(
     requires { need_of plan.now ≡ Need.Child }
     ensures started { IfOk result (λ came. IsPartStarted (C.tells children.old) found.now
         (moment (C.call_count children.old) (C.fault_count children.old) (B.contents book.old))
-        (moment (C.call_count children.new) (C.fault_count children.new) (B.contents book.new)) (part_of plan.now came)) }
+        (moment (C.call_count children.new) (C.fault_count children.new) (B.contents book.new))
+        (part_of plan.now came)) }
     ensures reused { IfOk result (λ came. C.call_count children.new + one_if came.reused
         ≡ C.call_count children.old + 1) }
     ensures unput { IfErr result (IsPartUnput (C.tells children.old)

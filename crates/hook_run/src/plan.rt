@@ -6,12 +6,13 @@ ghost use Rattle.hook_run.specs.CandidateFiles.{files_at};
 ghost use Rattle.hook_run.specs.PlanBounds.{most_left, most_of_hooks, parts_at};
 ghost use Rattle.hook_run.specs.Plans.{IsPlanAfter, IsPlanOf, need_of, out_of_plan, seen_of_plan, tree_of_plan, words_of_plan};
 ghost use Rattle.hook_run.specs.Refusals.{is_of_book};
-ghost use Rattle.hook_run.specs.PlanStates.{AreFurther, FitsName, FitsResults, IsCourse, IsPlanAt, IsPlanBehindHook, IsToldFrom, at_part, at_work, hooks_from};
+ghost use Rattle.hook_run.specs.PlanStates.{AreFurther, FitsName, FitsResults, AreBegunAhead, IsCourse, IsPlanAt, IsPlanBehindHook, IsToldFrom, at_part, at_work, hooks_from};
 
 use crate::advance::{advance, place_behind};
 use crate::candidate_files::CandidateFiles;
 use crate::hook_choice::{hooks_of_run, names_no_hook};
 use crate::hook_state::HookState;
+use crate::hooks_ahead::{ahead_after, hooks_begun};
 use crate::pending_part::PendingPart;
 use crate::plan_state::PlanState;
 use crate::progress::{Progress, files_after, progress_after, progress_with};
@@ -38,6 +39,8 @@ pub struct RunPlan<'a> {
     pub(crate) files: CandidateFiles,
     pub(crate) place: usize,
     pub(crate) standing: PlanState<'a>,
+    /// How the hooks from `place` on begin on that tree, as far as that was found ahead.
+    pub(crate) ahead: Vec<HookState<'a>>,
 }
 
 impl<'a> Model for RunPlan<'a> {
@@ -55,7 +58,8 @@ impl<'a> Model for RunPlan<'a> {
       hooks = hooks_from plan.course plan.place;
     } };
 
-    ghost invariant = { λ plan. IsPlanned plan.course plan.done plan.files plan.standing };
+    ghost invariant = { λ plan. IsPlanned plan.course plan.done plan.files plan.place plan.standing
+        plan.ahead.items };
 }
 
 impl<'a> RunPlan<'a> {
@@ -152,12 +156,39 @@ impl<'a> RunPlan<'a> {
             files,
             place,
             standing,
+            ahead,
         } = self;
         let waiting = match standing {
             PlanState::Waits(waiting) => waiting,
             PlanState::Over(_) => unreachable!(),
         };
-        told(course, done, files, place, waiting, outcome, unsteady)
+        told(
+            course, done, files, place, ahead, waiting, outcome, unsteady,
+        )
+    }
+
+    /// The same plan. The hooks after the one that waits have begun, as far as nothing that comes between can
+    /// change how.
+    pub(crate) fn with_hooks_begun(self) -> RunPlan<'a>
+        ensures { result ≡ self.entry }
+    {
+        let RunPlan {
+            course,
+            done,
+            files,
+            place,
+            standing,
+            ahead,
+        } = self;
+        let ahead = hooks_begun(&course, &done.tree, &files, place, ahead);
+        RunPlan {
+            course,
+            done,
+            files,
+            place,
+            standing,
+            ahead,
+        }
     }
 
     /// What the run gives. It takes no memory.
@@ -214,7 +245,7 @@ fn plan_of<'a>(
         unsteady: Items::new(alloc),
         tree,
     };
-    advance(alloc, course, done, files, 0)
+    advance(alloc, course, done, files, 0, Vec::new(alloc))
 }
 
 // The plan after an outcome of the part that waits.
@@ -223,6 +254,7 @@ fn told<'a>(
     done: Progress,
     files: CandidateFiles,
     place: usize,
+    ahead: Vec<HookState<'a>>,
     waiting: PendingPart<'a>,
     outcome: Outcome,
     unsteady: bool,
@@ -230,6 +262,7 @@ fn told<'a>(
     requires course { IsCourse course }
     requires fits { FitsResults course done.results }
     requires held { files ≡ files_at course.ask.now.candidates done.tree }
+    requires ahead { AreBegunAhead course.config.now course.ask.now done.tree (hooks_from course place) ahead.items }
     requires fits_at { FitsName course waiting.work.hook.now.name }
     requires further { AreFurther waiting.work.hook.now waiting.work.further done.tree }
     ensures from { IfOk result (IsToldFrom course.entry done place waiting.entry outcome unsteady) }
@@ -239,9 +272,10 @@ fn told<'a>(
     let alloc = *course.hooks.allocator();
     let PendingPart { work, .. } = waiting;
     let work = work_with(work, &outcome, unsteady)?;
+    let ahead = ahead_after(ahead, &outcome);
     let files = files_after(files, &outcome)?;
     let done = progress_after(done, outcome)?;
-    plan_at(alloc, course, done, files, place, work)
+    plan_at(alloc, course, done, files, place, ahead, work)
 }
 
 // The plan in which this hook goes on.
@@ -251,11 +285,13 @@ fn plan_at<'a>(
     done: Progress,
     files: CandidateFiles,
     place: usize,
+    ahead: Vec<HookState<'a>>,
     work: RunningHook<'a>,
 ) -> Result<RunPlan<'a>, OutOfMemory>
     requires course { IsCourse course }
     requires fits { FitsResults course done.results }
     requires held { files ≡ files_at course.ask.now.candidates done.tree }
+    requires ahead { AreBegunAhead course.config.now course.ask.now done.tree (hooks_from course place) ahead.items }
     requires fits_at { FitsName course work.hook.now.name }
     requires further { AreFurther work.hook.now work.further done.tree }
     ensures from { IfOk result (IsPlanAt course.entry done place (at_work work.entry)) }
@@ -270,9 +306,12 @@ fn plan_at<'a>(
             files,
             place,
             standing: PlanState::Waits(waiting),
+            ahead,
         }),
         HookState::Ended(ending, unsteady) => {
-            plan_behind_hook(alloc, course, done, files, place, hook, ending, unsteady)
+            plan_behind_hook(
+                alloc, course, done, files, place, ahead, hook, ending, unsteady,
+            )
         }
     }
 }
@@ -284,6 +323,7 @@ fn plan_behind_hook<'a>(
     done: Progress,
     files: CandidateFiles,
     place: usize,
+    ahead: Vec<HookState<'a>>,
     hook: &Hook,
     ending: Ending,
     unsteady: bool,
@@ -291,11 +331,12 @@ fn plan_behind_hook<'a>(
     requires course { IsCourse course }
     requires fits { FitsResults course done.results }
     requires held { files ≡ files_at course.ask.now.candidates done.tree }
+    requires ahead { AreBegunAhead course.config.now course.ask.now done.tree (hooks_from course place) ahead.items }
     requires fits_at { FitsName course hook.now.name }
     ensures from { IfOk result (IsPlanBehindHook course.entry done place hook.now ending unsteady) }
     ensures within { IfOk result (λ plan. most_left plan ≤ most_of_hooks (hooks_from course.entry place) done.tree) }
 {
     let place = place_behind(&course, hook, &ending, place);
     let done = progress_with(alloc, done, hook, ending, unsteady)?;
-    advance(alloc, course, done, files, place)
+    advance(alloc, course, done, files, place, ahead)
 }

@@ -13,6 +13,7 @@ ghost use Rattle.hook_run.specs.Plans.{need_of};
 ghost use Rattle.hook_run.specs.Refusals.{IsOfBook};
 ghost use Rattle.hook_run.specs.RunOuts.{IsCountedRun, IsRunOver, IsStoppedRun};
 
+use crate::look_ahead::{Outlook, look_ahead, runs_alone};
 use crate::news::tell_news;
 use crate::part_answer::answer_part;
 use crate::part_outcome::PartOutcome;
@@ -95,13 +96,18 @@ fn run_plan<C: Children, B: Book>(
     ensures rest { B.rests book.old book.new }
     ensures same { SameTells (C.tells children.old) (C.tells children.new) }
 {
-    let mut plan = plan;
+    let mut outlook = Outlook::at_start();
+    let begun = look_ahead(children, book, reuse, plan, &mut outlook);
+    let mut plan = begun;
     let mut reused = 0;
     let mut ended = 0;
     'parts: while plan.next() == Need::Child {
+        let is_alone = runs_alone(&plan);
         let came = answer_told(children, book, reuse, &plan, &mut ended)?;
         reused = reused_with(reused, came.reused);
-        plan = plan.tell_marked(came.outcome, came.unsteady)?;
+        outlook = outlook.after(&came, is_alone);
+        let told = plan.tell_marked(came.outcome, came.unsteady)?;
+        plan = look_ahead(children, book, reuse, told, &mut outlook);
     }
     let _all = tell_news(children, &plan, ended);
     Ok(HooksRun {

@@ -12,7 +12,7 @@ use crate::modified::is_modified;
 use crate::part_totals::{PartTotals, gathered_with};
 use crate::pending_part::PendingPart;
 use arg_partition::Cut;
-use child_port::{Outcome, seen_of};
+use child_port::{ChildAsk, Outcome, seen_of};
 use hook_base::{Items, OutOfMemory, RepoPath, Text, Tree};
 use hook_config::Hook;
 use report_text::Ending;
@@ -149,6 +149,21 @@ fn command_with(
         command.push(Text::copy_of(alloc, name.as_str())?)?;
     }
     Ok(Items::from(command))
+}
+
+/// What the child of the hook's part with these names is asked on this tree.
+pub(crate) fn ask_of_part(
+    alloc: Global,
+    work: &RunningHook,
+    cut: Cut,
+    tree: &Tree,
+) -> Result<ChildAsk, OutOfMemory> {
+    let names = names_of(work.names.as_slice(), cut);
+    let words = command_with(alloc, work.words.as_slice(), names)?;
+    let further = work.further.as_slice();
+    let whole = !work.hook.pass_filenames;
+    let seen = seen_of(alloc, words.as_slice(), further, whole, tree)?;
+    Ok(ChildAsk { words, seen })
 }
 
 /// The hook after one of its parts with this outcome. `unsteady` says whether that is another answer than the

@@ -39,8 +39,10 @@ fn told_alone(answer: AnswerBytes, asked: &Standalone) -> AnswerBytes {
             config,
             paths,
             color,
+            jobs,
         } => {
-            let answer = answer.texts(&["try", word_of_color(*color), "\n"]);
+            let answer = answer.texts(&["try", word_of_color(*color)]);
+            let answer = with_jobs(answer, *jobs).text("\n");
             with_lines(with_line(answer, config), paths.as_slice())
         }
         Standalone::Check => answer.text("check\n"),
@@ -82,9 +84,10 @@ fn told_update(answer: AnswerBytes, update: &Update) -> AnswerBytes {
             message,
             no_verify,
             color,
+            jobs,
         } => {
-            let words = [word_of_commit(*no_verify), word_of_color(*color), "\n"];
-            with_line(answer.texts(&words), message)
+            let answer = answer.texts(&[word_of_commit(*no_verify), word_of_color(*color)]);
+            with_line(with_jobs(answer, *jobs).text("\n"), message)
         }
         Update::Forget => answer.text("forget\n"),
         Update::Limit(limit) => answer.text("limit ").shown(limit.number()).text("\n"),
@@ -128,7 +131,15 @@ fn with_how(answer: AnswerBytes, fresh: bool, options: RunChoice) -> AnswerBytes
     let cautious = if options.cautious { " cautious" } else { "" };
     let verbose = if options.verbose { " verbose" } else { "" };
     let color = word_of_color(options.color);
-    answer.texts(&[fresh, cautious, verbose, color, "\n"])
+    let answer = answer.texts(&[fresh, cautious, verbose, color]);
+    with_jobs(answer, options.jobs).text("\n")
+}
+
+fn with_jobs(answer: AnswerBytes, jobs: Option<u32>) -> AnswerBytes {
+    match jobs {
+        Some(number) => answer.text(" jobs ").shown(number),
+        None => answer,
+    }
 }
 
 fn word_of_color(color: ColorChoice) -> &'static str {

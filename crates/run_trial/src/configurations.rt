@@ -140,10 +140,10 @@ fn with_truths(answer: AnswerBytes, hook: &Hook) -> AnswerBytes {
 }
 
 fn with_reads(answer: AnswerBytes, hook: &Hook) -> AnswerBytes {
-    with_truth(
-        answer.texts(&["|", text_of(&hook.x_reads)]),
-        hook.x_per_file,
-    )
+    let answer = answer.texts(&["|", text_of(&hook.x_reads)]);
+    with_truth(answer, hook.x_per_file)
+        .text("|")
+        .shown(hook.x_at_most)
 }
 
 fn with_truth(answer: AnswerBytes, truth: bool) -> AnswerBytes {

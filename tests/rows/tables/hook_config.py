@@ -76,9 +76,19 @@ FIELDS_OF_A_HOOK = {
     "fail_fast": "false",
     "x_reads": "^$",
     "x_per_file": "false",
+    "x_at_most": "100000",
     "log_file": "",
     "additional_dependencies": "",
 }
+
+
+# What a number of names is written as, with the number, and what none is: no number, one out of range, in another base or quoted.
+NAME_COUNTS = [("1", "1"), ("20", "20"), ("+7", "7"), ("007", "7"), ("99999", "99999"), ("100000", "100000"), ("000100000", "100000")]
+NO_NAME_COUNTS = [
+    "0", "+0", "000", "100001", "1000000", "18446744073709551615", "18446744073709551616", "18446744073709551617", "9" * 40, "-1", "-0", "++1",
+    "+-1", "1+", "+", "1.0", "1.5", "1e3", "0x10", "0o17", "1_000", "'1,000'", "1 000", "\uff15", "\u0665", "five", "true", "~", "''", "'5'",
+    '"5"', "[5]", "[]", "{5: 5}", "{}",
+]
 
 
 def hook_line(changed):
@@ -188,15 +198,17 @@ KEYS = [
     ("x_per_file: 1", "2 Shape at 1"),
     ("x_per_file: [true]", "2 Shape at 1"),
     ("x_per_file: {true: true}", "2 Shape at 1"),
-    ("x_reads: a, x_per_file: yes", "1 hooks, false"),
-    ("x_read: a, x_per_files: yes", "1 hooks, false x_read x_per_files"),
+    *((f"x_at_most: {value}", "2 Shape at 1") for value in NO_NAME_COUNTS),
+    ("x_reads: a, x_per_file: yes, x_at_most: 2", "1 hooks, false"),
+    ("x_read: a, x_per_files: yes, x_at_mosts: 0", "1 hooks, false x_read x_per_files x_at_mosts"),
 ]
 
 # A hook of any language has these keys, which are read after all others.
 KEYS_OF_CHILDREN = [
-    ("x_reads: a, x_per_file: true", "1 hooks, false"),
+    ("x_reads: a, x_per_file: true, x_at_most: 2", "1 hooks, false"),
     ("x_reads: '('", "7 BadPattern at 1"),
     ("x_per_file: 1", "2 Shape at 1"),
+    ("x_at_most: 0", "2 Shape at 1"),
 ]
 
 # Keys of a hook of the language `pygrep`.
@@ -336,6 +348,9 @@ FIRST_IN_HOOKS = [
     ("{id: a, name: A, language: fail, entry: e, x_per_file: x, stages: [never]}", "4 BadStage at 1"),
     ("{id: a, name: A, language: fail, entry: e, x_per_file: x, x_reads: '('}", "7 BadPattern at 1"),
     ("{id: a, name: A, language: fail, entry: e, x_per_file: x}, {}", "2 Shape at 1"),
+    ("{id: a, name: A, language: fail, entry: e, x_at_most: 0, stages: [never]}", "4 BadStage at 1"),
+    ("{id: a, name: A, language: fail, entry: e, x_at_most: 0, x_reads: '('}", "7 BadPattern at 1"),
+    ("{id: a, name: A, language: fail, entry: e, x_at_most: 0}, {}", "2 Shape at 1"),
 ]
 
 # A fault has its hook's number over all repositories.
@@ -448,6 +463,8 @@ FIELDS = [
     ("x_reads: '^lint\\.cfg$', files: '^a/', exclude: '^b/'", {"files": "^a/", "exclude": "^b/", "x_reads": "^lint\\.cfg$"}),
     ("x_per_file: true", {"x_per_file": "true"}),
     ("x_per_file: Off", {}),
+    *((f"x_at_most: {value}", {"x_at_most": number}) for value, number in NAME_COUNTS),
+    ("x_per_file: true, x_at_most: 20", {"x_per_file": "true", "x_at_most": "20"}),
     ("log_file: ''", {}),
     ("additional_dependencies: []", {}),
 ]
@@ -511,8 +528,9 @@ UNKNOWN_KEYS = [
         "id: 1\nrepo: 2\nRepos: 3\nrepos:\n- repo: local\n  id: 4\n  fail_fast: 5\n  hooks:\n  - repo: 6\n    id: a\n    name: A\n    language: fail\n    entry: e\n",
         "1 hooks, false id repo Repos id fail_fast repo",
     ),
-    # Two keys that a hook alone has.
+    # Three keys that a hook alone has.
     ("x_reads: '('\nx_per_file: 1\nrepos:\n- repo: local\n  x_per_file: 2\n  hooks: []\n", "0 hooks, false x_reads x_per_file x_per_file"),
+    ("x_at_most: 0\nrepos:\n- repo: local\n  x_at_most: no\n  hooks: []\n", "0 hooks, false x_at_most x_at_most"),
 ]
 
 # 500 hooks in two repositories.
@@ -620,7 +638,7 @@ ROWS = [
     *(("hooks", in_a_hook(keys), hook_line(changed)) for keys, changed in FIELDS),
     ("hooks", with_pygrep("entry: e, args: [-i, --negate]"), hook_line({"language": "Pygrep", "entry and args": "e+-i+--negate"})),
     *(
-        ("hooks", with_command(word.lower(), "entry: e, x_reads: b, x_per_file: true"), hook_line({"language": word, "x_reads": "b", "x_per_file": "true"}))
+        ("hooks", with_command(word.lower(), "entry: e, x_reads: b, x_per_file: true, x_at_most: 3"), hook_line({"language": word, "x_reads": "b", "x_per_file": "true", "x_at_most": "3"}))
         for word in ["Fail", "Pygrep", "System", "Script"]
     ),
     *both([(f"{WITH_PATTERNS}{PLAIN_HOOK}", "11 TooMany at 501"), (WITH_PATTERNS, "500 hooks, false")]),

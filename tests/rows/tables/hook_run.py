@@ -251,8 +251,9 @@ CHILDREN = [
     # Each fault has its line.
     *(over(T, [answered("c", "a.txt", seen=SEEN)], [X], told("failed", 1, 1, "t: ran, status 0\n", details("T", f"fault: {text}")), kth="1", fault=fault)
       for fault, text in FAULTS.items()),
-    # Two parts: all outputs, and the greatest status.
-    over(T, TWO_PARTS, LONG_FILES, told("failed", 2, 0, "t: ran, status 3\n", details("T", "exit code: 3", output="one\ntwo\n")), "\n".join(LONG)),
+    # Two parts: all outputs, and the greatest status. So it is if a part may have more names than fit a command.
+    *(over(hook_of_all, TWO_PARTS, LONG_FILES, told("failed", 2, 0, "t: ran, status 3\n", details("T", "exit code: 3", output="one\ntwo\n")), "\n".join(LONG))
+      for hook_of_all in (T, T.replace("files: ", "x_at_most: 32, files: "))),
     # The first ends by a signal, and the second runs all the same.
     over(T, TWO_PARTS, LONG_FILES, told("failed", 2, 1, "t: ran, status 3\n", details("T", "exit code: 3", "fault: ended by a signal", output="two\n")), "\n".join(LONG), kth="1"),
     # A name doesn't fit, and no child is started; nor is one whose words don't fit without names.
@@ -312,10 +313,22 @@ CHILDREN = [
     over(hooks(hook("T", f"{READS}, x_per_file: true", "system", "c")),
          [answered("c", "a.txt", seen=[*SEEN, STRICT], changes="lint.cfg"), answered("c", "b.txt", seen=["b.txt=y"])], [X, Y, CFG],
          told("failed", 2, 0, "gone lint.cfg\n", "t: ran, status 0\n", details("T", "files were modified by this hook")), A_TXT_AND_B_TXT),
+    # At most two names for each child: the last has those that are left, and one has all if there are no more.
+    over(hooks(hook("T", r"files: '\.txt$', x_at_most: 2", "system", "c")),
+         [answered("c", "a.txt", "b.txt", seen=[*SEEN, "b.txt=y"], output="one\n"), answered("c", "d.txt", seen=["d.txt=z"], status=2, output="two\n")],
+         [X, Y, file("d.txt", "z\n")], told("failed", 2, 0, "t: ran, status 2\n", details("T", "exit code: 2", output="one\ntwo\n")), f"{A_TXT_AND_B_TXT}\nd.txt"),
+    *(over(hooks(hook("T", rf"files: '\.txt$', x_at_most: {most}", "system", "c")), [answered("c", "a.txt", "b.txt", seen=[*SEEN, "b.txt=y"])], [X, Y],
+           told("passed", 1, 0, "t: ran, status 0\n", line("T", "Passed")), A_TXT_AND_B_TXT)
+      for most in (2, 3, 100_000)),
+    # With 1 there is a child for each name, and with both keys the smaller number counts.
+    *(over(hooks(hook("T", rf"files: '\.txt$', {keys}", "system", "c")), [answered("c", "a.txt", seen=SEEN), answered("c", "b.txt", seen=["b.txt=y"])], [X, Y],
+           told("passed", 2, 0, "t: ran, status 0\n", line("T", "Passed")), A_TXT_AND_B_TXT)
+      for keys in ("x_at_most: 1", "x_per_file: true, x_at_most: 2", "x_per_file: false, x_at_most: 1")),
     # Without names there is one child, and hooks that start none have all names at once.
-    over(hooks(hook("T", "pass_filenames: false, x_per_file: true", "system", "c")), [answered("c", seen=[*SEEN, "b.txt=y"])], [X, Y],
-         told("passed", 1, 0, "t: ran, status 0\n", line("T", "Passed")), A_TXT_AND_B_TXT),
-    over(hooks(hook("One", "x_per_file: true, x_reads: b")), [], [X, Y], told("failed", 0, 0, "one: ran, status 1\n", failed("One", "a.txt", "b.txt")), A_TXT_AND_B_TXT),
+    *(over(hooks(hook("T", f"pass_filenames: false, {key}", "system", "c")), [answered("c", seen=[*SEEN, "b.txt=y"])], [X, Y],
+           told("passed", 1, 0, "t: ran, status 0\n", line("T", "Passed")), A_TXT_AND_B_TXT)
+      for key in ("x_per_file: true", "x_at_most: 1")),
+    over(hooks(hook("One", "x_per_file: true, x_at_most: 1, x_reads: b")), [], [X, Y], told("failed", 0, 0, "one: ran, status 1\n", failed("One", "a.txt", "b.txt")), A_TXT_AND_B_TXT),
     # It always runs: without selected files once, without names.
     over(hooks(hook("T", "files: zz, always_run: true", "system", "c")), [answered("c", seen=[])], [X], told("passed", 1, 0, "t: ran, status 0\n", line("T", "Passed"))),
     # No hook runs after one whose child failed, if it stops the run.

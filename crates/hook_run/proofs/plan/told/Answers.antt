@@ -2,7 +2,7 @@ use Rattle.std.proofs.Common.{◌≡◌, ◌∙◌, sym, subst}
 use Rattle.hook_run.specs.declared.progress.Progress.{Progress}
 use Rattle.hook_run.specs.CandidateFiles.{files_at}
 use Rattle.hook_run.specs.Plans.{AtHook}
-use Rattle.hook_run.specs.PlanStates.{FitsName, FitsResults}
+use Rattle.hook_run.specs.PlanStates.{FitsName, FitsResults, AreBegunAhead, hooks_from}
 use Rattle.hook_run.proofs.AdvanceLemmas.{told-part_if, told-within_if}
 use Rattle.hook_run.proofs.CandidateLemmas.{files-told}
 use Rattle.hook_run.proofs.FurtherLemmas.{further-told}
@@ -18,6 +18,11 @@ pub plan_at-requires-clause-held : goal.plan_at-requires-clause-held
 plan_at-requires-clause-held c =
     subst (λ (p : Progress). c.in_ok-files.files ≡ files_at c.args.course.ask.now.candidates p.tree) (sym c.in_ok-done.ensures)
     (c.in_ok-files.ensures ∙ files-told c.args.course.ask.now.candidates c.args.done.tree c.args.files c.args.outcome c.requires.held)
+
+pub plan_at-requires-clause-ahead : goal.plan_at-requires-clause-ahead
+plan_at-requires-clause-ahead c =
+    subst (λ (p : Progress). AreBegunAhead c.args.course.config.now c.args.course.ask.now p.tree (hooks_from c.args.course c.args.place) c.ahead_after-ahead.result.items) (sym c.in_ok-done.ensures)
+    (c.ahead_after-ahead.ensures c.args.course.config.now c.args.course.ask.now c.args.done.tree (hooks_from c.args.course c.args.place) c.requires.ahead)
 
 pub plan_at-requires-clause-further : goal.plan_at-requires-clause-further
 plan_at-requires-clause-further c =
