@@ -3,14 +3,22 @@ import os
 import random
 from pathlib import Path
 
-from children_trial import MIB, TREE, Trial, check, digits, equal
+from children_trial import MIB, TELLING, TREE, Trial, check, digits, equal
 
-# What a child may do, by how often: pass, fail, print, wait, write a file of its own, end by a signal. None changes a file of the tree.
+# What a child may do, by how often: pass, fail, print, wait, end by a signal. None changes anything in its folder.
 QUIET = [
-    ":", "exit 3", "echo out; echo err >&2", "sleep 0.02; cat a.txt", "mkdir -p cache; echo x > cache/y; ls d", "sleep 0.01; exit 255",
+    ":", "exit 3", "echo out; echo err >&2", "sleep 0.02; cat a.txt", "f=$(mktemp); echo x > $f; rm $f; ls d", "sleep 0.01; exit 255",
     "head -c 70000 /dev/zero | tr '\\0' x", "kill -9 $$", "cat d/c.txt b.txt; exit 1", "wc -c < d-e",
 ]
 LOUD = ["echo more >> a.txt", "rm d/c.txt", "printf %s new > b.txt; exit 1"]
+# Changes of which nothing may be left at the end, but which another child may have found meanwhile.
+BRIEF = [
+    "touch new", "mkdir new", "ln -s a.txt new", "touch d/new", "mkdir -p .mypy_cache", "mkdir d/__pycache__", "touch .git/x",
+    "c=$(cat a.txt); : > a.txt; sleep 0.05; printf '%s\\n' \"$c\" > a.txt", "cat a.txt > ../copy; mv ../copy a.txt", "mv a.txt ../a; mv ../a a.txt",
+    "mv a.txt x; mv x a.txt", "touch new; rm new", "touch d/new; rm d/new", "mkdir d/x; rmdir d/x", "chmod +x a.txt", "chmod +x a.txt; chmod -x a.txt",
+    "chmod 700 d; chmod 755 d", "chmod 755 .", "ln a.txt ../x; rm ../x", "mkdir .git/x; rmdir .git/x", "touch -d 2001-01-01 a.txt", "touch a.txt",
+    "mv d ../d2; mv ../d2 d", "setfattr -n user.x -v y a.txt || chmod g-w a.txt",
+]
 
 
 def counting(trial, commands):
@@ -28,6 +36,11 @@ def ahead(trial, most, commands):
 def starts(log):
     """How often each command was started, by its number."""
     return sorted(Path(log).read_text().split())
+
+
+def are_started():
+    """Whether children are started ahead: only if the times of files show each change, and aren't left aside."""
+    return TELLING and not Trial.reads
 
 
 def in_turn(tree, commands, most):
@@ -54,8 +67,8 @@ def children_ahead_answer_as_in_their_turns():
         told, wanted, begun, again = in_turn(TREE, commands, most)
         equal(told, wanted, f"outcomes of {commands!r}, {most} at once")
         numbers = [str(number) for number in range(len(commands))]
-        equal(begun, sorted(numbers), f"starts ahead of {commands!r}, {most} at once")
-        killed = [number for number in numbers if commands[int(number)] == "kill -9 $$"]
+        equal(begun, sorted(numbers) if are_started() else [], f"starts ahead of {commands!r}, {most} at once")
+        killed = [number for number in numbers if commands[int(number)] == "kill -9 $$" and are_started()]
         equal(again, sorted(numbers + killed), f"starts in all of {commands!r}, {most} at once")
 
 
@@ -67,7 +80,15 @@ def a_change_ahead_keeps_no_answer():
         play.shuffle(commands)
         told, wanted, _begun, again = in_turn(TREE, commands, 4)
         equal(told, wanted, f"outcomes of {commands!r}")
-        equal(again, sorted(2 * [str(number) for number in range(len(commands))]), f"starts of {commands!r}")
+        equal(again, sorted((1 + are_started()) * [str(number) for number in range(len(commands))]), f"starts of {commands!r}")
+
+
+def brief_changes_ahead_keep_no_answer():
+    """If one of them changes anything in the folder, if only for a moment, all run in their turns: another may have found it."""
+    for change in BRIEF:
+        told, wanted, begun, again = in_turn(TREE, ["cat a.txt", change, "ls -A d . | sort", "exit 1"], 4)
+        equal(told, wanted, f"outcomes next to {change!r}")
+        equal((begun, again), (list("0123"), sorted(2 * "0123")) if are_started() else ([], list("0123")), f"starts next to {change!r}")
 
 
 def answers_ahead_are_of_one_tree():
@@ -77,18 +98,21 @@ def answers_ahead_are_of_one_tree():
     ahead(trial, 2, [look, other])
     equal(trial.sh(look), (0, b"one\n", {}), "the answer of its turn")
     equal(trial.sh(look), (0, b"one\n", {}), "the same once more")
-    equal(starts(log), ["0", "0", "1"], "the starts so far")
+    more = ["1"] if are_started() else []
+    equal(starts(log), ["0", "0", *more], "the starts so far")
     trial.file("a.txt", b"three\n")
     equal(trial.sh(other), (0, b"two\n", {}), "the answer on another tree")
-    equal(starts(log), ["0", "0", "1", "1"], "the starts on another tree")
+    equal(starts(log), ["0", "0", "1", *more], "the starts on another tree")
     trial.file("a.txt", b"one\n")
     equal(trial.sh(other), (0, b"two\n", {}), "the answer on the first tree again")
-    equal(starts(log), ["0", "0", "1", "1", "1"], "the starts in all")
+    equal(starts(log), ["0", "0", "1", "1", *more], "the starts in all")
     trial.end()
 
 
 def children_ahead_run_at_once():
     """As many run at once as are allowed: each waits until all of them have begun."""
+    if not are_started():
+        return
     trial = Trial(TREE)
     meet = f"{trial.top}/meet"
     os.mkdir(meet)
@@ -102,6 +126,8 @@ def children_ahead_run_at_once():
 
 def no_more_children_run_at_once_than_allowed():
     """The third begins only once one of the first two has ended."""
+    if not are_started():
+        return
     trial = Trial(TREE)
     log = f"{trial.top}/order"
     commands = [f"echo begins >> {log}; sleep 0.2; echo ends >> {log}" for _ in range(5)]

@@ -1,17 +1,9 @@
 //! Answers of children that were started ahead of their turn.
 
 use crate::ending::ChildEnding;
-use hook_base::{Items, Text, Tree};
+use child_port::ChildAsk;
+use hook_base::{Text, Tree};
 use std::alloc::Global;
-
-/// What a child is asked, before its turn: its words, and the files of the tree that it has seen.
-#[derive(Clone, Copy)]
-pub struct ChildAsk<'a> {
-    /// The words of its command.
-    pub words: &'a [Text],
-    /// The files that identify it, together with its words.
-    pub seen: &'a Tree,
-}
 
 /// Answers of children that ran on one tree and changed nothing, each kept until its turn comes.
 #[derive(Drop)]
@@ -24,10 +16,8 @@ pub(crate) struct AheadAnswers {
 /// An answer, and what was asked.
 #[derive(Drop)]
 pub(crate) struct AheadAnswer {
-    /// The words of the command.
-    pub words: Items<Text>,
-    /// The files that it has seen.
-    pub seen: Tree,
+    /// What was asked.
+    pub ask: ChildAsk,
     /// How it ended.
     pub ending: ChildEnding,
 }
@@ -66,6 +56,6 @@ impl AheadAnswers {
 
 impl AheadAnswer {
     fn is_for(&self, words: &[Text], seen: &Tree) -> bool {
-        self.words.as_slice() == words && self.seen == *seen
+        self.ask.words.as_slice() == words && self.ask.seen == *seen
     }
 }

@@ -1,12 +1,13 @@
 //! Runs children: lays out their files, starts them, and reads back what they left. Each runs in its turn, but
 //! for those that were started ahead of it, several at once.
 
-use crate::ahead::{AheadAnswer, AheadAnswers, ChildAsk};
+use crate::ahead::{AheadAnswer, AheadAnswers};
 use crate::contents::PIECE_BYTES;
 use crate::ending::{ChildEnding, ending_of};
 use crate::first_troubles::FirstTroubles;
 use crate::kept_folder::keep_as;
 use crate::known_files::KnownFiles;
+use crate::last_change::last_change;
 use crate::links::WantedFiles;
 use crate::obstacle::at_place;
 use crate::read_back::read_back;
@@ -14,8 +15,8 @@ use crate::scratch_folder::{AtEnd, ScratchFolder};
 use crate::side_by_side::RunningChildren;
 use crate::start::start;
 use crate::stop::ChildStop;
-use child_port::{Answer, Fault};
-use hook_base::{Changes, RepoPath, Text, Tree, copy_texts};
+use child_port::{Answer, ChildAsk, Fault};
+use hook_base::{Changes, RepoPath, Text, Tree};
 use std::alloc::Global;
 use std::fs::{File, Files};
 use std::io::ErrorKind;
@@ -34,6 +35,10 @@ pub(crate) struct ChildRunner<R: Files<File = File> + AllocGlobal + Drop> {
     state: Option<RepoPath>,
     at_end: AtEnd,
     troubles: FirstTroubles,
+    at_once: usize,
+    // How many turns come next before children are started ahead again, and how often answers had to be dropped.
+    in_turn: usize,
+    dropped: u32,
     ahead: AheadAnswers,
 }
 
@@ -58,6 +63,9 @@ impl<R: Files<File = File> + AllocGlobal + Drop> ChildRunner<R> {
             state: None,
             at_end,
             troubles: FirstTroubles::new(),
+            at_once: 1,
+            in_turn: 0,
+            dropped: 0,
             ahead,
         }
     }
@@ -75,6 +83,20 @@ impl<R: Files<File = File> + AllocGlobal + Drop> ChildRunner<R> {
     /// From now on each child learns whether it has seen the file of this path.
     pub(crate) fn tell_state(&mut self, path: RepoPath) {
         self.state = Some(path);
+    }
+
+    /// From now on at most so many children run at once.
+    pub(crate) fn set_at_once(&mut self, most: usize) {
+        self.at_once = most;
+    }
+
+    /// How many children may be started at once ahead of the next turn.
+    pub(crate) fn at_once(&self) -> usize {
+        if self.in_turn == 0 && !self.known.are_mute() {
+            self.at_once
+        } else {
+            1
+        }
     }
 
     // Whether a child that has seen these files has seen that of Git's state, or `None` if no path was given.
@@ -102,6 +124,9 @@ impl<R: Files<File = File> + AllocGlobal + Drop> ChildRunner<R> {
             state: _,
             at_end,
             troubles: _,
+            at_once: _,
+            in_turn: _,
+            dropped: _,
             ahead: _,
         } = self;
         if let Some(scratch) = scratch {
@@ -135,6 +160,7 @@ impl<R: Files<File = File> + Processes<Started = SystemProcess> + AllocGlobal + 
                 changes: Changes::new(self.runtime.alloc()),
             });
         }
+        self.in_turn = self.in_turn.saturating_sub(1);
         let sees_state = self.sees_state(seen);
         let taken = match self.scratch.take() {
             Some(taken) => taken,
@@ -215,11 +241,13 @@ impl<R: Files<File = File> + Processes<Started = SystemProcess> + AllocGlobal + 
 impl<R: Files<File = File> + Processes<Started = SystemProcess> + AllocGlobal + Drop> ChildRunner<
     R,
 > {
-    /// Starts children ahead of their turns on this tree, at most so many at once, and waits for all. The
-    /// answers are kept, each for its turn. None is kept if a file of the tree was changed, if a call was
-    /// recorded, or if the folder was lost. A child that doesn't answer runs again in its turn, which then
-    /// says why.
-    pub(crate) fn start_ahead(&mut self, asks: &[ChildAsk<'_>], most: usize, tree: &Tree) {
+    /// Starts children ahead of their turns on this tree, several at once, and waits for all. The answers are
+    /// kept, each for its turn. A child that doesn't answer runs again in its turn, which then says why.
+    ///
+    /// No answer is kept if anything in the folder was changed, even if it is as before, if a call was recorded,
+    /// or if the folder was lost: a child may have found what another one did. Then so many children run in
+    /// their turns, and each time twice as many. None is started if changes needn't show.
+    pub(crate) fn start_ahead(&mut self, asks: Vec<ChildAsk>, tree: &Tree) {
         self.ahead = AheadAnswers::none(self.runtime.alloc());
         let taken = match self.scratch.take() {
             Some(taken) => taken,
@@ -228,8 +256,13 @@ impl<R: Files<File = File> + Processes<Started = SystemProcess> + AllocGlobal + 
                 Err(_) => return,
             },
         };
-        if let Some(answers) = self.answers_ahead(&taken, asks, most, tree) {
-            self.ahead = answers;
+        let asked = asks.len();
+        match self.answers_ahead(&taken, asks, tree) {
+            Some(answers) => self.ahead = answers,
+            None => {
+                self.in_turn = asked.saturating_mul(2usize.saturating_pow(self.dropped));
+                self.dropped = self.dropped.saturating_add(1);
+            }
         }
         if taken.is_marked(&self.runtime) {
             self.scratch = Some(taken);
@@ -242,8 +275,7 @@ impl<R: Files<File = File> + Processes<Started = SystemProcess> + AllocGlobal + 
     fn answers_ahead(
         &mut self,
         scratch: &ScratchFolder,
-        asks: &[ChildAsk<'_>],
-        most: usize,
+        asks: Vec<ChildAsk>,
         tree: &Tree,
     ) -> Option<AheadAnswers> {
         let alloc = self.runtime.alloc();
@@ -253,10 +285,22 @@ impl<R: Files<File = File> + Processes<Started = SystemProcess> + AllocGlobal + 
         let links = self.links.as_slice();
         let wanted = WantedFiles { tree, links };
         let mut laid = keep_as(&self.runtime, alloc, place, wanted, known, piece).ok()?;
+        let device = self.known.device()?;
+        let last = last_change(&self.runtime, &mut laid.own, tree).ok()?;
+        let start = scratch.moment_after(last, device).ok()??;
         self.known.child_starts(laid.found());
         let inside = laid.own.inside("").ok()?;
         let before = self.call_length().ok()?;
-        let endings = self.endings(inside.as_str(), scratch.input_byte(), asks, most, piece)?;
+        let endings = self.endings(
+            inside.as_str(),
+            scratch.input_byte(),
+            asks.as_slice(),
+            piece,
+        )?;
+        let last = last_change(&self.runtime, &mut laid.own, tree).ok()?;
+        if !last.is_before(start) {
+            return None;
+        }
         let changes = read_back(&self.runtime, alloc, laid, tree, &mut self.known, piece).ok()?;
         if !changes.is_empty() || self.call_length().ok()? != before {
             return None;
@@ -269,11 +313,10 @@ impl<R: Files<File = File> + Processes<Started = SystemProcess> + AllocGlobal + 
         &self,
         folder: &str,
         input_byte: u64,
-        asks: &[ChildAsk<'_>],
-        most: usize,
+        asks: &[ChildAsk],
         piece: &mut [u8],
     ) -> Option<Vec<Option<ChildEnding>>> {
-        let alloc = self.runtime.alloc();
+        let (alloc, most) = (self.runtime.alloc(), self.at_once);
         let mut endings = Vec::with_capacity(alloc, asks.len()).ok()?;
         for _ask in asks {
             endings.push(None).ok()?;
@@ -281,7 +324,7 @@ impl<R: Files<File = File> + Processes<Started = SystemProcess> + AllocGlobal + 
         let mut running = RunningChildren::with_room(alloc, most).ok()?;
         let mut next = 0;
         for _ in 0..u64::MAX {
-            next = self.start_some(folder, input_byte, asks, next, most, &mut running);
+            next = self.start_some(folder, input_byte, asks, next, &mut running);
             if running.len() == 0 {
                 break;
             }
@@ -301,26 +344,26 @@ impl<R: Files<File = File> + Processes<Started = SystemProcess> + AllocGlobal + 
         Some(endings)
     }
 
-    // Starts further children, as long as fewer than so many run. The answer is the number of the next ask.
+    // Starts further children, as long as fewer run than may at once. The answer is the number of the next ask.
     fn start_some(
         &self,
         folder: &str,
         input_byte: u64,
-        asks: &[ChildAsk<'_>],
+        asks: &[ChildAsk],
         next: usize,
-        most: usize,
         running: &mut RunningChildren<SystemProcess>,
     ) -> usize {
         let mut next = next;
         for _ in 0..asks.len() {
-            if running.len() >= most {
+            if running.len() >= self.at_once {
                 break;
             }
             let Some(ask) = asks.get(next) else {
                 break;
             };
-            let (alloc, state) = (self.runtime.alloc(), self.sees_state(ask.seen));
-            if let Ok(child) = start(&self.runtime, alloc, folder, input_byte, ask.words, state) {
+            let (alloc, state) = (self.runtime.alloc(), self.sees_state(&ask.seen));
+            let words = ask.words.as_slice();
+            if let Ok(child) = start(&self.runtime, alloc, folder, input_byte, words, state) {
                 running.add(next, child);
             }
             next = next.saturating_add(1);
@@ -339,21 +382,15 @@ impl<R: Files<File = File> + Processes<Started = SystemProcess> + AllocGlobal + 
 // The answers of the children that gave one, with what was asked.
 fn kept_for_turns(
     alloc: Global,
-    asks: &[ChildAsk<'_>],
+    asks: Vec<ChildAsk>,
     endings: Vec<Option<ChildEnding>>,
     tree: &Tree,
 ) -> Option<AheadAnswers> {
-    let mut endings = endings;
+    let (mut asks, mut endings) = (asks, endings);
     let mut answers = Vec::with_capacity(alloc, asks.len()).ok()?;
-    for ask in asks.iter().rev() {
-        if let Some(Some(ending)) = endings.pop() {
-            answers
-                .push(AheadAnswer {
-                    words: copy_texts(alloc, ask.words).ok()?,
-                    seen: ask.seen.copy().ok()?,
-                    ending,
-                })
-                .ok()?;
+    for _ in 0..asks.len() {
+        if let (Some(ask), Some(Some(ending))) = (asks.pop(), endings.pop()) {
+            answers.push(AheadAnswer { ask, ending }).ok()?;
         }
     }
     Some(AheadAnswers::of(tree.copy().ok()?, answers))

@@ -68,6 +68,14 @@ impl FileTimes {
         }
     }
 
+    /// The device on which every change of a file shows in its stamp, if it is known to.
+    pub(crate) fn device(&self) -> Option<u64> {
+        match self {
+            FileTimes::Telling(ages) => Some(ages.device),
+            FileTimes::Unasked | FileTimes::Mute => None,
+        }
+    }
+
     /// Whether a file was last changed so long before the run that no process has unwritten changes of it in
     /// its memory.
     pub(crate) fn are_settled(&self, stamp: &Stamp) -> bool {

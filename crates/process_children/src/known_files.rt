@@ -103,6 +103,16 @@ impl KnownFiles {
         self.times.child_starts(folder);
     }
 
+    /// The device on which every change of a file shows in its stamp. `None` if that isn't known, or isn't so.
+    pub(crate) fn device(&self) -> Option<u64> {
+        self.times.device()
+    }
+
+    /// Whether it is known that changes of files needn't show in their stamps.
+    pub(crate) fn are_mute(&self) -> bool {
+        matches!(self.times, FileTimes::Mute)
+    }
+
     /// Whether the file at a path was read, so that its metadata may show that it needn't be read again.
     pub(crate) fn has(&mut self, path: &str) -> bool {
         self.known_at(path)

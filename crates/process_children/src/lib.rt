@@ -17,9 +17,9 @@
 //! (`known_files`). This shows in the metadata of each (`stamp`), and in what the times of files show in this
 //! run (`file_ages`) and on this file system (`file_system`).
 //!
-//! Children may be started ahead of their turns, several at once (`side_by_side`). Their answers are kept if
-//! none of them changed a file of the tree (`ahead`), and each is given in its turn, if the tree is still the
-//! same then.
+//! Children may be started ahead of their turns, several at once (`side_by_side`). Their answers are kept only
+//! if none of them changed anything in the folder, which another may have found (`last_change`). Each is
+//! given in its turn, if the tree is still the same then (`ahead`).
 //!
 //! Before the first call a folder is taken that no other run uses (`scratch_folder`). The file of `run_mark`
 //! says so. `removal` removes what a run left that a signal ended, and `input` shows whether a child of such
@@ -43,6 +43,7 @@ mod input;
 mod kept_folder;
 mod known_files;
 mod laid_folder;
+mod last_change;
 mod links;
 mod new_file_modes;
 mod obstacle;
@@ -61,6 +62,5 @@ mod stop;
 mod stray_files;
 mod trash;
 
-pub use ahead::ChildAsk;
 pub use obstacle::Obstacle;
 pub use process_children::ProcessChildren;

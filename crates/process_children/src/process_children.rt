@@ -2,12 +2,11 @@
 
 ghost use Rattle.std.specs.Prelude.{◌≡◌, ◌+◌, ◌<◌, ◌^◌};
 
-use crate::ahead::ChildAsk;
 use crate::child_runner::ChildRunner;
 use crate::obstacle::Obstacle;
 use crate::scratch_folder::AtEnd;
 use crate::stop::ChildStop;
-use child_port::{Children, Outcome};
+use child_port::{ChildAsk, Children, Outcome};
 use hook_base::{OutOfMemory, RepoPath, Text, Tree};
 use std::fs::{File, Files};
 use std::process::{Processes, SystemProcess};
@@ -100,20 +99,20 @@ impl<
         self.runner.read_everything();
     }
 
-    /// Starts children ahead of their turns on this tree, at most so many at once, and waits for all. What
-    /// each answers is kept. A later [`run`](Children::run) gives it in place of starting the child again, if
-    /// its words, seen files and tree are the same.
+    /// From now on at most so many children run at once, if the run says ahead of their turns what it asks
+    /// next. With 0 or 1, as at first, each runs in its turn.
     ///
-    /// Nothing is kept if a file of the tree was changed meanwhile, and of a child that gave no answer neither.
-    /// These children run in their turns. The children share the folder, so each may find new files that
-    /// others make; these are gone before the next turn.
-    pub fn start_ahead(&mut self, asks: &[ChildAsk<'_>], most: usize, tree: &Tree)
+    /// What children answer ahead of their turns is kept. [`run`](Children::run) gives it in place of starting
+    /// the child again, if its words, seen files and tree are the same. The children share the folder, so
+    /// nothing is kept if one of them changed anything there, for however short a time: another may have
+    /// found it. Nothing is kept either of a child that gave no answer. These run in their turns.
+    pub fn run_at_once(&mut self, most: usize)
         ensures calls { ⟦<ProcessChildren<R> as Children>⟧.call_count self.new
             ≡ ⟦<ProcessChildren<R> as Children>⟧.call_count self.old }
         ensures faults { ⟦<ProcessChildren<R> as Children>⟧.fault_count self.new
             ≡ ⟦<ProcessChildren<R> as Children>⟧.fault_count self.old }
     {
-        self.runner.start_ahead(asks, most, tree);
+        self.runner.set_at_once(most);
     }
 
     /// What kept the files of a child from being laid or read back, the first time that this was a fault.
@@ -172,5 +171,13 @@ impl<R: Files<File = File> + Processes<Started = SystemProcess> + AllocGlobal + 
 
     fn faults(&self) -> u64 {
         self.failed
+    }
+
+    fn at_once(&self) -> usize {
+        self.runner.at_once()
+    }
+
+    fn start_ahead(&mut self, asks: Vec<ChildAsk>, tree: &Tree) {
+        self.runner.start_ahead(asks, tree);
     }
 }

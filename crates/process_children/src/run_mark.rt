@@ -2,10 +2,10 @@
 
 use crate::disk_paths::standing;
 use std::alloc::Global;
-use std::fs::{File, Files, OpenOptions, TryLockError};
+use std::fs::{File, Files, Metadata, OpenOptions, Permissions, TryLockError};
 use std::io::ErrorKind;
 use std::os::fd::AsRawFd;
-use std::os::unix::fs::MetadataExt;
+use std::os::unix::fs::{MetadataExt, PermissionsExt};
 use std::{fs, io};
 
 // The descriptor of standard error, `STDERR_FILENO`, the last of the standard streams.
@@ -13,6 +13,9 @@ const LAST_STREAM: i32 = 2;
 
 // The bytes that distinguish runs are before this one.
 const BYTES: u64 = 1 << 62;
+
+// The bits of a mode that chmod(2) sets.
+const MODE_BITS: u32 = 0o7777;
 
 /// The mark that a run has set. Its file is locked until the run's process ends, however that ends. A mark
 /// without a lock is that of a run that was stopped, and whose child may have outlived it.
@@ -84,6 +87,14 @@ impl RunMark {
     /// Whether it is still at its place.
     pub(crate) fn stands<R: Files<File = File>>(&self, files: &R) -> bool {
         is_at(files, &self.file, self.place.as_str()).is_ok_and(|is_there| is_there)
+    }
+
+    /// Changes the mark, which stays as it is but for the time of its last change, and answers what it is like
+    /// then.
+    pub(crate) fn touch(&self) -> io::Result<Metadata> {
+        let mode = self.file.metadata()?.mode() & MODE_BITS;
+        self.file.set_permissions(Permissions::from_mode(mode))?;
+        self.file.metadata()
     }
 
     /// Removes the mark, since the run has ended by itself.

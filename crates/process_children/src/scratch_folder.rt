@@ -5,11 +5,17 @@ use crate::input;
 use crate::obstacle::{Obstacle, at_place};
 use crate::removal::{put_away, remove};
 use crate::run_mark::{Marking, RunMark};
+use crate::stamp::Moment;
 use std::alloc::{AllocError, Global};
 use std::fs::{File, Files};
 use std::io::ErrorKind;
+use std::os::unix::fs::MetadataExt;
 use std::path::{AsPath, Path};
 use std::{fs, io};
+
+// How often the mark is changed until the clock has gone on, which it does each hundredth of a second or
+// earlier.
+const MOST_TOUCHES: u32 = 100_000;
 
 /// What becomes of the scratch folder at the end of its run.
 #[derive(Clone, Copy, Debug, PartialEq, Eq)]
@@ -64,6 +70,22 @@ impl ScratchFolder {
     /// The byte on which the standard input of the run's children is locked.
     pub(crate) fn input_byte(&self) -> u64 {
         self.input_byte
+    }
+
+    /// Waits until the clock of this device, by which files are stamped, is past the moment. The answer is
+    /// when it is, or `None` if that takes long, or if the folder is on another device.
+    pub(crate) fn moment_after(&self, last: Moment, device: u64) -> io::Result<Option<Moment>> {
+        for _ in 0..MOST_TOUCHES {
+            let found = self.mark.touch()?;
+            if found.dev() != device {
+                break;
+            }
+            let now = Moment::of_change(&found);
+            if last.is_before(now) {
+                return Ok(Some(now));
+            }
+        }
+        Ok(None)
     }
 
     /// Whether its mark is still next to it. Otherwise other runs treat the folder as unused.

@@ -38,6 +38,11 @@ impl Moment {
             || self.seconds == other.seconds && self.nanoseconds < other.nanoseconds
     }
 
+    /// This moment, or the other one if that comes later.
+    pub(crate) fn or_later(self, other: Moment) -> Moment {
+        if self.is_before(other) { other } else { self }
+    }
+
     /// Whether it is a whole thousandth of a second, so that it may come from a file system that keeps no
     /// finer ones.
     pub(crate) fn is_coarse(self) -> bool {
