@@ -32,18 +32,18 @@ _hookhost_command() {
   local most
   case ${words[0]} in
     init) options=(-h --help) valued=() filed=() most=0 ;;
-    try) options=(--color= -h --help) valued=(--color) filed=() most=any ;;
+    try) options=(--color= --jobs= -h --help) valued=(--color --jobs) filed=() most=any ;;
     check) options=(-h --help) valued=() filed=() most=0 ;;
     explain) options=(-h --help) valued=() filed=() most=1 ;;
     add) options=(--chmod= --paths-from= -h --help) valued=(--chmod --paths-from) filed=(--paths-from) most=any ;;
     rm) options=(--paths-from= -h --help) valued=(--paths-from) filed=(--paths-from) most=any ;;
     status) options=(-h --help) valued=() filed=() most=0 ;;
     cat) options=(--fixed --commit= -h --help) valued=(--commit) filed=() most=1 ;;
-    run) options=(--all-files --hook-stage= --fresh --cautious --verbose --color= -h --help) valued=(--hook-stage --color) filed=() most=0 ;;
-    run-files) options=(--only= --hook-stage= --fresh --cautious --verbose --color= --paths-from= -h --help) valued=(--only --hook-stage --color --paths-from) filed=(--paths-from) most=any ;;
+    run) options=(--all-files --hook-stage= --fresh --cautious --verbose --color= --jobs= -h --help) valued=(--hook-stage --color --jobs) filed=() most=0 ;;
+    run-files) options=(--only= --hook-stage= --fresh --cautious --verbose --color= --jobs= --paths-from= -h --help) valued=(--only --hook-stage --color --jobs --paths-from) filed=(--paths-from) most=any ;;
     fixes) options=(-h --help) valued=() filed=() most=0 ;;
     accept) options=(-h --help) valued=() filed=() most=0 ;;
-    commit) options=(--no-verify --color= -m -h --help) valued=(--color -m) filed=() most=0 ;;
+    commit) options=(--no-verify --color= --jobs= -m -h --help) valued=(--color --jobs -m) filed=() most=0 ;;
     log) options=(-h --help) valued=() filed=() most=0 ;;
     show) options=(-h --help) valued=() filed=() most=0 ;;
     memory) options=(--limit= -h --help) valued=(--limit) filed=() most=0 ;;

@@ -21,7 +21,7 @@ function __hookhost_takes
             set given (math $given + 1)
         else if test $word = --
             set is_ended 1
-        else if contains -- $word --color --chmod --paths-from --commit --hook-stage --only -m --limit
+        else if contains -- $word --color --jobs --chmod --paths-from --commit --hook-stage --only -m --limit
             set is_pending 1
         end
     end
@@ -50,6 +50,7 @@ complete -c hookhost -n '__fish_is_first_token; and not __fish_contains_opt -s h
 complete -c hookhost -n '__fish_is_first_token; and not __fish_contains_opt -s V version' -s V -l version -d 'Print version'
 complete -c hookhost -n '__hookhost_is init; and not __fish_contains_opt -s h help' -s h -l help -d 'Print help'
 complete -c hookhost -n '__hookhost_is try' -l color -x -a 'auto always never' -d 'Colors how hooks ended: always, never, or auto, at a terminal; without it auto'
+complete -c hookhost -n '__hookhost_is try' -l jobs -x -d 'Runs at most so many commands of hooks at the same time, from 1 to 256'
 complete -c hookhost -n '__hookhost_is try; and not __fish_contains_opt -s h help' -s h -l help -d 'Print help'
 complete -c hookhost -n '__hookhost_takes try any' -F
 complete -c hookhost -n '__hookhost_is check; and not __fish_contains_opt -s h help' -s h -l help -d 'Print help'
@@ -73,6 +74,7 @@ complete -c hookhost -n '__hookhost_is run; and not __fish_contains_opt fresh' -
 complete -c hookhost -n '__hookhost_is run; and not __fish_contains_opt cautious' -l cautious -d 'Counts every file as seen by a hook that doesn\'t say which, and takes no failure from the cache'
 complete -c hookhost -n '__hookhost_is run; and not __fish_contains_opt verbose' -l verbose -d 'Prints the output of every hook, and how many results came from the cache'
 complete -c hookhost -n '__hookhost_is run' -l color -x -a 'auto always never' -d 'Colors how hooks ended: always, never, or auto, at a terminal; without it auto'
+complete -c hookhost -n '__hookhost_is run' -l jobs -x -d 'Runs at most so many commands of hooks at the same time, from 1 to 256'
 complete -c hookhost -n '__hookhost_is run; and not __fish_contains_opt -s h help' -s h -l help -d 'Print help'
 complete -c hookhost -n '__hookhost_is run-files' -l only -x -d 'The id or alias of the hooks to run; without it all of the stage'
 complete -c hookhost -n '__hookhost_is run-files' -l hook-stage -x -a 'pre-commit manual' -d 'The stage whose hooks are run, pre-commit or manual; without it pre-commit'
@@ -80,6 +82,7 @@ complete -c hookhost -n '__hookhost_is run-files; and not __fish_contains_opt fr
 complete -c hookhost -n '__hookhost_is run-files; and not __fish_contains_opt cautious' -l cautious -d 'Counts every file as seen by a hook that doesn\'t say which, and takes no failure from the cache'
 complete -c hookhost -n '__hookhost_is run-files; and not __fish_contains_opt verbose' -l verbose -d 'Prints the output of every hook, and how many results came from the cache'
 complete -c hookhost -n '__hookhost_is run-files' -l color -x -a 'auto always never' -d 'Colors how hooks ended: always, never, or auto, at a terminal; without it auto'
+complete -c hookhost -n '__hookhost_is run-files' -l jobs -x -d 'Runs at most so many commands of hooks at the same time, from 1 to 256'
 complete -c hookhost -n '__hookhost_is run-files' -l paths-from -r -F -d 'A file of paths, each ended by a NUL byte; - is standard input'
 complete -c hookhost -n '__hookhost_is run-files; and not __fish_contains_opt -s h help' -s h -l help -d 'Print help'
 complete -c hookhost -n '__hookhost_takes run-files any' -F
@@ -87,6 +90,7 @@ complete -c hookhost -n '__hookhost_is fixes; and not __fish_contains_opt -s h h
 complete -c hookhost -n '__hookhost_is accept; and not __fish_contains_opt -s h help' -s h -l help -d 'Print help'
 complete -c hookhost -n '__hookhost_is commit; and not __fish_contains_opt no-verify' -l no-verify -d 'Leaves out the hooks of pre-commit and commit-msg'
 complete -c hookhost -n '__hookhost_is commit' -l color -x -a 'auto always never' -d 'Colors how hooks ended: always, never, or auto, at a terminal; without it auto'
+complete -c hookhost -n '__hookhost_is commit' -l jobs -x -d 'Runs at most so many commands of hooks at the same time, from 1 to 256'
 complete -c hookhost -n '__hookhost_is commit' -s m -x -d 'The message, which hooks may change'
 complete -c hookhost -n '__hookhost_is commit; and not __fish_contains_opt -s h help' -s h -l help -d 'Print help'
 complete -c hookhost -n '__hookhost_is log; and not __fish_contains_opt -s h help' -s h -l help -d 'Print help'

@@ -14,6 +14,7 @@ WRONG = {
     "files: '(?!x)'": f"`files` is the quoted text `(?!x)`, and has to be {NO_PATTERN}",
     "exclude: '['": f"`exclude` is the quoted text `[`, and has to be {NO_PATTERN}",
     "x_reads: '('": f"`x_reads` is the quoted text `(`, and has to be {NO_PATTERN}",
+    "x_at_most: 0": "`x_at_most` is the text `0`, and has to be an unquoted number from 1 to 100000",
     "log_file: lint.log": "`log_file` is the text `lint.log`, and has to be empty: no output is kept in a file",
     "additional_dependencies: [ruff]": "`additional_dependencies` is a list, and has to be empty: nothing is installed for a hook",
     "stages: [never]": f"item 1 of `stages` is the text `never`, and has to be {STAGES}",

@@ -10,8 +10,10 @@ import time
 
 from host_program import LOCK, PROGRAM, STORE, STORE_TRIAL, check, do, paths_in, play, refuses, run, write
 from host_state import HOOKS, book_in, filled, found_alone, found_first, state
+from sample import IS_SAMPLED, tally
 
-KILLS = int(sys.argv[1]) if len(sys.argv) > 1 else 30
+ALL_KILLS, SAMPLED_KILLS = 30, 12
+KILLS = int(sys.argv[1]) if len(sys.argv) > 1 else SAMPLED_KILLS if IS_SAMPLED else ALL_KILLS
 # A hook with a child for each file.
 PER_FILE = b"""repos:
 - repo: local
@@ -61,6 +63,7 @@ class Killed:
             work, is_ended, out = self.play(words, given, self.chance.uniform(0, whole))
             in_time += not is_ended
             yield work, is_ended, out
+        tally(kills, kills * ALL_KILLS // KILLS)
         check(in_time > 0, f"no kill came before the end of {words!r}")
         print(f"kills of {' '.join(words[1:])}: {in_time} of {kills} came before its end")
 

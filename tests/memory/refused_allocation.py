@@ -2,13 +2,22 @@
 tests/shared/refuse_allocation.c takes the place of the allocator.
 """
 import itertools
+import multiprocessing
 import os
 import subprocess
 import sys
 
 from places import TOP, program
+from sample import IS_SAMPLED, greatest
 
 EACH = "--each" in sys.argv
+# With --sample one in so many of those that are refused otherwise is refused. THERE counts these, for all processes that play.
+SAMPLED_ONE_IN, THERE = 10, multiprocessing.Value("q", 0)
+# In a sample of allocations that are all refused otherwise, how many are at the beginning and the end, and how many between. The first
+# pair is for one of very many texts that are checked, and the second for a play.
+OF_TEXT, OF_PLAY = (2, 6), (10, 100)
+# About how many allocations the shortest run makes.
+GUESS = 100
 WORDS = [word for word in sys.argv[1:] if word != "--each"]
 
 
@@ -43,20 +52,35 @@ def end_of(words, work, given=b"", env=None):
     return done.returncode, done.stdout, done.stderr
 
 
-def count_allocations(is_refused):
-    """How many allocations are made: the greatest number at which one is refused, found by halving."""
-    least, most = 0, 1
-    while is_refused(most):
-        least, most = most, 2 * most
-    while most - least > 1:
-        middle = (least + most) // 2
-        least, most = (middle, most) if is_refused(middle) else (least, middle)
-    return least
+def all_of(is_refused, at_ends, between):
+    """The numbers of the allocations to refuse, from 1 on and without an end: all, or with --sample so many of the first and the last, and
+    so many between."""
+    if not IS_SAMPLED:
+        return itertools.count(1)
+    count = greatest(is_refused, GUESS)
+    count_whole(count)
+    return numbers_to(count, at_ends, between)
 
 
-def some_of(count, at_ends, between):
-    """The numbers of the allocations to refuse, from 1 on and without an end: so many of the count's first and last, and one in so many
-    of those between."""
+def some_of(is_refused, at_ends, between):
+    """The same, where so many of the first and the last are refused, and so many between. With --each all are, and with --sample one in
+    so many."""
+    if EACH:
+        return itertools.count(1)
+    count = greatest(is_refused)
+    if not IS_SAMPLED:
+        return numbers_to(count, at_ends, between)
+    count_whole(sum(1 for _ in itertools.takewhile(lambda number: number <= count, numbers_to(count, at_ends, between))))
+    return numbers_to(count, at_ends // SAMPLED_ONE_IN, between // SAMPLED_ONE_IN)
+
+
+def count_whole(count):
+    """Counts what is refused without --sample."""
+    with THERE.get_lock():
+        THERE.value += count
+
+
+def numbers_to(count, at_ends, between):
     step = max(1, (count - 2 * at_ends) // between)
     return (at for at in itertools.count(1) if at <= at_ends or at > count - at_ends or at % step == 0)
 

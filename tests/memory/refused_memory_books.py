@@ -1,7 +1,6 @@
 """What tests/memory/refused_memory.py plays of books and of hosts, of which each allocation is refused: runs over one book by the
 program run_trial, and commands of a host by hook_trial.
 """
-import itertools
 import re
 import tempfile
 from dataclasses import dataclass
@@ -9,7 +8,8 @@ from dataclasses import dataclass
 from host_model import (CONFIGURATION, OUT_OF_MEMORY, Answer, FixedTable, Hook, Machine, Memory, call_of,
                         configuration_text, ended, played, words_of_rows)
 from host_plays import TXT, add, commands_of, host_of, plain as plain_file, words_of
-from refused_allocation import EACH, HOOK_TRIAL, RUN_TRIAL, count_allocations, end_with_refusal, line_of, some_of
+from refused_allocation import HOOK_TRIAL, OF_PLAY, RUN_TRIAL, all_of, end_with_refusal, line_of, some_of
+from sample import IS_SAMPLED
 
 # How many allocations at the beginning and the end are refused, and how many between. The first pair is for the lists of commands that a
 # host plays, and the second for the one with limits.
@@ -133,15 +133,16 @@ def refuse_among_remembered(play, shared):
         well, _, plain = book_runs(play, 0, shared, folder)
         if well[0] or [run.calls for run in plain] != play.calls or wrong_runs(play, well, plain, plain):
             return 0, 0, f"ended with {well} with nothing refused"
-        refused = [0] * len(plain)
-        for allocation in itertools.count(1):
+        refused, count = [0] * len(plain), 0
+        for allocation in all_of(lambda number: book_runs(play, number, shared, folder)[1], *OF_PLAY):
             end, was_refused, runs = book_runs(play, allocation, shared, folder)
             if not was_refused:
-                is_well = all(refused[:3]) and end == well
-                return allocation - 1, sum(refused), None if is_well else f"ended with {end}, and {refused} were refused"
+                is_well = (any(refused) if IS_SAMPLED else all(refused[:3])) and end == well
+                return count, sum(refused), None if is_well else f"ended with {end}, and {refused} were refused"
+            count += 1
             wrong = wrong_runs(play, end, runs, plain)
             if wrong:
-                return allocation, sum(refused), f"{wrong} where allocation {allocation} was refused: {end}"
+                return count, sum(refused), f"{wrong} where allocation {allocation} was refused: {end}"
             refused = [count + run.refused for count, run in zip(refused, runs)] if runs else refused
 
 
@@ -196,12 +197,12 @@ def refuse_line(line, told, numbers, shared, wrong_among):
     with tempfile.TemporaryDirectory() as folder:
         play = lambda number: end_with_refusal([HOOK_TRIAL], number, shared, folder, folder, line)
         count, came = 0, set()
-        some = itertools.count(1) if EACH else some_of(count_allocations(lambda number: play(number)[1]), *numbers)
-        for number in some:
+        for number in some_of(lambda number: play(number)[1], *numbers):
             (status, out, err), was_refused = play(number)
             if not was_refused:
                 is_well = told.get(bytes.fromhex(out.decode()), 0) is None
-                return count, came, wrong_among(came) if is_well else f"answered {out} with nothing refused"
+                wrong = None if IS_SAMPLED and came - {None} else wrong_among(came)
+                return count, came, wrong if is_well else f"answered {out} with nothing refused"
             count += 1
             if (status, out, err) == (3, b"", b"out of memory\n"):
                 continue

@@ -37,7 +37,7 @@ exclude: ^b
 repos:
 - repo: local
   hooks:
-  - {id: a, name: A, language: fail, entry: no, files: '^dir/', exclude: 'y|\\.md$', types: [text], types_or: [c, plain-text], exclude_types: [binary], x_reads: '^z', x_per_file: true}
+  - {id: a, name: A, language: fail, entry: no, files: '^dir/', exclude: 'y|\\.md$', types: [text], types_or: [c, plain-text], exclude_types: [binary], x_reads: '^z', x_per_file: true, x_at_most: 2}
   - {id: b, name: B, language: pygrep, entry: 'c{3}$', args: [--negate]}
   - {id: c, name: C, language: pygrep, entry: a., args: [-i, --multiline]}
 """

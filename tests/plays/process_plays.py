@@ -4,7 +4,8 @@ command is in a process of its own, so that the store is closed and opened betwe
 most as many answers as a command of the play has set. The other caches only one answer. In three plays of four `forget` is run before
 each of its commands that can run hooks, so that it runs them from scratch.
 
-Usage: tests/plays/process_plays.py [PLAYS [COMMANDS [SEED]]]   (default: 40 plays of 60 commands each, of the seeds from 1 on)
+Usage: tests/plays/process_plays.py [--sample] [PLAYS [COMMANDS [SEED]]]   (default: 40 plays of 60 commands each, of the seeds from 1 on;
+with --sample only some of them)
 
 Both have to print the same, to end with the same status, and to leave the same repository, which SQLite reads in the file of the
 store alone. The children are tests/plays/play_child.c. Their answers depend on their words and on the files that they have seen, and
@@ -40,10 +41,13 @@ from host_books import book_of, children_in
 from host_program import STORE, Wrong, check, run, write
 from list_book import ListBook
 from places import program
+from sample import note, sampled
 
 PROGRAM = program("hookhost")
 GIVEN = [int(word) for word in sys.argv[1:]]
 PLAYS, COMMANDS, SEED = [*GIVEN, *(40, 60, 1)[len(GIVEN):]]
+# With --sample one play in so many is played.
+SAMPLED_ONE_IN = 6
 # After this many commands, and at the end, both hosts print what they show.
 LOOK_AFTER = 20
 CONFIGURATION, NO_CONFIGURATION = ".pre-commit-config.yaml", b"repos: 1\n"
@@ -127,6 +131,7 @@ def random_hook(rng, number, has_clock):
         "alias": rng.choice(["", "", "other"]), "files": rng.choice(PATTERNS), "exclude": rng.choice(["", "", "", "b"]),
         "types": rng.choice(TYPES), "stages": rng.choice(STAGES), "always_run": chance(0.4), "verbose": chance(0.4),
         "fail_fast": chance(0.1), "require_serial": chance(0.2), "x_per_file": chance(0.15),
+        "x_at_most": rng.choice([0] * 7 + [1, 2, 3]),
     }
     hook |= {key: value for key, value in keys.items() if value}
     return with_long_argument(rng, hook) if chance(LONG) else hook
@@ -439,18 +444,19 @@ def played(seed):
 
 
 def main():
+    seeds = sampled(range(SEED, SEED + PLAYS), lambda seed: seed % 2, SAMPLED_ONE_IN)
     with tempfile.TemporaryDirectory() as folder:
         source = Path(__file__).resolve().parent / "play_child.c"
         subprocess.run(["cc", "-O1", "-o", os.path.join(folder, "play_child"), str(source)], check=True)
         os.environ["PATH"] = folder + os.pathsep + os.environ["PATH"]
         with ProcessPoolExecutor(len(os.sched_getaffinity(0)), multiprocessing.get_context("fork")) as pool:
-            plays = list(pool.map(played, range(SEED, SEED + PLAYS)))
+            plays = list(pool.map(played, seeds))
     ends, differing = sum((ends for _, ends in plays), collections.Counter()), [text for text, _ in plays if text]
     for text in differing[:3]:
         print(f"process plays: {text}", end="")
     print("process plays: " + ", ".join(f"{name}: {count}" for name, count in sorted(ends.items())))
-    print(f"process plays: {PLAYS} plays of {COMMANDS} commands by two hosts, {ends['started']} children started, {ends['replayed']} replayed")
-    print(f"process plays: {PLAYS - len(differing)} passed, {len(differing)} failed")
+    print(f"process plays: {len(seeds)} plays of {COMMANDS} commands by two hosts, {ends['started']} children started, {ends['replayed']} replayed")
+    print(f"process plays: {len(seeds) - len(differing)} passed, {len(differing)} failed{note(len(seeds), PLAYS, 'plays')}")
     sys.exit(1 if differing or not ends["started"] or not ends["replayed"] else 0)
 
 

@@ -15,8 +15,8 @@ from typing import NamedTuple
 
 from list_book import ListBook
 
-# The most bytes of a command, with one byte between words.
-MOST_COMMAND = 131_072
+# The most bytes of a command, with one byte between words, and the most names of one.
+MOST_COMMAND, MOST_NAMES = 131_072, 100_000
 # The pattern that is found in no path.
 NO_PATH = "^$"
 CONFIGURATION, MESSAGE = ".pre-commit-config.yaml", ".git/COMMIT_EDITMSG"
@@ -33,8 +33,8 @@ FAULTS = {
 OUT_OF_MEMORY = "1 OutOfMemory"
 
 Hook = collections.namedtuple(
-    "Hook", "id name alias language entry args files always_run pass_filenames verbose fail_fast stages x_reads x_per_file",
-    defaults=["", "system", "run", [], "", False, True, False, False, [], NO_PATH, False],
+    "Hook", "id name alias language entry args files always_run pass_filenames verbose fail_fast stages x_reads x_per_file x_at_most",
+    defaults=["", "system", "run", [], "", False, True, False, False, [], NO_PATH, False, MOST_NAMES],
 )
 File = collections.namedtuple("File", "executable contents")
 Answer = collections.namedtuple("Answer", "status output changes")
@@ -53,7 +53,7 @@ def keys_of(hook):
     """The keys of a hook whose values aren't those that it has without them."""
     keys = hook._asdict()
     without = {"alias": "", "args": [], "files": "", "always_run": False, "pass_filenames": True, "verbose": False, "fail_fast": False, "stages": [],
-               "x_reads": NO_PATH, "x_per_file": False}
+               "x_reads": NO_PATH, "x_per_file": False, "x_at_most": MOST_NAMES}
     return {key: value for key, value in keys.items() if key not in without or without[key] != value}
 
 
@@ -200,7 +200,7 @@ def run_hook(hook, names, tree, memory, is_fresh):
         spoken.status, spoken.output = 1, (hook.entry + "\n\n" + "\n".join(names) + "\n").encode()
         return spoken, tree
     words = command_of(hook, tree)
-    parts = parts_of(words, names, 1 if hook.x_per_file else len(names))
+    parts = parts_of(words, names, 1 if hook.x_per_file else hook.x_at_most)
     if parts is None:
         spoken.faults.append(MISFIT)
         return spoken, tree

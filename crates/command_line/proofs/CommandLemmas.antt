@@ -54,7 +54,7 @@ module _ {Z : Type 0} where
   command-met (Some p) None name rows = cc
   command-met (Some p) (Some b) name rows = ap₂ (λ (n : Text) (r : List Row). Some (n, r)) (some-is _ _ name) (some-is _ _ rows)
 
--- ---- three values more
+-- ---- four values more
 
 or-false : (b : Bool) → (b || false) ≡ b
 or-false true = refl
@@ -64,13 +64,15 @@ or-false false = refl
 one-local : (old made : Command) (arg : Arg) → AddsArg old arg made → arg.global ≡ false → (out-Command made).has_globals ≡ (out-Command old).has_globals
 one-local old made arg adds local = adds.globals ∙ ap (λ (g : Bool). (out-Command old).has_globals || g) local ∙ or-false _
 
--- and so do three
-pub still-local : {E : Type 0} (old between next : Command) (first second third : Arg) (result : Result Command E) → AddsArg old first between
-    → first.global ≡ false → AddsArg between second next → second.global ≡ false → IfOk result (λ made. AddsArg next third made) → third.global ≡ false
+-- and so do four
+pub still-local : {E : Type 0} (old one two three : Command) (first second third fourth : Arg) (result : Result Command E) → AddsArg old first one
+    → first.global ≡ false → AddsArg one second two → second.global ≡ false → AddsArg two third three → third.global ≡ false
+    → IfOk result (λ made. AddsArg three fourth made) → fourth.global ≡ false
     → IfOk result (λ made. (out-Command made).has_globals ≡ (out-Command old).has_globals)
-still-local old between next first second third (Err error) adds local also locally last last_local = tt
-still-local old between next first second third (Ok made) adds local also locally last last_local =
-    one-local next made third last last_local ∙ one-local between next second also locally ∙ one-local old between first adds local
+still-local old one two three first second third fourth (Err error) adds local also locally next next_local last last_local = tt
+still-local old one two three first second third fourth (Ok made) adds local also locally next next_local last last_local =
+    one-local three made fourth last last_local ∙ one-local two three third next next_local ∙ one-local one two second also locally
+    ∙ one-local old one first adds local
 
 -- ---- the refusals
 

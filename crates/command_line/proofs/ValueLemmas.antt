@@ -1,5 +1,5 @@
 -- From what `clap` answers to the values of a command.
-use Rattle.std.proofs.Common.{◌≡◌, ◌≢◌, ◌∙◌, ap, ap₂, codes, refl, subst, sym, Bool, false, true, ◌-◌, ◌^◌, ℕ, List, [], ◌∷◌, Option, None, Some, Ok, Err, Result, Bor, IfSome, option_map, arith}
+use Rattle.std.proofs.Common.{◌≡◌, ◌≢◌, ◌∙◌, ap, ap₂, codes, refl, subst, sym, Bool, false, true, ◌-◌, ◌^◌, ◌<◌, ◌≤◌, ℕ, List, [], ◌∷◌, Option, None, Some, Ok, Err, Result, Bor, IfSome, option_map, arith}
 use Rattle.std.proofs.lemmas.Bool.{false_from_ne_true}
 use Rattle.std.proofs.lemmas.Slice.Eq.{bytes_eq-Decides}
 use Rattle.std.specs.Prelude.{unwrap_or}
@@ -18,7 +18,7 @@ use Rattle.command_line.specs.declared.line.FileVersion.{FileVersion}
 use Rattle.command_line.specs.declared.line.FileVersion.TheVariants.{Staged, Fixed, Committed}
 use Rattle.command_line.specs.declared.line.StageChoice.TheVariants.{PreCommit, Manual}
 use Rattle.store_faults.specs.Limits.{IsLimit, most_answers}
-use Rattle.command_line.specs.CommandLine.{IsValueOf, color_in, limit_in, limit_number, mode_in, number_in, asked_stage_in, value_fault, version_in}
+use Rattle.command_line.specs.CommandLine.{IsValueOf, color_in, limit_number, maybe_up_to, mode_in, number_in, number_up_to, asked_stage_in, value_fault, version_in}
 
 pub text_or : (found : Option (Bor (List ℕ))) (empty : Bor (List ℕ)) (text : List ℕ) (rows : Option (List ℕ))
     → empty.now ≡ [] → option_map (λ s. s.now) found ≡ rows → text ≡ (unwrap_or found empty).now → text ≡ unwrap_or rows []
@@ -71,57 +71,65 @@ number-refused text {E} parsed refused error reads is kind =
     none (accepted.0, omega (arith, most))) in
     rw fails kind
 
--- ---- the limit
+-- ---- a number from 1 to a most
+
+pub up-to-read : (most : ℕ) (text : Text) {E : Type 0} (parsed : Result ℕ E) (number : ℕ) → ParsesUnsigned 32 10 text parsed → parsed ≡ Ok number
+    → 1 ≤ number → number ≤ most → Some number ≡ number_up_to most text
+up-to-read most text {E} parsed number reads is least below =
+    let ok : ParsesUnsigned {E = E} 32 10 text (Ok number) = subst (ParsesUnsigned {E = E} 32 10 text) is reads in
+    let fits = ok.0.1 in
+    let told = ok.1 in
+    let passes : is_unsigned_in 1 most text ≡ true =
+    Accepts-accepts false (Unsigned 1 most) text (ok.0.0, omega (arith, fits), omega (arith, told, least), omega (arith, told, below)) in
+    rw (passes, ok.1) refl
+
+pub up-to-beyond : (most : ℕ) (text : Text) {E : Type 0} (parsed : Result ℕ E) (number : ℕ) → ParsesUnsigned 32 10 text parsed → parsed ≡ Ok number
+    → ¬ (1 ≤ number × number ≤ most) → None ≡ number_up_to most text
+up-to-beyond most text {E} parsed number reads is beyond =
+    let ok : ParsesUnsigned {E = E} 32 10 text (Ok number) = subst (ParsesUnsigned {E = E} 32 10 text) is reads in
+    let told = ok.1 in
+    let fails : is_unsigned_in 1 most text ≡ false = false_from_ne_true _ (λ e.
+    let accepted = accepts-Accepts false (Unsigned 1 most) text e in
+    let least = accepted.2 in
+    let below = accepted.3 in
+    beyond (omega (arith, told, least), omega (arith, told, below))) in
+    rw fails refl
+
+pub up-to-unread : (most : ℕ) (text : Text) {E : Type 0} (parsed : Result ℕ E) (refused : E) → most < 2 ^ 32 → ParsesUnsigned 32 10 text parsed
+    → parsed ≡ Err refused → None ≡ number_up_to most text
+up-to-unread most text {E} parsed refused small reads is =
+    let none : ParsesUnsigned {E = E} 32 10 text (Err refused) = subst (ParsesUnsigned {E = E} 32 10 text) is reads in
+    let fails : is_unsigned_in 1 most text ≡ false = false_from_ne_true _ (λ e.
+    let accepted = accepts-Accepts false (Unsigned 1 most) text e in
+    let below = accepted.3 in
+    none (accepted.0, omega (arith, below, small))) in
+    rw fails refl
+
+pub up-to-told : (most : ℕ) (text : Text) (found : Option ℕ) (number : ℕ) → found ≡ number_up_to most text → found ≡ Some number
+    → maybe_up_to most (Some text) ≡ Some (Some number)
+up-to-told most text found number told is = ap (option_map (λ (n : ℕ). Some n)) (sym told ∙ is)
+
+pub up-to-untold : (most : ℕ) (text : Text) (found : Option ℕ) (error : Error) → found ≡ number_up_to most text → found ≡ None
+    → HasKind (InvalidValue ∷ []) error → HasKind (value_fault (maybe_up_to most (Some text))) error
+up-to-untold most text found error told is kind =
+    let none : maybe_up_to most (Some text) ≡ None = ap (option_map (λ (n : ℕ). Some n)) (sym told ∙ is) in
+    rw none kind
+
+module _ (most : ℕ) (found given : Option Text) (held : Option (Bor Text)) (known : option_map (λ s. s.now) held ≡ found) (same : found ≡ given) where
+  pub up-to-none : held ≡ None → maybe_up_to most given ≡ Some None
+  up-to-none is = ap (maybe_up_to most) (given-is found given held None known same is)
+
+  pub up-to-given : (value : Bor Text) (result : Result (Option ℕ) Error) → held ≡ Some value → IsValueOf (maybe_up_to most (Some value.now)) result
+      → IsValueOf (maybe_up_to most given) result
+  up-to-given value result is of =
+      subst (λ (g : Option Text). IsValueOf (maybe_up_to most g) result) (sym (given-is found given held (Some value) known same is)) of
 
 pub limit-read : (text : Text) {E : Type 0} (parsed : Result ℕ E) (number : ℕ) (read : Option ℕ) → ParsesUnsigned 32 10 text parsed → parsed ≡ Ok number
     → IfSome read (λ limit. (limit ≡ number) × IsLimit number) → (read ≡ None → ¬ IsLimit number) → read ≡ limit_number text
 limit-read text {E} parsed number (Some limit) reads is taken refused =
-    let ok : ParsesUnsigned {E = E} 32 10 text (Ok number) = subst (ParsesUnsigned {E = E} 32 10 text) is reads in
-    let fits = ok.0.1 in
-    let told = ok.1 in
-    let least = taken.1.at_least in
-    let most = taken.1.at_most in
-    let passes : is_unsigned_in 1 most_answers text ≡ true =
-    Accepts-accepts false (Unsigned 1 most_answers) text (ok.0.0, omega (arith, fits), omega (arith, told, least), omega (arith, told, most)) in
-    rw (passes, taken.0, ok.1) refl
+    ap (λ (n : ℕ). Some n) taken.0 ∙ up-to-read most_answers text parsed number reads is taken.1.at_least taken.1.at_most
 limit-read text {E} parsed number None reads is taken refused =
-    let ok : ParsesUnsigned {E = E} 32 10 text (Ok number) = subst (ParsesUnsigned {E = E} 32 10 text) is reads in
-    let told = ok.1 in
-    let fails : is_unsigned_in 1 most_answers text ≡ false = false_from_ne_true _ (λ e.
-    let accepted = accepts-Accepts false (Unsigned 1 most_answers) text e in
-    let least = accepted.2 in
-    let most = accepted.3 in
-    refused refl (record { at_least = omega (arith, told, least); at_most = omega (arith, told, most) })) in
-    rw fails refl
-
-pub limit-unread : (text : Text) {E : Type 0} (parsed : Result ℕ E) (refused : E) → ParsesUnsigned 32 10 text parsed → parsed ≡ Err refused
-    → None ≡ limit_number text
-limit-unread text {E} parsed refused reads is =
-    let none : ParsesUnsigned {E = E} 32 10 text (Err refused) = subst (ParsesUnsigned {E = E} 32 10 text) is reads in
-    let fails : is_unsigned_in 1 most_answers text ≡ false = false_from_ne_true _ (λ e.
-    let accepted = accepts-Accepts false (Unsigned 1 most_answers) text e in
-    let most = accepted.3 in
-    none (accepted.0, omega (arith, most))) in
-    rw fails refl
-
-pub limit-told : (text : Text) (found : Option ℕ) (limit : ℕ) → found ≡ limit_number text → found ≡ Some limit → limit_in (Some text) ≡ Some (Some limit)
-limit-told text found limit told is = ap (option_map (λ (n : ℕ). Some n)) (sym told ∙ is)
-
-pub limit-untold : (text : Text) (found : Option ℕ) (error : Error) → found ≡ limit_number text → found ≡ None → HasKind (InvalidValue ∷ []) error
-    → HasKind (value_fault (limit_in (Some text))) error
-limit-untold text found error told is kind =
-    let none : limit_in (Some text) ≡ None = ap (option_map (λ (n : ℕ). Some n)) (sym told ∙ is) in
-    rw none kind
-
-pub limit-none : (found given : Option Text) (held : Option (Bor Text)) → option_map (λ s. s.now) held ≡ found → found ≡ given → held ≡ None
-    → limit_in given ≡ Some None
-limit-none found given held known same is = ap limit_in (given-is found given held None known same is)
-
-pub limit-given : (found given : Option Text) (held : Option (Bor Text)) (value : Bor Text) (result : Result (Option ℕ) Error)
-    → option_map (λ s. s.now) held ≡ found → found ≡ given → held ≡ Some value → IsValueOf (limit_in (Some value.now)) result
-    → IsValueOf (limit_in given) result
-limit-given found given held value result known same is of =
-    subst (λ (g : Option Text). IsValueOf (limit_in g) result) (sym (given-is found given held (Some value) known same is)) of
+    up-to-beyond most_answers text parsed number reads is (λ within. refused refl (record { at_least = within.0; at_most = within.1 }))
 
 -- ---- which bytes are asked for
 

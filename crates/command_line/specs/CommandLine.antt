@@ -70,6 +70,10 @@ stage_rule = record (new_rule (codes "hook-stage")) { long = Some (codes "hook-s
 abbrev pub color_rule : Rule
 color_rule = record (new_rule (codes "color")) { long = Some (codes "color"); value_names = 1 }
 
+-- `--jobs=N`, which may be left out
+abbrev pub jobs_rule : Rule
+jobs_rule = record (new_rule (codes "jobs")) { long = Some (codes "jobs"); value_names = 1 }
+
 -- `--only=ID`, which may be left out
 abbrev pub only_rule : Rule
 only_rule = record (new_rule (codes "only")) { long = Some (codes "only"); value_names = 1 }
@@ -89,11 +93,11 @@ message_rule = record (new_rule (codes "message")) { short = Some 109; value_nam
 abbrev pub init_app : App
 init_app = new_app (codes "init")
 
--- `try [--color=WHEN] CONFIG PATH..`
+-- `try [--color=WHEN] [--jobs=N] CONFIG PATH..`
 abbrev pub try_app : App
 try_app =
-    with_rule (with_rule (with_rule (new_app (codes "try")) color_rule) (word_rule (codes "CONFIG")))
-    (words_rule (codes "PATH"))
+    with_rule (with_rule (with_rule (with_rule (new_app (codes "try")) color_rule) jobs_rule)
+    (word_rule (codes "CONFIG"))) (words_rule (codes "PATH"))
 
 abbrev pub check_app : App
 check_app = new_app (codes "check")
@@ -115,12 +119,13 @@ remove_app = with_rule (with_rule (new_app (codes "rm")) paths_from_rule) (optio
 abbrev pub status_app : App
 status_app = new_app (codes "status")
 
--- after the options of a run `[--cautious] [--verbose] [--color=WHEN]`
+-- after the options of a run `[--cautious] [--verbose] [--color=WHEN] [--jobs=N]`
 abbrev pub with_choice : App → App
 with_choice app =
-    with_rule (with_rule (with_rule app (flag_rule (codes "cautious"))) (flag_rule (codes "verbose"))) color_rule
+    with_rule (with_rule (with_rule (with_rule app (flag_rule (codes "cautious"))) (flag_rule (codes "verbose")))
+    color_rule) jobs_rule
 
--- `run [--all-files] [--hook-stage=STAGE] [--fresh] [--cautious] [--verbose] [--color=WHEN]`
+-- `run [--all-files] [--hook-stage=STAGE] [--fresh] [--cautious] [--verbose] [--color=WHEN] [--jobs=N]`
 abbrev pub run_with_options_app : App
 run_with_options_app =
     with_choice (with_rule (with_rule (with_rule (new_app (codes "run")) (flag_rule (codes "all-files"))) stage_rule)
@@ -130,7 +135,7 @@ run_with_options_app =
 abbrev pub run_app : App
 run_app = with_rule run_with_options_app (new_rule (codes "ID"))
 
--- `run-files [--only=ID] [--hook-stage=STAGE] [--fresh] [--cautious] [--verbose] [--color=WHEN]`
+-- `run-files [--only=ID] [--hook-stage=STAGE] [--fresh] [--cautious] [--verbose] [--color=WHEN] [--jobs=N]`
 abbrev pub run_files_with_options_app : App
 run_files_with_options_app =
     with_choice (with_rule (with_rule (with_rule (new_app (codes "run-files")) only_rule) stage_rule)
@@ -146,10 +151,11 @@ fixes_app = new_app (codes "fixes")
 abbrev pub accept_app : App
 accept_app = new_app (codes "accept")
 
--- `commit [--no-verify] [--color=WHEN] -m TEXT`
+-- `commit [--no-verify] [--color=WHEN] [--jobs=N] -m TEXT`
 abbrev pub commit_app : App
 commit_app =
-    with_rule (with_rule (with_rule (new_app (codes "commit")) (flag_rule (codes "no-verify"))) color_rule) message_rule
+    with_rule (with_rule (with_rule (with_rule (new_app (codes "commit")) (flag_rule (codes "no-verify"))) color_rule)
+    jobs_rule) message_rule
 
 -- `cat [--fixed] [--commit=N] PATH`
 abbrev pub cat_app : App
@@ -240,16 +246,35 @@ abbrev pub number_in : Text → Option ℕ
 number_in text =
     if is_unsigned_in 0 (2 ^ 32 - 1) text then Some (digits_value 10 (without_leading_plus text)) else None
 
--- the limit that a text writes: decimal digits, which a `+` may precede, of a number from 1 to 100,000
-abbrev pub limit_number : Text → Option ℕ
-limit_number text =
-    if is_unsigned_in 1 most_answers text then Some (digits_value 10 (without_leading_plus text)) else None
+-- the number from 1 to the most that a text writes: decimal digits, which a `+` may precede
+abbrev pub number_up_to : ℕ → Text → Option ℕ
+number_up_to most text =
+    if is_unsigned_in 1 most text then Some (digits_value 10 (without_leading_plus text)) else None
 
--- the limit that `--limit` asks for. `Some None` means that it is left out, `None` that its value can't be
--- taken
+-- such a number that may be left out. `Some None` means that it is, `None` that its text can't be taken
+abbrev pub maybe_up_to : ℕ → Option Text → Option (Option ℕ)
+maybe_up_to most None = Some None
+maybe_up_to most (Some text) = option_map Some (number_up_to most text)
+
+-- the limit that a text writes, from 1 to 100,000
+abbrev pub limit_number : Text → Option ℕ
+limit_number text = number_up_to most_answers text
+
+-- the limit that `--limit` asks for
 abbrev pub limit_in : Option Text → Option (Option ℕ)
-limit_in None = Some None
-limit_in (Some text) = option_map Some (limit_number text)
+limit_in given = maybe_up_to most_answers given
+
+-- the most commands of hooks that a line may let run at the same time
+abbrev pub most_jobs : ℕ
+most_jobs = 256
+
+-- the number of commands that a text writes, from 1 to 256
+abbrev pub jobs_number : Text → Option ℕ
+jobs_number text = number_up_to most_jobs text
+
+-- how many commands may run at the same time, as `--jobs` asks for it
+abbrev pub jobs_in : Option Text → Option (Option ℕ)
+jobs_in given = maybe_up_to most_jobs given
 
 -- the bytes that `--fixed` or `--commit` asks for, a commit's by its number; both together can't be taken
 abbrev pub version_in : Bool → Option Text → Option FileVersion
@@ -272,9 +297,11 @@ paths_in rows = source_in (words_in (codes "PATH") rows) (first_of (codes "paths
 
 abbrev pub try_line : List Row → Option CommandLine
 try_line rows =
-    option_map (λ (color : ColorChoice). line.Standalone
-    (Try (word_in (codes "CONFIG") rows) (words_in (codes "PATH") rows) color))
-    (color_in (first_of (codes "color") rows))
+    option_and_then
+    (λ (color : ColorChoice). option_map
+    (λ (jobs : Option ℕ). line.Standalone
+    (Try (word_in (codes "CONFIG") rows) (words_in (codes "PATH") rows) color jobs))
+    (jobs_in (first_of (codes "jobs") rows))) (color_in (first_of (codes "color") rows))
 
 abbrev pub explain_line : List Row → CommandLine
 explain_line rows = line.Standalone (Explain (first_of (codes "FILE") rows))
@@ -288,17 +315,19 @@ add_line rows =
 abbrev pub remove_line : List Row → Option CommandLine
 remove_line rows = option_map (λ (paths : PathSource). line.Update (Remove paths)) (paths_in rows)
 
--- what `--cautious`, `--verbose` and `--color` ask of a run
+-- what `--cautious`, `--verbose`, `--color` and `--jobs` ask of a run
 abbrev pub choice_in : List Row → Option RunChoice
 choice_in rows =
-    option_map
-    (λ (color : ColorChoice). record {
+    option_and_then
+    (λ (color : ColorChoice). option_map
+    (λ (jobs : Option ℕ). record {
       cautious = flag_in (codes "cautious") rows;
       verbose = flag_in (codes "verbose")
           rows;
       color = color;
+      jobs = jobs;
     })
-    (color_in (first_of (codes "color") rows))
+    (jobs_in (first_of (codes "jobs") rows))) (color_in (first_of (codes "color") rows))
 
 abbrev pub run_line : List Row → Option CommandLine
 run_line rows =
@@ -324,9 +353,11 @@ run_files_line rows =
 
 abbrev pub commit_line : List Row → Option CommandLine
 commit_line rows =
-    option_map (λ (color : ColorChoice). line.Update
-    (Commit (word_in (codes "message") rows) (flag_in (codes "no-verify") rows) color))
-    (color_in (first_of (codes "color") rows))
+    option_and_then
+    (λ (color : ColorChoice). option_map
+    (λ (jobs : Option ℕ). line.Update
+    (Commit (word_in (codes "message") rows) (flag_in (codes "no-verify") rows) color jobs))
+    (jobs_in (first_of (codes "jobs") rows))) (color_in (first_of (codes "color") rows))
 
 abbrev pub cat_line : List Row → Option CommandLine
 cat_line rows =

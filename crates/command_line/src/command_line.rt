@@ -11,8 +11,8 @@ use crate::help_length::help_asked;
 use crate::message_words::around_message;
 use crate::paths::paths_of;
 use crate::values::{
-    color_of, flag_of, limit_of, maybe_text_of, mode_of, number_of, stage_of, text_of, texts_of,
-    version_of,
+    color_of, flag_of, jobs_of, limit_of, maybe_text_of, mode_of, number_of, stage_of, text_of,
+    texts_of, version_of,
 };
 use crate::{CommandLine, FileChoice, LookUp, PathSource, RunChoice, Standalone, Update};
 use clap::{ArgMatches, Error};
@@ -27,8 +27,8 @@ use std::alloc::{AllocError, Global};
 /// - a `--chmod` other than `+x`, a `--hook-stage` other than `pre-commit` and `manual`, or a `--color` other
 ///   than `auto`, `always` and `never`;
 /// - `--commit` together with `--fixed`;
-/// - a number of `show` or `--commit` that isn't one of 32 bits, or a number of `--limit` that isn't from 1
-///   to 100,000;
+/// - a number of `show` or `--commit` that isn't one of 32 bits, a number of `--limit` that isn't from 1 to
+///   100,000, or one of `--jobs` that isn't from 1 to 256;
 /// - neither a path nor `--paths-from`, or both.
 pub fn line_of<'a>(alloc: Global, words: &'a [&'a str]) -> Result<CommandLine, Error>
     ensures line { IfOk result (λ line. line_asked (map (λ s. s.now) words.entry.now) ≡ Some line) }
@@ -103,10 +103,13 @@ fn line_by(alloc: Global, name: &str, values: &ArgMatches<'_>) -> Result<Command
 fn try_line(alloc: Global, values: &ArgMatches<'_>) -> Result<CommandLine, Error>
     ensures { IsValueOf (try_line (rows_of (found_of values.now))) result }
 {
+    let color = color_of(alloc, "try", values)?;
+    let jobs = jobs_of(alloc, "try", values)?;
     Ok(CommandLine::Standalone(Standalone::Try {
         config: text_of(alloc, values, "CONFIG")?,
         paths: texts_of(alloc, values, "PATH")?,
-        color: color_of(alloc, "try", values)?,
+        color,
+        jobs,
     }))
 }
 
@@ -148,15 +151,18 @@ fn run_line(alloc: Global, values: &ArgMatches<'_>) -> Result<CommandLine, Error
     }))
 }
 
-// What the options `--cautious`, `--verbose` and `--color` ask of a run. `command` names the command, for its
-// usage in an error.
+// What the options `--cautious`, `--verbose`, `--color` and `--jobs` ask of a run. `command` names the
+// command, for its usage in an error.
 fn choice_of(alloc: Global, command: &str, values: &ArgMatches<'_>) -> Result<RunChoice, Error>
     ensures { IsValueOf (choice_in (rows_of (found_of values.now))) result }
 {
+    let color = color_of(alloc, command, values)?;
+    let jobs = jobs_of(alloc, command, values)?;
     Ok(RunChoice {
         cautious: flag_of(values, "cautious"),
         verbose: flag_of(values, "verbose"),
-        color: color_of(alloc, command, values)?,
+        color,
+        jobs,
     })
 }
 
@@ -197,10 +203,13 @@ fn named_by(paths: PathSource) -> FileChoice
 fn commit_line(alloc: Global, values: &ArgMatches<'_>) -> Result<CommandLine, Error>
     ensures { IsValueOf (commit_line (rows_of (found_of values.now))) result }
 {
+    let color = color_of(alloc, "commit", values)?;
+    let jobs = jobs_of(alloc, "commit", values)?;
     Ok(CommandLine::Update(Update::Commit {
         message: text_of(alloc, values, "message")?,
         no_verify: flag_of(values, "no-verify"),
-        color: color_of(alloc, "commit", values)?,
+        color,
+        jobs,
     }))
 }
 

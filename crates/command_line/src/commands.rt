@@ -5,7 +5,7 @@
 ghost use Rattle.std.specs.Prelude.{◌≡◌, ◌∷◌, IfOk, [], codes, false};
 ghost use Rattle.clap.specs.Words.{app_of, new_app, new_rule, rule_of};
 ghost use Rattle.clap.specs.declared.builder.Command.TheViews.{out-Command as fields_of};
-ghost use Rattle.command_line.specs.CommandLine.{accept_app, add_app, cat_app, check_app, chmod_rule, color_rule, commit_app, commit_rule, explain_app, fixes_app, flag_rule, forget_app, hookhost_app, hookhost_base, init_app, limit_rule, log_app, memory_app, message_rule, only_rule, optional_words_rule, paths_from_rule, remove_app, run_app, run_files_app, run_files_with_options_app, run_with_options_app, show_app, stage_rule, status_app, try_app, with_choice, with_commands, word_rule, words_rule};
+ghost use Rattle.command_line.specs.CommandLine.{accept_app, add_app, cat_app, check_app, chmod_rule, color_rule, commit_app, commit_rule, explain_app, fixes_app, flag_rule, forget_app, hookhost_app, hookhost_base, init_app, jobs_rule, limit_rule, log_app, memory_app, message_rule, only_rule, optional_words_rule, paths_from_rule, remove_app, run_app, run_files_app, run_files_with_options_app, run_with_options_app, show_app, stage_rule, status_app, try_app, with_choice, with_commands, word_rule, words_rule};
 
 use crate::help::{CHECK_HELP, EXPLAIN_HELP, PROGRAM_HELP, TRY_HELP};
 use crate::help_length::HelpLength;
@@ -18,10 +18,10 @@ use clap::{Arg, ArgAction, Command};
 use std::alloc::{AllocError, Global};
 
 const RUN_USAGE: &str =
-    "hookhost run [--all-files] [--hook-stage=<STAGE>] [--fresh] [--cautious] [--verbose] [--color=<WHEN>] [ID]";
+    "hookhost run [--all-files] [--hook-stage=<STAGE>] [--fresh] [--cautious] [--verbose] [--color=<WHEN>] [--jobs=<N>] [ID]";
 
 const RUN_FILES_USAGE: &str =
-    "hookhost run-files [--only=<ID>] [--hook-stage=<STAGE>] [--fresh] [--cautious] [--verbose] [--color=<WHEN>] (<PATH>... | --paths-from=<FILE>)";
+    "hookhost run-files [--only=<ID>] [--hook-stage=<STAGE>] [--fresh] [--cautious] [--verbose] [--color=<WHEN>] [--jobs=<N>] (<PATH>... | --paths-from=<FILE>)";
 
 const CAUTIOUS_HELP: &str =
     "Counts every file as seen by a hook that doesn't say which, and takes no failure from the cache";
@@ -168,7 +168,7 @@ fn init_command<'a>(alloc: Global, help: HelpLength) -> Command<'a>
     )
 }
 
-/// `try [--color=WHEN] CONFIG PATH..`.
+/// `try [--color=WHEN] [--jobs=N] CONFIG PATH..`.
 pub(crate) fn try_command<'a>(alloc: Global, help: HelpLength) -> Result<Command<'a>, AllocError>
     ensures app { IfOk result (λ command. app_of command ≡ try_app) }
     ensures local { IfOk result (λ command. (fields_of command).has_globals ≡ false) }
@@ -177,10 +177,11 @@ pub(crate) fn try_command<'a>(alloc: Global, help: HelpLength) -> Result<Command
         alloc,
         "try",
         "Runs the hooks of a configuration on files, and prints the report",
-        "hookhost try [--color=<WHEN>] <CONFIG> <PATH>...",
+        "hookhost try [--color=<WHEN>] [--jobs=<N>] <CONFIG> <PATH>...",
         help.of(TRY_HELP),
     )
     .arg(color(alloc))?
+    .arg(jobs(alloc))?
     .arg(word(
         alloc,
         "CONFIG",
@@ -274,7 +275,7 @@ fn status_command<'a>(alloc: Global, help: HelpLength) -> Command<'a>
     )
 }
 
-/// `run [--all-files] [--hook-stage=STAGE] [--fresh] [--cautious] [--verbose] [--color=WHEN] [ID]`.
+/// `run [--all-files] [--hook-stage=STAGE] [--fresh] [--cautious] [--verbose] [--color=WHEN] [--jobs=N] [ID]`.
 pub(crate) fn run_command<'a>(alloc: Global, help: HelpLength) -> Result<Command<'a>, AllocError>
     ensures app { IfOk result (λ command. app_of command ≡ run_app) }
     ensures local { IfOk result (λ command. (fields_of command).has_globals ≡ false) }
@@ -308,7 +309,7 @@ fn run_with_options<'a>(alloc: Global, help: HelpLength) -> Result<Command<'a>, 
     with_choice(alloc, command)
 }
 
-// The command with `--cautious`, `--verbose` and `--color`.
+// The command with `--cautious`, `--verbose`, `--color` and `--jobs`.
 fn with_choice<'a>(alloc: Global, command: Command<'a>) -> Result<Command<'a>, AllocError>
     ensures app { IfOk result (λ made. app_of made ≡ with_choice (app_of command.entry)) }
     ensures local { IfOk result (λ made. (fields_of made).has_globals ≡ (fields_of command.entry).has_globals) }
@@ -320,11 +321,12 @@ fn with_choice<'a>(alloc: Global, command: Command<'a>) -> Result<Command<'a>, A
             "verbose",
             "Prints the output of every hook, and how many results came from the cache",
         ))?
-        .arg(color(alloc))
+        .arg(color(alloc))?
+        .arg(jobs(alloc))
 }
 
 /// `run-files [--only=ID] [--hook-stage=STAGE] [--fresh] [--cautious] [--verbose] [--color=WHEN]
-/// [--paths-from=FILE] [PATH..]`.
+/// [--jobs=N] [--paths-from=FILE] [PATH..]`.
 pub(crate) fn run_files_command<'a>(
     alloc: Global,
     help: HelpLength,
@@ -381,7 +383,7 @@ fn accept_command<'a>(alloc: Global, help: HelpLength) -> Command<'a>
     )
 }
 
-/// `commit [--no-verify] [--color=WHEN] -m TEXT`.
+/// `commit [--no-verify] [--color=WHEN] [--jobs=N] -m TEXT`.
 pub(crate) fn commit_command<'a>(alloc: Global, help: HelpLength) -> Result<Command<'a>, AllocError>
     ensures app { IfOk result (λ command. app_of command ≡ commit_app) }
     ensures local { IfOk result (λ command. (fields_of command).has_globals ≡ false) }
@@ -390,7 +392,7 @@ pub(crate) fn commit_command<'a>(alloc: Global, help: HelpLength) -> Result<Comm
         alloc,
         "commit",
         "Commits the staged files, through the hooks of a commit",
-        "hookhost commit [--no-verify] [--color=<WHEN>] -m <TEXT>",
+        "hookhost commit [--no-verify] [--color=<WHEN>] [--jobs=<N>] -m <TEXT>",
         help.of(COMMIT_HELP),
     )
     .arg(flag(
@@ -399,6 +401,7 @@ pub(crate) fn commit_command<'a>(alloc: Global, help: HelpLength) -> Result<Comm
         "Leaves out the hooks of pre-commit and commit-msg",
     ))?
     .arg(color(alloc))?
+    .arg(jobs(alloc))?
     .arg(message(alloc))
 }
 
@@ -606,6 +609,15 @@ fn color<'a>(alloc: Global) -> Arg<'a>
         .long("color")
         .value_name("WHEN")
         .help("Colors how hooks ended: always, never, or auto, at a terminal; without it auto")
+}
+
+fn jobs<'a>(alloc: Global) -> Arg<'a>
+    ensures rule { rule_of result ≡ jobs_rule }
+    ensures local { result.global ≡ false }
+{
+    Arg::new(alloc, "jobs").long("jobs").value_name("N").help(
+        "Runs at most so many commands of hooks at the same time, from 1 to 256",
+    )
 }
 
 fn only<'a>(alloc: Global) -> Arg<'a>

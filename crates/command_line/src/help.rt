@@ -28,10 +28,15 @@ hookhost COMMAND --help explains what that command refuses.";
 
 /// At the end of the help of `try`.
 pub(crate) const TRY_HELP: &str = "\
-Hooks of the stage pre-commit are run on the files that each selects, one after
-another. The commands of system and script hooks run in .hookhost/scratch of the
+Hooks of the stage pre-commit are run in their order, on the files that each
+selects. The commands of system and script hooks run in .hookhost/scratch of the
 current folder, each over copies of all named files: no other file is written, and
 at the end that folder is removed. The report goes to standard output.
+
+With --jobs=N at most N commands run at the same time, and without it each runs
+alone. If one of them changes files, they are run again one after another, so the
+report is the same whatever N is. Those of a hook with require_serial: true run
+alone.
 
 Example:
   hookhost try .pre-commit-config.yaml README.md src/main.c

@@ -27,6 +27,8 @@ pub enum Standalone {
         paths: Items<Text>,
         /// When the report has colors.
         color: ColorChoice,
+        /// How many commands may run at the same time, from 1 to 256, or `None` for the default.
+        jobs: Option<u32>,
     },
     /// A check of the working folder's configuration: how many hooks it has, and its ignored keys.
     Check,
@@ -101,6 +103,8 @@ pub enum Update {
         no_verify: bool,
         /// When the reports have colors.
         color: ColorChoice,
+        /// How many commands may run at the same time, from 1 to 256, or `None` for the default.
+        jobs: Option<u32>,
     },
     /// All cached results are dropped.
     Forget,
@@ -152,6 +156,8 @@ pub struct RunChoice {
     pub verbose: bool,
     /// When the report has colors.
     pub color: ColorChoice,
+    /// How many commands may run at the same time, from 1 to 256, or `None` for the default.
+    pub jobs: Option<u32>,
 }
 
 /// When a report has colors. They show how each hook ended.

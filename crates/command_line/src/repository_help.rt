@@ -141,7 +141,7 @@ Example:
 /// At the end of the help of `run`.
 pub(crate) const RUN_HELP: &str = opening_help!(
     "\
-The hooks of the staged .pre-commit-config.yaml run one after another. Each gets the
+The hooks of the staged .pre-commit-config.yaml run in its order. Each gets the
 staged files that it selects of those that differ from the last commit, or with
 --all-files of all. The variable SKIP of the environment names hooks to skip, by ids
 or aliases with commas between them. What the hooks change isn't staged: these are
@@ -158,6 +158,11 @@ file starts its command again. This leaves out hooks that say by x_reads which f
 their command reads, and commands of known tools. No failure is then taken from the
 cache. With --verbose the output of every hook is printed, and after the report
 'answered from the cache: N', how many commands weren't started.
+
+With --jobs=N at most N commands of hooks run at the same time; without it, and with
+--verbose, each runs alone. If one of them changes files, they are run again one
+after another, so the report is the same whatever N is. Those of a hook with
+require_serial: true run alone.
 
 Examples:
   hookhost run
@@ -251,11 +256,12 @@ post-commit run, whose outcome changes nothing. The reports are printed in this
 order, and then commit N, with the number of the commit.
 
 With --no-verify the hooks of pre-commit and commit-msg are left out. Hooks that the
-variable SKIP names are skipped, as by hookhost run. Blanks at the ends of the
-message's lines are removed, and so are empty lines at its start and its end; of
-several empty lines one is left. If the hooks of post-commit are stopped, standard
-error says why, and the commit stays. If standard output takes no more, standard
-error says so, and after a commit also 'hookhost: commit N was made'.
+variable SKIP names are skipped, and with --jobs=N at most N commands run at the
+same time, as by hookhost run. Blanks at the ends of the message's lines are
+removed, and so are empty lines at its start and its end; of several empty lines one
+is left. If the hooks of post-commit are stopped, standard error says why, and the
+commit stays. If standard output takes no more, standard error says so, and after a
+commit also 'hookhost: commit N was made'.
 
 Example:
   hookhost commit -m 'Say hello'",

@@ -5,7 +5,7 @@
 ghost use Rattle.std.specs.Prelude.{◌≡◌, ◌∷◌, IfOk, Some, [], codes, false, map};
 ghost use Rattle.clap.specs.Words.{HasKind, first_of, found_of, rows_of};
 ghost use Rattle.clap.specs.declared.error.kind.ErrorKind.TheVariants.{InvalidValue};
-ghost use Rattle.command_line.specs.CommandLine.{IsValueOf, color_in, flag_in, limit_in, limit_number, mode_in, number_in, asked_stage_in, version_in, word_in, words_in};
+ghost use Rattle.command_line.specs.CommandLine.{IsValueOf, color_in, flag_in, jobs_in, jobs_number, limit_in, limit_number, mode_in, number_in, asked_stage_in, version_in, word_in, words_in};
 
 use crate::commands::{
     add_command, cat_command, commit_command, memory_command, run_command, run_files_command,
@@ -17,6 +17,10 @@ use clap::error::ErrorKind;
 use clap::{ArgMatches, Command, Error};
 use hook_base::{Items, Mode, Text};
 use std::alloc::{AllocError, Global};
+use store_faults::MOST_ANSWERS;
+
+// The most commands that may run at the same time.
+const MOST_JOBS: u32 = 256;
 
 /// A value of one word.
 pub(crate) fn text_of(alloc: Global, values: &ArgMatches<'_>, id: &str) -> Result<Text, AllocError>
@@ -188,6 +192,40 @@ fn limit_number(text: &str) -> Option<AnswerLimit>
     }
 }
 
+/// How many commands may run at the same time, as `--jobs` asks for it, or `None` if it is left out. A text
+/// that is no number from 1 to 256 is an error, with the usage of the command of this name.
+pub(crate) fn jobs_of(
+    alloc: Global,
+    command: &str,
+    values: &ArgMatches<'_>,
+) -> Result<Option<u32>, Error>
+    ensures { IsValueOf (jobs_in (first_of (codes "jobs") (rows_of (found_of values.now)))) result }
+{
+    match values.get_str("jobs") {
+        None => Ok(None),
+        Some(text) => jobs_from(alloc, command, text),
+    }
+}
+
+// The number of commands that the text writes.
+fn jobs_from(alloc: Global, command: &str, text: &str) -> Result<Option<u32>, Error>
+    ensures { IsValueOf (jobs_in (Some text.now)) result }
+{
+    match jobs_number(text) {
+        Some(jobs) => Ok(Some(jobs)),
+        None => Err(jobs_error(alloc, command, text)),
+    }
+}
+
+fn jobs_number(text: &str) -> Option<u32>
+    ensures { result ≡ jobs_number text.now }
+{
+    match text.parse::<u32>() {
+        Ok(number) if 1 <= number && number <= MOST_JOBS => Some(number),
+        _ => None,
+    }
+}
+
 fn chmod_error(alloc: Global, text: &str) -> Error
     ensures { HasKind (InvalidValue ∷ []) result }
 {
@@ -262,15 +300,25 @@ fn commit_error(alloc: Global, text: &str) -> Error
 fn limit_error(alloc: Global, text: &str) -> Error
     ensures { HasKind (InvalidValue ∷ []) result }
 {
-    match limit_message(alloc, text) {
+    match most_message(alloc, text, "limit", MOST_ANSWERS) {
         Ok(message) => error_of(memory_command(alloc, HelpLength::Short), message.as_str()),
         Err(refused) => Error::from(refused),
     }
 }
 
-fn limit_message(alloc: Global, text: &str) -> Result<String, AllocError> {
+fn jobs_error(alloc: Global, command: &str, text: &str) -> Error
+    ensures { HasKind (InvalidValue ∷ []) result }
+{
+    match most_message(alloc, text, "jobs", MOST_JOBS) {
+        Ok(message) => error_of(command_of_reports(alloc, command), message.as_str()),
+        Err(refused) => Error::from(refused),
+    }
+}
+
+// What is wrong with the text of an option that takes a number from 1 to `most`.
+fn most_message(alloc: Global, text: &str, name: &str, most: u32) -> Result<String, AllocError> {
     format!(in alloc;
-        "invalid value '{text}' for '--limit <N>': it has to be a number from 1 to 100000"
+        "invalid value '{text}' for '--{name} <N>': it has to be a number from 1 to {most}"
     )
 }
 

@@ -149,7 +149,7 @@ IsStopOfItsList (Add paths mode) stop = IsStopOfSource paths stop
 IsStopOfItsList (Remove paths) stop = IsStopOfSource paths stop
 IsStopOfItsList (Run files only stage fresh options) stop = IsStopOfChoice files stop
 IsStopOfItsList Accept stop = ⊥
-IsStopOfItsList (Commit message no_verify color) stop = ⊥
+IsStopOfItsList (Commit message no_verify color jobs) stop = ⊥
 IsStopOfItsList Forget stop = ⊥
 IsStopOfItsList (Limit limit) stop = ⊥
 
@@ -185,7 +185,7 @@ IsStopOfCall (Add paths mode) stop = IsStopOfStaging stop
 IsStopOfCall (Remove paths) stop = ⊥
 IsStopOfCall (Run files only stage fresh options) stop = IsStopOfHooks stop
 IsStopOfCall Accept stop = ⊥
-IsStopOfCall (Commit message no_verify color) stop = IsStopOfHooks stop
+IsStopOfCall (Commit message no_verify color jobs) stop = IsStopOfHooks stop
 IsStopOfCall Forget stop = ⊥
 IsStopOfCall (Limit limit) stop = ⊥
 

@@ -75,7 +75,7 @@ IsCallOf (Remove paths) names (call.Unstage words listed) =
 IsCallOf (Run files only stage fresh choice) names (call.HookCommand asked shown children) =
     IsRunOf files names only stage fresh choice asked
 IsCallOf Accept names (call.Command asked) = asked ≡ command.Accept
-IsCallOf (Commit message no_verify color) names (call.HookCommand asked shown children) =
+IsCallOf (Commit message no_verify color jobs) names (call.HookCommand asked shown children) =
     IsCommitOf message no_verify asked
 IsCallOf Forget names (call.Command asked) = asked ≡ command.Forget
 IsCallOf (Limit limit) names (call.Command asked) = asked ≡ command.Limit limit

@@ -4,10 +4,10 @@ ghost use Rattle.std.specs.Prelude.{◌≡◌, ◌⊎◌, false, IfErr, IfOk};
 ghost use Rattle.hookhost.specs.Stops.{IsStopOfLookUp, IsStopOfOpening, IsStopOfUpdate};
 
 use crate::colored_report::report_writer;
-use crate::hint::{FIXES, hint, hint_undone, is_heard};
+use crate::hint::is_heard;
 use crate::names::names_of;
 use crate::obstacle_lines::tell_trouble;
-use crate::refusal_hints::{Requirement, hint_need, need_of};
+use crate::refusal_hints::{hint_after, need_of};
 use crate::runs::RealChildren;
 use crate::stop::{CommandStop, tell};
 use crate::store_call::{ReportChoice, StoreCall, call_of};
@@ -16,9 +16,8 @@ use crate::undone_fix::undone_fix;
 use crate::unstaged_words::{is_folder_of_none, removal_of};
 use child_port::{Children, TableChildren};
 use commit_flow::{Command, Host, HostRefusal};
-use hook_base::{Items, OutOfMemory, RepoPath, Text};
+use hook_base::{Items, OutOfMemory, Text};
 use hook_cli::{LookUp, Update, command_over, look_up_over};
-use repo_store::Store;
 use repository_files::{
     Before, DatabaseOver, Lock, keep_out_of_git, leave_database, look_at_store, open_database,
     open_store, take_lock,
@@ -29,9 +28,6 @@ use std::io::{self, Write};
 
 // The exit status of a command that is done.
 const DONE: u8 = 0;
-
-// The exit status of a command in which a hook failed.
-const HOOK_FAILED: u8 = 1;
 
 // The exit status of a refused command.
 const REFUSED: u8 = 3;
@@ -144,22 +140,6 @@ fn do_in<S: Alter + Drop>(
             Ok((status, host.into_store().into_connection()))
         }
         Err(fault) => Err(CommandStop::from(fault)),
-    }
-}
-
-// Says the next step after what was done, if there is one.
-fn hint_after<S: Alter>(
-    rt: &HostRuntime,
-    status: u8,
-    undone: Option<RepoPath>,
-    need: Requirement,
-    store: &Store<S>,
-) {
-    match (status, undone) {
-        (DONE, Some(path)) => hint_undone(rt, &path),
-        (HOOK_FAILED, _) if store.count_fixes() > 0 => hint(rt, FIXES),
-        (REFUSED, _) if is_heard(rt) => hint_need(rt, need, store),
-        _ => {}
     }
 }
 

@@ -5,13 +5,10 @@ ghost use Rattle.hookhost.specs.Stops.{IsStopOfReading};
 
 use crate::stop::CommandStop;
 use hook_base::Text;
-use repository_files::FOLDER;
+use named_files::{is_left_out, is_of_repository, path_in};
 use std::io::Read;
 use std::rt::Files;
 use std::{fs, io};
-
-// The folder of a repository of Git, at any depth.
-const GIT: &str = ".git";
 
 // What is found below a folder.
 #[derive(Drop)]
@@ -70,10 +67,6 @@ fn walk<R: Files + AllocGlobal>(
     Ok(files)
 }
 
-fn is_of_repository(path: &str) -> bool {
-    path == FOLDER || path.starts_with(".hookhost/")
-}
-
 fn look_into<R: Files + AllocGlobal>(
     rt: &R,
     folder: &str,
@@ -120,7 +113,7 @@ fn take_names<R: Files + AllocGlobal>(
 {
     'names: for name in names.split(|byte| *byte == 0) {
         match str::from_utf8(name) {
-            Ok("" | "." | ".." | GIT) => {}
+            Ok(name) if is_left_out(folder, name) => {}
             Ok(name) => take_name(rt, folder, name, below)?,
             Err(_) => stop_or_leave(below, unusable(rt, folder))?,
         }
@@ -136,10 +129,7 @@ fn take_name<R: Files + AllocGlobal>(
 ) -> Result<(), CommandStop>
     ensures { IfErr result IsStopOfReading }
 {
-    let path = path_in(rt, folder, name)?;
-    if path.as_str() == FOLDER {
-        return Ok(());
-    }
+    let path = path_in(rt.alloc(), folder, name)?;
     match fs::symlink_metadata(rt, path.as_str()) {
         Ok(found) if found.is_dir() => below.folders.push(path)?,
         Ok(found) if found.is_file() => below.files.push(path)?,
@@ -158,18 +148,6 @@ fn stop_or_leave(below: &Below, stop: CommandStop) -> Result<(), CommandStop>
         CommandStop::CannotUse(_) if !below.is_whole => Ok(()),
         stop => Err(stop),
     }
-}
-
-// The path of a name in a folder.
-fn path_in<R: AllocGlobal>(rt: &R, folder: &str, name: &str) -> Result<String, CommandStop>
-    ensures { IfErr result IsStopOfReading }
-{
-    let mut path = String::from_str(rt.alloc(), folder)?;
-    if !folder.is_empty() {
-        path.push('/')?;
-    }
-    path.push_str(name)?;
-    Ok(path)
 }
 
 fn stop_at<R: AllocGlobal>(rt: &R, error: &io::Error, folder: &str) -> CommandStop

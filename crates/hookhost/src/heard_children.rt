@@ -4,7 +4,7 @@
 ghost use Rattle.std.specs.Prelude.{◌≡◌};
 
 use crate::shown_report::ShownReport;
-use child_port::{Children, News, Outcome};
+use child_port::{ChildAsk, Children, News, Outcome};
 use hook_base::{OutOfMemory, Text, Tree};
 use std::cell::RefCell;
 use std::rc::Rc;
@@ -149,5 +149,18 @@ impl<C: Children> Children for HeardChildren<C> {
     fn hear(&mut self, news: News) {
         self.listener.take(news);
         self.inner.hear(news);
+    }
+
+    // How long the commands of one hook took can be said only if no others run at the same time.
+    fn at_once(&self) -> usize {
+        if self.listener.is_timed {
+            1
+        } else {
+            self.inner.at_once()
+        }
+    }
+
+    fn start_ahead(&mut self, asks: Vec<ChildAsk>, tree: &Tree) {
+        self.inner.start_ahead(asks, tree);
     }
 }

@@ -36,10 +36,11 @@ use colored_report::report_writer;
 use commands::{change, look_up};
 use explain_command::explain_file;
 use files::{read_configuration, read_tree};
-use hint::{WAITS, hint};
+use hint::hint_step;
 use hook_base::{Items, Text, Tree};
 use hook_cli::{ColorChoice, CommandLine, Standalone, TryFault, check_text, line_of, try_over};
 use hook_config::{Config, read_config_with_node};
+use next_steps::NextStep;
 use obstacle_lines::tell_trouble;
 use repository_files::{init, replace_ignore_file};
 use runs::{RealChildren, passing_children};
@@ -73,11 +74,11 @@ fn run(rt: &HostRuntime) -> Result<u8, CommandStop> {
         Ok(Some(line)) => do_line(rt, line),
         Ok(None) => {
             if rt.reader().is_terminal() {
-                hint(rt, WAITS);
+                hint_step(rt, NextStep::AskForHelp);
             }
             replace_ignore_file(rt);
             let tree = Tree::new(rt.alloc());
-            let children = passing_children(rt)?;
+            let children = passing_children(rt, None)?;
             let passed = report(rt, &mut rt.reader(), &tree, children, ColorChoice::Auto)?;
             Ok(status_of_run(passed))
         }
@@ -133,7 +134,8 @@ fn do_alone(rt: &HostRuntime, asked: Standalone) -> Result<u8, CommandStop> {
             config,
             paths,
             color,
-        } => try_files(rt, config, paths, color),
+            jobs,
+        } => try_files(rt, config, paths, color, jobs),
         Standalone::Check => {
             check(rt).map_err(CommandStop::of_check)?;
             Ok(DONE)
@@ -188,9 +190,10 @@ fn try_files(
     config: Text,
     paths: Items<Text>,
     color: ColorChoice,
+    jobs: Option<u32>,
 ) -> Result<u8, CommandStop> {
     let name = config.clone()?;
-    match try_over_files(rt, config, paths, color) {
+    match try_over_files(rt, config, paths, color, jobs) {
         Err(CommandStop::Refused(TryFault::Config(fault))) => {
             let status = tell(rt, &CommandStop::Refused(TryFault::Config(fault)));
             hint_refused_file(rt, name.as_str());
@@ -205,11 +208,12 @@ fn try_over_files(
     config: Text,
     paths: Items<Text>,
     color: ColorChoice,
+    jobs: Option<u32>,
 ) -> Result<bool, CommandStop> {
     let bytes = read_configuration(rt, config)?;
     let tree = read_tree(rt, paths)?;
     replace_ignore_file(rt);
-    let children = passing_children(rt)?;
+    let children = passing_children(rt, jobs)?;
     let passed = report(rt, &mut bytes.as_slice(), &tree, children, color)?;
     // As in `check`, for the files.
     mem::forget(tree);

@@ -32,12 +32,13 @@ const SCRATCH_FOLDER: &str = "HOOKHOST_SCRATCH";
 /// Children that are processes and that a terminal shows.
 pub(crate) type RealChildren = HeardChildren<ShownChildren<ProcessChildren<HostRuntime>, Stderr>>;
 
-/// The children of a run on the repository, of which none has run yet. They run in the folder that the
+/// The children of a run on the repository, of which none has run yet, and at most so many at once, one if it
+/// isn't said. They run in the folder that the
 /// variable of Git's hook names, and otherwise in that of the repository. If a variable names a file of
 /// calls, a child during which a call was recorded there is a fault. If one names the file that represents
 /// Git's state, each child learns whether it has seen that. A variable that isn't UTF-8, or names what can't
 /// be, is `CommandStop::CannotUse`; want of memory is `CommandStop::Refused`.
-pub(crate) fn children_of(rt: &HostRuntime) -> Result<RealChildren, CommandStop>
+pub(crate) fn children_of(rt: &HostRuntime, jobs: Option<u32>) -> Result<RealChildren, CommandStop>
     ensures { IfErr result IsStopOfChildren }
 {
     let calls = named_by(rt.alloc(), GIT_CALLS, env::var(rt, GIT_CALLS))?;
@@ -52,14 +53,17 @@ pub(crate) fn children_of(rt: &HostRuntime) -> Result<RealChildren, CommandStop>
     if let Some(path) = state {
         children.tell_state(path);
     }
-    Ok(shown(rt, children)?)
+    Ok(shown(rt, children, jobs)?)
 }
 
-// The children, with a terminal that shows which one is running.
+// The children, at most so many at once, with a terminal that shows which one is running.
 fn shown(
     rt: &HostRuntime,
     children: ProcessChildren<HostRuntime>,
+    jobs: Option<u32>,
 ) -> Result<RealChildren, OutOfMemory> {
+    let mut children = children;
+    children.run_at_once(jobs.unwrap_or(1) as usize);
     let shown = ShownChildren::new(children, terminal_of(rt));
     Ok(HeardChildren::new(rt.clone()?, shown))
 }
@@ -81,15 +85,19 @@ pub(crate) fn named_by(
     }
 }
 
-/// The children of a run without a repository. Nothing is left of their folder at their end.
-pub(crate) fn passing_children(rt: &HostRuntime) -> Result<RealChildren, CommandStop>
+/// The children of a run without a repository, at most so many at once, one if it isn't said. Nothing is left
+/// of their folder at their end.
+pub(crate) fn passing_children(
+    rt: &HostRuntime,
+    jobs: Option<u32>,
+) -> Result<RealChildren, CommandStop>
     ensures { IfErr result IsStopOfChildren }
 {
     let folder = String::from_str(rt.alloc(), SCRATCH)?;
     let links = linked(rt)?;
     let mut children = ProcessChildren::removed_at_end(rt.clone()?, folder);
     children.link(links);
-    Ok(shown(rt, children)?)
+    Ok(shown(rt, children, jobs)?)
 }
 
 /// The ids and aliases of the hooks that are skipped, in the variable of the environment.

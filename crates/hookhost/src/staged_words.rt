@@ -9,6 +9,7 @@ use crate::stop::CommandStop;
 use commit_flow::StagingEdit;
 use hook_base::{Bytes, Mode, PathFault, RepoPath, Text};
 use hook_cli::TryFault;
+use named_files::{is_working_folder, without_slashes};
 use repo_store::MOST_FILES;
 use std::collections::BTreeSet;
 use std::fs;
@@ -56,7 +57,7 @@ pub(crate) fn folder_of<R: Files + AllocGlobal>(
     if is_working_folder(word) {
         return Ok(Some(String::new(rt.alloc())));
     }
-    let path = word.trim_end_matches('/');
+    let path = without_slashes(word);
     match fs::symlink_metadata(rt, path) {
         Ok(found) if found.is_dir() => {}
         _ => return Ok(None),
@@ -66,11 +67,6 @@ pub(crate) fn folder_of<R: Files + AllocGlobal>(
         Err(PathFault::OutOfMemory) => Err(CommandStop::Refused(TryFault::OutOfMemory)),
         Err(_) => Ok(None),
     }
-}
-
-/// Whether a word names the working folder: a dot, which slashes may follow.
-pub(crate) fn is_working_folder(word: &str) -> bool {
-    word.trim_end_matches('/') == "."
 }
 
 fn gather_word<R: Files + AllocGlobal>(

@@ -1,9 +1,10 @@
 //! The next step after a stop.
 
-use crate::hint::{hint, is_plain};
+use crate::hint::{hint, hint_step};
 use crate::stop::CommandStop;
 use hook_base::Text;
 use hook_config::ConfigKind;
+use next_steps::{NextStep, word_or};
 use repository_files::{RepositoryFault, STORE};
 use std::fs;
 use std::io::ErrorKind;
@@ -12,16 +13,6 @@ use std::rt::Files;
 /// The file that `check` reads, and `explain` if it is given none, and that is staged for the hooks of a
 /// repository.
 pub(crate) const CONFIGURATION: &str = ".pre-commit-config.yaml";
-
-/// How to learn more of the configuration of the working folder.
-pub(crate) const EXPLAIN: &str = "hint: hookhost explain says what is wrong and where";
-
-const NO_STORE: &str = "hint: hookhost init makes a repository here";
-
-const STORE_HERE: &str = "hint: a repository is here already: go on with it, as by hookhost status";
-
-const NO_CONFIGURATION: &str =
-    "hint: there is no .pre-commit-config.yaml in this folder: write one first";
 
 // The most folders above the working folder in which a repository is looked for.
 const MOST_FOLDERS: usize = 40;
@@ -32,16 +23,15 @@ pub(crate) fn hint_at(rt: &HostRuntime, stop: &CommandStop) {
         CommandStop::NoRepository(RepositoryFault::CannotUseStore) if is_missing(rt, STORE) => {
             hint_repository(rt);
         }
-        CommandStop::NoNewRepository(RepositoryFault::CannotUseStore) if is_file(rt, STORE) => hint(
-            rt, STORE_HERE,
-        ),
-        CommandStop::NoConfiguration(fault) if fault.kind != ConfigKind::OutOfMemory => hint(
-            rt, EXPLAIN,
-        ),
-        CommandStop::CannotUse(word) if is_missing_configuration(rt, word) => hint(
-            rt,
-            NO_CONFIGURATION,
-        ),
+        CommandStop::NoNewRepository(RepositoryFault::CannotUseStore) if is_file(rt, STORE) => {
+            hint_step(rt, NextStep::UseRepository);
+        }
+        CommandStop::NoConfiguration(fault) if fault.kind != ConfigKind::OutOfMemory => {
+            hint_step(rt, NextStep::ExplainConfiguration);
+        }
+        CommandStop::CannotUse(word) if is_missing_configuration(rt, word) => {
+            hint_step(rt, NextStep::WriteConfiguration);
+        }
         _ => {}
     }
 }
@@ -65,7 +55,7 @@ fn hint_repository(rt: &HostRuntime) {
             return;
         }
     }
-    hint(rt, NO_STORE);
+    hint_step(rt, NextStep::MakeRepository);
 }
 
 fn hint_folder(rt: &HostRuntime, folder: &str) {
@@ -78,23 +68,18 @@ fn hint_folder(rt: &HostRuntime, folder: &str) {
 /// there to be read again.
 pub(crate) fn hint_refused_file(rt: &HostRuntime, file: &str) {
     if file == CONFIGURATION {
-        hint(rt, EXPLAIN);
+        hint_step(rt, NextStep::ExplainConfiguration);
         return;
     }
     if !is_file(rt, file) {
         return;
     }
-    let word = if is_word(file) { file } else { "CONFIG" };
+    let word = word_or(file, "CONFIG");
     if let Ok(text) = format!(in rt.alloc();
         "hint: hookhost explain {word} says what is wrong and where"
     ) {
         hint(rt, text.as_str());
     }
-}
-
-// Whether a shell and the command line take the name as it is.
-fn is_word(name: &str) -> bool {
-    !name.starts_with('-') && name.bytes().all(|byte| byte == b'-' || is_plain(byte))
 }
 
 /// Whether nothing is at a name.

@@ -63,6 +63,7 @@ pub(crate) fn call_of(
     update: Update,
     names: Items<Text>,
 ) -> Result<StoreCall, CommandStop>
+    ensures call { IfOk result (IsCallOf update names) }
     ensures stopped { IfErr result (IsStopOfCall update) }
 {
     match update {
@@ -77,7 +78,7 @@ pub(crate) fn call_of(
             fresh,
             options,
         } => {
-            let (skip, children) = hook_needs(rt).map_err(CommandStop::of_command)?;
+            let (skip, children) = hook_needs(rt, options.jobs).map_err(CommandStop::of_command)?;
             let ask = HostAsk {
                 which: which_of(files, names),
                 only,
@@ -100,8 +101,9 @@ pub(crate) fn call_of(
             message,
             no_verify,
             color,
+            jobs,
         } => {
-            let (skip, children) = hook_needs(rt).map_err(CommandStop::of_command)?;
+            let (skip, children) = hook_needs(rt, jobs).map_err(CommandStop::of_command)?;
             Ok(StoreCall::HookCommand {
                 command: Command::Commit {
                     message: message_of(message),
@@ -126,12 +128,13 @@ fn add_call<R: Files + AllocGlobal>(
     names: Items<Text>,
     mode: Option<Mode>,
 ) -> Result<StoreCall, CommandStop>
+    ensures call { IfOk result (IsAddCall paths mode) }
     ensures stopped { IfErr result IsStopOfReading }
 {
-    match paths {
-        PathSource::Words(words) => add_words(rt, words, mode),
-        PathSource::Listed(_from) => stage_call(rt, names.as_slice(), mode),
-    }
+    let PathSource::Words(words) = paths else {
+        return stage_call(rt, names.as_slice(), mode);
+    };
+    add_words(rt, words, mode)
 }
 
 // A single word that names no folder is a command of its own.
@@ -227,8 +230,11 @@ fn message_of(message: Text) -> Bytes
 }
 
 // What a command that runs hooks needs: the hooks that it skips, and children.
-fn hook_needs(rt: &HostRuntime) -> Result<(Items<Text>, RealChildren), CommandStop>
+fn hook_needs(
+    rt: &HostRuntime,
+    jobs: Option<u32>,
+) -> Result<(Items<Text>, RealChildren), CommandStop>
     ensures { IfErr result IsStopOfChildren }
 {
-    Ok((skipped(rt)?, children_of(rt)?))
+    Ok((skipped(rt)?, children_of(rt, jobs)?))
 }

@@ -1,8 +1,10 @@
 //! The fix that a line undoes by what it stages.
 
+ghost use Rattle.std.specs.Prelude.{◌≡◌, IfSome};
+
 use crate::store_call::StoreCall;
 use commit_flow::{Command, StagingEdit};
-use hook_base::{Change, RepoPath, Text};
+use hook_base::{RepoPath, Text};
 use repo_store::Store;
 use sqlite::Alter;
 use std::alloc::Global;
@@ -14,46 +16,51 @@ pub(crate) fn undone_fix<S: Alter>(
     call: &StoreCall,
     store: &Store<S>,
 ) -> Option<RepoPath> {
-    let Ok(fixes) = store.fixes() else {
-        return None;
-    };
     match call {
         StoreCall::Command(Command::Add { path, bytes, .. }) => {
-            undone_at(alloc, path, bytes.as_slice(), fixes.as_slice())
+            undone_at(alloc, path, bytes.as_slice(), store)
         }
         StoreCall::Command(Command::Stage { edits }) => {
-            undone_among(alloc, edits.as_slice(), fixes.as_slice())
+            undone_among(alloc, edits.as_slice(), store)
         }
         _ => None,
     }
 }
 
-fn undone_among(alloc: Global, edits: &[StagingEdit], fixes: &[Change]) -> Option<RepoPath> {
+fn undone_among<S: Alter>(
+    alloc: Global,
+    edits: &[StagingEdit],
+    store: &Store<S>,
+) -> Option<RepoPath> {
     'edits: for edit in edits {
-        if let Some(path) = undone_by(alloc, edit, fixes) {
+        if let Some(path) = undone_by(alloc, edit, store) {
             return Some(path);
         }
     }
     None
 }
 
-fn undone_by(alloc: Global, edit: &StagingEdit, fixes: &[Change]) -> Option<RepoPath> {
+fn undone_by<S: Alter>(alloc: Global, edit: &StagingEdit, store: &Store<S>) -> Option<RepoPath> {
     match edit {
-        StagingEdit::Add { path, bytes, .. } => undone_at(alloc, path, bytes.as_slice(), fixes),
+        StagingEdit::Add { path, bytes, .. } => undone_at(alloc, path, bytes.as_slice(), store),
         _ => None,
     }
 }
 
-// The path, if its fix gives other bytes to it than these. The fixes are in the order of their paths.
-fn undone_at(alloc: Global, path: &Text, bytes: &[u8], fixes: &[Change]) -> Option<RepoPath> {
+// The path, if its fix gives other bytes to it than these.
+fn undone_at<S: Alter>(
+    alloc: Global,
+    path: &Text,
+    bytes: &[u8],
+    store: &Store<S>,
+) -> Option<RepoPath>
+    ensures { IfSome result (λ undone. undone ≡ path.now) }
+{
     let Ok(path) = RepoPath::read(alloc, path.as_str()) else {
         return None;
     };
-    let Ok(index) = fixes.binary_search_by(|fix| fix.path.cmp(&path)) else {
-        return None;
-    };
-    match &fixes[index].now {
-        Some(fixed) if fixed.as_slice() != bytes => Some(path),
+    match store.fixed_bytes(&path) {
+        Some(fixed) if fixed != bytes => Some(path),
         _ => None,
     }
 }

@@ -1,8 +1,8 @@
 //! The staged files that the words of `rm` name.
 
-use crate::staged_words::is_working_folder;
 use commit_flow::{Command, StagingEdit, StagingEdits};
 use hook_base::{OutOfMemory, PathFault, RepoPath, Text};
+use named_files::{beginning_below, begins_with, is_working_folder};
 use repo_store::{MOST_FILES, Store};
 use sqlite::Alter;
 use std::alloc::Global;
@@ -97,12 +97,12 @@ fn gather_below<S: Alter>(
     word: &str,
     gathered: &mut Gathered,
 ) -> Result<bool, OutOfMemory> {
-    let head = head_of(gathered.alloc, word)?;
+    let head = beginning_below(gathered.alloc, word)?;
     let first = first_from(store, head.as_str());
     let mut is_any = false;
     'files: for index in first..MOST_FILES {
         match store.staged_file(index) {
-            Some(file) if file.path.as_str().starts_with(head.as_str()) => {
+            Some(file) if begins_with(file.path.as_str(), head.as_str()) => {
                 gather(file.path.as_str(), gathered)?;
                 is_any = true;
             }
@@ -110,16 +110,6 @@ fn gather_below<S: Alter>(
         }
     }
     Ok(is_any)
-}
-
-// How the paths below a folder begin. Slashes may follow the word already.
-fn head_of(alloc: Global, word: &str) -> Result<String, OutOfMemory> {
-    if is_working_folder(word) {
-        return Ok(String::new(alloc));
-    }
-    let mut head = String::from_str(alloc, word.trim_end_matches('/'))?;
-    head.push('/')?;
-    Ok(head)
 }
 
 // The index of the first staged file whose path isn't less than the text. The paths are in rising order.

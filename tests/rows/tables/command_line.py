@@ -27,14 +27,14 @@ LINES = [
         "error: the following required arguments were not provided:\n"
         "  <CONFIG>\n"
         "  <PATH>...\n\n"
-        f"Usage: hookhost try [--color=<WHEN>] <CONFIG> <PATH>...\n\n{MORE}",
+        f"Usage: hookhost try [--color=<WHEN>] [--jobs=<N>] <CONFIG> <PATH>...\n\n{MORE}",
     ),
     (
         ["try", "hooks.yaml"],
         "refused MissingRequiredArgument\n"
         "error: the following required arguments were not provided:\n"
         "  <PATH>...\n\n"
-        f"Usage: hookhost try [--color=<WHEN>] <CONFIG> <PATH>...\n\n{MORE}",
+        f"Usage: hookhost try [--color=<WHEN>] [--jobs=<N>] <CONFIG> <PATH>...\n\n{MORE}",
     ),
     (
         ["tried", "hooks.yaml", "a"],
@@ -45,7 +45,7 @@ LINES = [
         "refused UnknownArgument\n"
         "error: unexpected argument '--all' found\n\n"
         "  tip: to pass '--all' as a value, use '-- --all'\n\n"
-        f"Usage: hookhost try [--color=<WHEN>] <CONFIG> <PATH>...\n\n{MORE}",
+        f"Usage: hookhost try [--color=<WHEN>] [--jobs=<N>] <CONFIG> <PATH>...\n\n{MORE}",
     ),
     (["check", "a"], f"refused UnknownArgument\nerror: unexpected argument 'a' found\n\nUsage: hookhost check\n\n{MORE}"),
     (["check", "--all"], f"refused UnknownArgument\nerror: unexpected argument '--all' found\n\nUsage: hookhost check\n\n{MORE}"),
@@ -104,16 +104,16 @@ LINES = [
 # The usage line of each command on a repository, and of those that print a report.
 USAGES = {
     "init": "init",
-    "try": "try [--color=<WHEN>] <CONFIG> <PATH>...",
+    "try": "try [--color=<WHEN>] [--jobs=<N>] <CONFIG> <PATH>...",
     "explain": "explain [FILE]",
     "add": "add [--chmod=+x] (<PATH>... | --paths-from=<FILE>)",
     "rm": "rm (<PATH>... | --paths-from=<FILE>)",
     "status": "status",
     "fixes": "fixes",
     "accept": "accept",
-    "run": "run [--all-files] [--hook-stage=<STAGE>] [--fresh] [--cautious] [--verbose] [--color=<WHEN>] [ID]",
-    "run-files": "run-files [--only=<ID>] [--hook-stage=<STAGE>] [--fresh] [--cautious] [--verbose] [--color=<WHEN>] (<PATH>... | --paths-from=<FILE>)",
-    "commit": "commit [--no-verify] [--color=<WHEN>] -m <TEXT>",
+    "run": "run [--all-files] [--hook-stage=<STAGE>] [--fresh] [--cautious] [--verbose] [--color=<WHEN>] [--jobs=<N>] [ID]",
+    "run-files": "run-files [--only=<ID>] [--hook-stage=<STAGE>] [--fresh] [--cautious] [--verbose] [--color=<WHEN>] [--jobs=<N>] (<PATH>... | --paths-from=<FILE>)",
+    "commit": "commit [--no-verify] [--color=<WHEN>] [--jobs=<N>] -m <TEXT>",
     "cat": "cat [--fixed | --commit=<N>] <PATH>",
     "log": "log",
     "show": "show <N>",
@@ -154,6 +154,10 @@ def no_number(value, name="<N>"):
 
 def no_limit(value):
     return f"invalid value '{value}' for '--limit <N>': it has to be a number from 1 to 100000"
+
+
+def no_jobs(value):
+    return f"invalid value '{value}' for '--jobs <N>': it has to be a number from 1 to 256"
 
 
 def no_color(value):
@@ -402,4 +406,44 @@ COLOR_LINES = [
     ),
 ]
 
-ROWS = [("line_of", *words, said) for words, said in LINES + REPOSITORY_LINES + RUN_LINES + COLOR_LINES]
+# Numbers of commands that `--jobs` may ask for, and how the first line ends then.
+JOBS = {"1": " jobs 1", "2": " jobs 2", "256": " jobs 256", "007": " jobs 7", "+5": " jobs 5"}
+# What is no such number. The last two are 1 if only their last 32 or 64 bits are looked at.
+NO_JOBS = ["0", "00", "257", "-1", "x", "", "1.0", " 1", "1 2", "++1", "4294967297", "18446744073709551617"]
+
+
+def counted(words, first, rest):
+    """The rows of a command that prints a report, for numbers of commands that may run at the same time, and for what is no number."""
+    command, *others = words
+    for number, end in JOBS.items():
+        yield (*words, f"--jobs={number}"), f"{first}{end}\n{rest}"
+        yield (command, "--jobs", number, *others), f"{first}{end}\n{rest}"
+    for number in NO_JOBS:
+        yield (*words, f"--jobs={number}"), refused(command, "InvalidValue", no_jobs(number))
+    yield (command, "--jobs", "257", *others), refused(command, "InvalidValue", no_jobs("257"))
+    yield (*words, "--jobs"), f"refused InvalidValue\nerror: a value is required for '--jobs <N>' but none was supplied\n\n{MORE}"
+    twice = (command, *others, "--jobs=1", "--jobs=1")
+    yield twice, refused(command, "ArgumentConflict", "the argument '--jobs <N>' cannot be used multiple times")
+    yield (command, "--jobs=3", "--color=always", *others), f"{first} color always jobs 3\n{rest}"
+    # A color that isn't known is reported before such a number.
+    yield (command, "--jobs=0", "--color=on", *others), refused(command, "InvalidValue", no_color("on"))
+
+
+JOBS_LINES = [
+    *(row for report in REPORTS for row in counted(*report)),
+    # A word that is a value of another option, or comes after `--`, asks for no number.
+    (("commit", "-m", "--jobs=2"), "commit\n--jobs=2\n"),
+    (("try", "--", "--jobs=2", "a"), "try\n--jobs=2\na\n"),
+    (("run", "--", "--jobs=2"), "run pre-commit changed\n--jobs=2\n"),
+    # What a command lacks is reported before a number that can't be taken.
+    (("try", "--jobs=0"), refused("try", "MissingRequiredArgument", missing("CONFIG") + "\n  <PATH>...")),
+    (("commit", "--jobs=0"), refused("commit", "MissingRequiredArgument", "the following required arguments were not provided:\n  -m <TEXT>")),
+    (("run-files", "--jobs=0"), refused("run-files", "InvalidValue", NO_PATHS)),
+    # The other commands start no command of a hook.
+    *(
+        ((command, "--jobs=2"), refused(command, "UnknownArgument", "unexpected argument '--jobs' found"))
+        for command in ["init", "status", "accept", "forget"]
+    ),
+]
+
+ROWS = [("line_of", *words, said) for words, said in LINES + REPOSITORY_LINES + RUN_LINES + COLOR_LINES + JOBS_LINES]
