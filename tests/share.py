@@ -1,6 +1,6 @@
 #!/usr/bin/env python3
 """Tests the files of share/: that share/make.py makes them from the help of the program and of hookhost-reads, the completions in real
-shells, and the manual page.
+shells, the manual page, and the list of share/install.
 
 Usage: tests/share.py [PROGRAM]   (default: crates/hookhost/out/hookhost)
 
@@ -59,6 +59,8 @@ CASES = [
     ("hookhost try .pre-commit-config.yaml README.md s", ["src"]),
     ("hookhost rm R", ["README.md"]),
     ("hookhost cat R", ["README.md"]),
+    ("hookhost run --jobs ", []),
+    ("hookhost run-files --jobs 2 R", ["README.md"]),
     ("hookhost commit -m ", []),
     ("hookhost commit -m R", []),
     ("hookhost commit -m run --no", ["--no-verify"]),
@@ -77,7 +79,7 @@ BASH_CASES = [
     ("hookhost cat README.md ", ["--commit=", "--fixed", "--help", "-h"]),
     ("hookhost add --paths-from=R", ["--paths-from=README.md"]),
     ("hookhost run-files --paths-from=src/", ["--paths-from=src/main.c"]),
-    ("hookhost run --fresh ", ["--all-files", "--cautious", "--color=", "--help", "--hook-stage=", "--verbose", "-h"]),
+    ("hookhost run --fresh ", ["--all-files", "--cautious", "--color=", "--help", "--hook-stage=", "--jobs=", "--verbose", "-h"]),
     ("hookhost run --cautious --v", ["--verbose"]),
     ("hookhost run-files --o", ["--only="]),
     ("hookhost run --hook-stage=manual --h", ["--help"]),
@@ -191,6 +193,25 @@ def tried_readings(readings, wrong_line):
                 file.write(wrong_line)
             _, told, said = played([tool, *words, path])
             yield said or (told and "-Z" not in words), f"{tool} says nothing of a wrong line in {name}"
+
+
+def tried_installed():
+    """Whether share/install puts each script of git/ into bin/, and each module where its script looks for it."""
+    with open(os.path.join(SHARE, "install"), encoding="utf-8") as file:
+        listed = re.findall(r"^(\d+) git/(\S+) (\S+)$", file.read(), re.MULTILINE)
+    wanted = []
+    for folder, folders, names in os.walk(os.path.join(TOP, "git")):
+        folders[:] = [name for name in folders if name != "__pycache__"]
+        for path in (os.path.relpath(os.path.join(folder, name), os.path.join(TOP, "git")) for name in names):
+            wanted.append(("644", path, f"share/hookhost/{path}") if "/" in path else ("755", path, f"bin/{path}"))
+    yield sorted(listed) == sorted(wanted), f"share/install lists {sorted(set(listed) ^ set(wanted))} otherwise than git/ has them"
+    for name in ["hookhost-import", "hookhost-reads"]:
+        with tempfile.TemporaryDirectory() as folder:
+            for _, path, place in listed:
+                os.makedirs(os.path.dirname(os.path.join(folder, place)), exist_ok=True)
+                shutil.copy(os.path.join(TOP, "git", path), os.path.join(folder, place))
+            status, told, said = played([os.path.join(folder, "bin", name), "--help"], folder)
+        yield status == 0 and told.startswith(f"Usage: {name} "), f"{name} doesn't find its modules where share/install puts them: {said!r}"
 
 
 # ---- the shells
@@ -335,7 +356,7 @@ def tried_page():
 def main():
     with tempfile.TemporaryDirectory() as folder:
         tries = [
-            *tried_files(), *tried_readings(SHELLS, "(\n"), *tried_completions(folder), *tried_options(folder),
+            *tried_files(), *tried_installed(), *tried_readings(SHELLS, "(\n"), *tried_completions(folder), *tried_options(folder),
             *tried_options_of_reads(folder), *tried_stages(folder), *tried_readings(PAGES, ".XX\n"), *tried_page(),
         ]
     wrong = [text for holds, text in tries if not holds]

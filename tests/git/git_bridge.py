@@ -1,13 +1,13 @@
 #!/usr/bin/env python3
 """Checks git/hookhost-git as the hook of real repositories of Git.
 
-Usage: tests/git/git_bridge.py [PROGRAM [PART [PLAYS [FIRST]]]]   (default: crates/hookhost/out/hookhost, all parts, 200 plays from 1 on)
+Usage: tests/git/git_bridge.py [--sample] [PROGRAM [PART [PLAYS [FIRST]]]]   (default: crates/hookhost/out/hookhost, all parts, 200 plays from 1 on)
 
 PART is `cases`, `plays`, `kills`, or a part of a case's name.
 First come the promises of docs/GIT.md, case by case (tests/git/git_bridge_cases.py, .._fixes.py, .._forms.py, .._runs.py,
 .._calls.py, .._served.py, .._keeping.py, .._share.py, .._tools.py, .._links.py, .._partial.py and .._state.py), and what README.md shows
 (tests/git/git_bridge_readme.py). Then come random repositories that are compared with copies in which pre-commit is the hook
-(tests/git/git_bridge_plays.py), and kills (tests/git/git_bridge_kills.py).
+(tests/git/git_bridge_plays.py), and kills (tests/git/git_bridge_kills.py). With --sample only some of the plays and of the kills come.
 """
 import os
 import sys
@@ -15,6 +15,7 @@ import tempfile
 import time
 
 sys.path.insert(0, os.path.abspath(f"{__file__}/../../shared"))
+from sample import TALLY, note, sampled, tally
 from git_bridge_calls import CASES as CALLS
 from git_bridge_cases import CASES
 from git_bridge_fixes import CASES as FIXES
@@ -34,6 +35,8 @@ from git_bridge_tools import CASES as TOOLS
 
 PART = sys.argv[2] if len(sys.argv) > 2 else ""
 PLAYS, FIRST = int(sys.argv[3]) if len(sys.argv) > 3 else 200, int(sys.argv[4]) if len(sys.argv) > 4 else 1
+# With --sample one in so many plays is played.
+SAMPLED_ONE_IN = 8
 SHOWS_TIMES = "GIT_BRIDGE_TIMES" in os.environ
 
 
@@ -69,19 +72,22 @@ def run_plays():
     reasons, failed = Reasons(), 0
     with tempfile.TemporaryDirectory(dir="/dev/shm" if os.path.isdir("/dev/shm") else None) as top:
         template = templates(top, environment(top))
-        for seed in range(FIRST, FIRST + PLAYS):
+        # One in five is looked at more closely at its end.
+        seeds = sampled(range(FIRST, FIRST + PLAYS), lambda seed: seed % 5, SAMPLED_ONE_IN)
+        for seed in seeds:
             def one(folder, env, seed=seed):
                 play(folder, env, seed, template, reasons)
             failed += in_folder(one)
     for name, count in sorted(reasons.needed.items()):
         print(f"{count:5} {name}: {REASONS[name]}")
     unneeded = [name for name in REASONS if name not in reasons.needed]
-    if PLAYS >= 200:
+    if len(seeds) >= 200:
         for name in unneeded:
             print(f"git_bridge: no play needed the reason: {name}")
         failed += len(unneeded)
     print(f"git_bridge: {reasons.tried} commits tried beside pre-commit, {reasons.made} made, {sum(reasons.needed.values())} differ for a reason", flush=True)
-    return PLAYS, failed
+    tally(len(seeds), PLAYS)
+    return len(seeds), failed
 
 
 def run_kills():
@@ -92,7 +98,7 @@ def main():
     parts = [run_cases] if PART not in ("plays", "kills") else []
     parts += [run for name, run in (("plays", run_plays), ("kills", run_kills)) if PART in ("", name)]
     played, failed = map(sum, zip(*(run() for run in parts)))
-    print(f"git_bridge: {played - failed} passed, {failed} failed")
+    print(f"git_bridge: {played - failed} passed, {failed} failed{note(TALLY['played'], TALLY['count'], 'plays and kills')}")
     sys.exit(1 if failed else 0)
 
 

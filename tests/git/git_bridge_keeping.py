@@ -164,7 +164,7 @@ def a_kill_while_a_hook_calls_git(top, env):
     git.write(os.path.join(place, ".git.new"), "gitdir: /nowhere\n")
     git.add("a.sh", f"test ! -e {quoted(place)}/.git\n")
     same("the next run", git.bridge("run").status, 0)
-    same("what is left of it", sorted(os.listdir(git.home())), ["bin", "files", "lists", "lock", "size", "synced", "tools"])
+    same("what is left of it", sorted(os.listdir(git.home())), ["bin", "files", "lists", "lock", "size", "synced", "taken", "tools"])
     same("next to the folder of hooks", os.listdir(place), ["scratch"])
     git.add("a.sh", "git ls-files --error-unmatch a.sh && ! git config a.b\n")
     same("the run after it", git.bridge("run").status, 0)

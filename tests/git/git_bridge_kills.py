@@ -10,6 +10,7 @@ import signal
 import subprocess
 import time
 
+from sample import IS_SAMPLED, spread, tally
 from git_bridge_repository import BLANKS, BRIDGE, Repository, Wrong, check, content, names_hook, same, shell
 
 # What the script starts. For each a script that counts is found first, in a folder of its own.
@@ -30,6 +31,8 @@ CALLS_GIT = "id: calls, name: Calls, language: system, verbose: true, pass_filen
 MOST_COMMANDS, KILLS_AT_RANDOM = 300, 16
 # Of the commands of a run in which a hook calls Git each that has this distance from the next is killed before.
 DISTANCE = 5
+# With --sample one kill in so many comes.
+SAMPLED_ONE_IN = 6
 # At most so many runs are tried until one isn't kept out by what a killed one has started.
 MOST_TRIES = 200
 
@@ -140,6 +143,21 @@ def killed_before(git, counting, at):
     return subprocess.run(words, cwd=git.folder, env=git.env | {"NO_LINKS": ""} | counting | {"KILL_AT": str(at)}, stdin=subprocess.DEVNULL, capture_output=True, start_new_session=True, timeout=60)
 
 
+def places(first, top, counting, distance):
+    """The numbers of the commands before which a run is killed, and more of them than it starts: all that have this distance, or with
+    --sample some of those that an undisturbed run starts."""
+    if not IS_SAMPLED:
+        return range(1, MOST_COMMANDS, distance)
+    git = copied(first, os.path.join(top, "counted"))
+    killed_before(git, counting, MOST_COMMANDS)
+    shutil.rmtree(git.folder)
+    count = content(counting["KILL_COUNT"]).count(b"x")
+    there = range(1, count + 1, distance)
+    some = spread(there, max(2, len(there) // SAMPLED_ONE_IN))
+    tally(len(some), len(there))
+    return [*some, *range(count + 1, MOST_COMMANDS)]
+
+
 def killed_before_each_command(top, env):
     killed_before_commands(top, env, 1)
 
@@ -154,7 +172,7 @@ def killed_before_commands(top, env, distance, *hooks):
     counting = counting_commands(top, env)
     first = make(os.path.join(top, "first"), env, random.Random(1), *hooks)
     before, whole, over = first.working_files(), Whole(first), set()
-    for at in range(1, MOST_COMMANDS, distance):
+    for at in places(first, top, counting, distance):
         git, links = copied(first, os.path.join(top, f"killed {at}")), "" if at % 2 else "none"
         done = killed_before(git, counting | {"NO_LINKS": links}, at)
         if done.returncode != -signal.SIGKILL:
@@ -181,9 +199,10 @@ def killed_while_a_tool_changes(top, env):
     for answered in (0, 1):
         same("the first runs", first.bridge("run", "--verbose").out.splitlines()[-1], f"answered from the cache: {answered}")
     first.write(tool, "#!/bin/sh\nexit 1\n", 0o755)
-    for at in range(1, MOST_COMMANDS, DISTANCE // 2):
+    counting |= {"PATH": counting["PATH"].replace(":", f":{os.path.dirname(tool)}:", 1)}
+    for at in places(first, top, counting, DISTANCE // 2):
         git = copied(first, os.path.join(top, f"killed {at}"))
-        if killed_before(git, counting | {"PATH": counting["PATH"].replace(":", f":{os.path.dirname(tool)}:", 1)}, at).returncode != -signal.SIGKILL:
+        if killed_before(git, counting, at).returncode != -signal.SIGKILL:
             return
         same(f"the run after a kill before command {at}", run_again(git).status, 1)
         shutil.rmtree(git.folder)
@@ -199,7 +218,9 @@ def killed_at_random(top, env):
     start = time.monotonic()
     copied(first, os.path.join(top, "timed")).bridge("run")
     takes = time.monotonic() - start
-    for number in range(KILLS_AT_RANDOM):
+    kills = KILLS_AT_RANDOM // SAMPLED_ONE_IN * 2 if IS_SAMPLED else KILLS_AT_RANDOM
+    tally(kills, KILLS_AT_RANDOM)
+    for number in range(kills):
         git = copied(first, os.path.join(top, f"killed {number}"))
         command = subprocess.Popen([BRIDGE, "run"], cwd=git.folder, env=env, stdin=subprocess.DEVNULL, stdout=subprocess.DEVNULL, stderr=subprocess.DEVNULL, start_new_session=True)
         time.sleep(rng.random() * takes)

@@ -242,7 +242,7 @@ def install_lists_stages(top, env):
     for text, out, err in rows:
         if text is not None:
             git.write(CONFIGURATION, text)
-        told = git.run(PROGRAM, "explain").out + "hookhost-git: each commit is refused until .pre-commit-config.yaml is one that hookhost takes\n" if err is None else err
+        told = git.run(PROGRAM, "explain").out + "hookhost-git: each commit is refused until .pre-commit-config.yaml is one that hookhost takes, or pre-commit is installed, for hooks of other repositories\n" if err is None else err
         for folder in ("", "sub"):
             os.makedirs(os.path.join(git.folder, folder), exist_ok=True)
             answer = git.bridge("install", cwd=folder)

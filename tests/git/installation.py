@@ -34,7 +34,9 @@ PLACES = {
     "bin/hookhost": (0o755, "crates/hookhost/out/hookhost"),
     "bin/hookhost-git": (0o755, "git/hookhost-git"),
     "bin/hookhost-reads": (0o755, "git/hookhost-reads"),
-    **{f"share/hookhost/hookhost_reads/{name}": (0o644, f"git/hookhost_reads/{name}") for name in sorted(os.listdir(os.path.join(TOP, "git/hookhost_reads"))) if name.endswith(".py")},
+    "bin/hookhost-import": (0o755, "git/hookhost-import"),
+    **{f"share/hookhost/{modules}/{name}": (0o644, f"git/{modules}/{name}")
+       for modules in ("hookhost_reads", "hookhost_import") for name in sorted(os.listdir(os.path.join(TOP, "git", modules))) if name.endswith(".py")},
     "share/man/man1/hookhost.1": (0o644, "share/hookhost.1"),
     "share/man/man1/hookhost-git.1": (0o644, "share/hookhost-git.1"),
     "share/man/man1/hookhost-reads.1": (0o644, "share/hookhost-reads.1"),
@@ -459,7 +461,7 @@ def packages_have_all(desk):
     about = fields(deb)
     same("fields", (about["Package"], about["Version"], about["Architecture"]), ("hookhost", version, ARCHITECTURE))
     same("what it depends on", about["Depends"], f"libc6 (>= {libc_of(PROGRAM)}), git (>= 1:2.22)")
-    same("what it suggests, for hookhost-reads", about["Suggests"], "python3, strace")
+    same("what it suggests, for hookhost-reads", about["Suggests"], "pre-commit, python3, strace")
     held = members_of_deb(desk, deb)
     for place, (mode, source) in PLACES.items():
         place = place.replace("zsh/site-functions", "zsh/vendor-completions")

@@ -14,5 +14,5 @@ def try_again(lacking):
     lacking."""
     if SECOND_TRY not in os.environ and os.access(DEBIANS_PYTHON, os.X_OK):
         os.environ[SECOND_TRY] = "1"
-        os.execv(DEBIANS_PYTHON, [DEBIANS_PYTHON, *sys.argv])
+        os.execv(DEBIANS_PYTHON, [DEBIANS_PYTHON, *sys.orig_argv[1:]])
     sys.exit(f"{os.path.relpath(sys.argv[0])}: there is no {lacking} to compare with")
