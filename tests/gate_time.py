@@ -1,7 +1,7 @@
 #!/usr/bin/env python3
 """Runs the parts of tests/run or tests/prove, up to the first that fails, and prints the last line of each and the time that it took.
 
-Usage: tests/gate_time.py --name=NAME --budget=N --programs=COMMAND [--in=FOLDER] FILE
+Usage: tests/gate_time.py --name=NAME --budget=N --programs=COMMAND [--in=FOLDER] [--sample] FILE
 
 FILE has a command on each line, and comments. Those before the line `--` run in turn. Then COMMAND makes the programs, and prints
 when each is made. A line after `--` names the programs that its command runs, and then the command. These run side by side and are
@@ -9,6 +9,9 @@ begun in this order, each once its programs are made: one for each processor, an
 runs, one is begun if a processor is idle. The output of each is shown once it has ended. All of these run in FOLDER. N is how many
 processor minutes all may take; the summary says so if it is more. The last line, `N passed, M failed`, counts the cases of all
 scripts: each ends with a line that counts its own.
+
+A command that ends in `[--sample]` gets this word if this script has it, and then has to play a sample of its cases, which its last
+line says. Without the word it has to play all.
 
 A part's processor time is what the system counts for it and for all that it started. If it is the checker's, the processes below it
 are looked at twice a second. Their time is counted for the crate that their command line or folder names: for its proofs, its
@@ -30,6 +33,8 @@ PAUSE, IDLE_SECONDS = 0.5, 5
 START = time.monotonic()
 TICKS = os.sysconf("SC_CLK_TCK")
 PHASES = ["proofs", "edits", "program"]
+# The last line of a script.
+CASES = re.compile(r"(\d+) passed, (\d+) failed(?: \(a sample: ([\d,]+ of [\d,]+ [\w ]+)\))?$")
 # What the checker, or tests/trial_programs.py, prints of a program that is made.
 MADE = re.compile(rb"(?:rt: )?(\w+)(?: proved|: the proved program|: built without proofs .*)\n")
 
@@ -134,12 +139,19 @@ class Part:
                     command.terminate()
                 self.by_work = watch.end() if watch else {}
         self.status, self.took, self.seconds = command.returncode, time.monotonic() - start, used.ru_utime + used.ru_stime
+        if not self.status and bool(self.sample()) != self.name.endswith(" --sample"):
+            self.status, self.said = 1, f"it doesn't play what it has to, a sample or all: {self.said}"
 
     def cases(self):
         """How many cases passed and failed by its last line. A part that fails without such a line counts as one that failed."""
-        counts = re.search(r"(\d+) passed, (\d+) failed$", self.said) if not self.name.startswith("rt ") else None
-        passed, failed = map(int, counts.groups()) if counts else (0, 0)
+        counts = CASES.search(self.said) if not self.name.startswith("rt ") else None
+        passed, failed = (int(counts[at]) for at in (1, 2)) if counts else (0, 0)
         return passed, failed or int(bool(self.status))
+
+    def sample(self):
+        """How many of how many cases a sample has, by its last line, or None if it says that it played all."""
+        counts = CASES.search(self.said)
+        return counts[3] if counts else None
 
 
 def show(line):
@@ -263,9 +275,19 @@ def show_times(parts):
         print(f"  {part.name + (', the rest' if part.by_work else ''):60}{own:9.1f}, within {part.took / 60:.1f} minutes")
 
 
-def parts_of(file, folder):
+def show_samples(name, parts):
+    """Which scripts played a sample of their cases, and of how many."""
+    sampled = [part for part in parts if part.sample()]
+    print(f"{name}: these played a sample of their cases, and tests/prove plays all of them:")
+    for part in sampled:
+        passed, failed = part.cases()
+        print(f"{name}:   {part.name.removesuffix(' --sample')}: {part.sample()}: {passed:,} passed, {failed:,} failed")
+
+
+def parts_of(file, folder, is_sample):
     """The parts that run in turn, and the scripts that play programs."""
     lines = [line.strip() for line in file.read().splitlines() if line.strip() and not line.startswith("#")]
+    lines = [re.sub(r" \[--sample\]$", " --sample" if is_sample else "", line) for line in lines]
     cut = lines.index("--")
     scripts = [line.split(": ", 1) for line in lines[cut + 1:]]
     return [Part(name, folder) for name in lines[:cut]], [Part(name, folder, programs.split()) for programs, name in scripts]
@@ -277,6 +299,7 @@ def options():
     reader.add_argument("--budget", type=int, required=True)
     reader.add_argument("--programs", required=True)
     reader.add_argument("--in", dest="folder", default=".")
+    reader.add_argument("--sample", action="store_true")
     reader.add_argument("file", type=argparse.FileType())
     return reader.parse_args()
 
@@ -284,7 +307,7 @@ def options():
 def main():
     signal.signal(signal.SIGTERM, lambda number, _: sys.exit(128 + number))
     words = options()
-    first, scripts = parts_of(words.file, words.folder)
+    first, scripts = parts_of(words.file, words.folder, words.sample)
     maker = Part(words.programs)
     if run_in_turn(first):
         SideBySide(maker, scripts).run()
@@ -303,6 +326,8 @@ def main():
           f"in {minutes()} on {len(os.sched_getaffinity(0))} processors")
     if not any(part.name.startswith("rt ") for part in parts):
         print(f"{words.name}: no proof was checked: tests/prove does that")
+    if words.sample:
+        show_samples(words.name, ran)
     passed, failed = map(sum, zip(*(part.cases() for part in parts)))
     print(f"{passed:,} passed, {failed:,} failed")
     sys.exit(0 if is_well else 1)

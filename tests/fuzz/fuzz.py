@@ -2,8 +2,8 @@
 """Checks the built program on hostile inputs: configurations, files of stores, messages, paths, hooks, and limits of what
 is cached.
 
-Usage: tests/fuzz/fuzz.py [--seconds N] [--seed N] [--case N] [--program FILE] [--trial FILE]
-       (default: 60 seconds, seed 1, all cases that there is time for, and the built programs)
+Usage: tests/fuzz/fuzz.py [--sample] [--seconds N] [--seed N] [--case N] [--program FILE] [--trial FILE]
+       (default: 60 seconds or with --sample 15, seed 1, all cases that there is time for, and the built programs)
 
 Each answer has to be one that docs/REFERENCE.md allows (tests/fuzz/fuzz_answers.py): no crash, no hang, no other line. A command that is
 refused has to leave each file, and what `status`, `log`, `fixes` and `memory` show, as it was. If more is known of an answer, such as
@@ -24,8 +24,12 @@ import sys
 import tempfile
 import time
 
+sys.path.insert(0, os.path.abspath(f"{__file__}/../../shared"))
+from sample import IS_SAMPLED, note
+
+SECONDS, SAMPLED_SECONDS = 60, 15
 PARSER = argparse.ArgumentParser(description=__doc__, formatter_class=argparse.RawDescriptionHelpFormatter)
-PARSER.add_argument("--seconds", type=float, default=60)
+PARSER.add_argument("--seconds", type=float, default=SAMPLED_SECONDS if IS_SAMPLED else SECONDS)
 PARSER.add_argument("--seed", type=int, default=1)
 PARSER.add_argument("--case", type=int)
 PARSER.add_argument("--program")
@@ -34,7 +38,6 @@ WORDS = PARSER.parse_args()
 # host_program, which is imported below, takes the program as its second word.
 sys.argv[1:] = ["", WORDS.program] if WORDS.program else []
 
-sys.path.insert(0, os.path.abspath(f"{__file__}/../../shared"))
 import fuzz_configurations
 from fuzz_configurations import plays_configurations
 from fuzz_hooks import plays_hooks
@@ -141,7 +144,7 @@ def main():
                 tell(case, number, wrong)
     of_kinds = ", ".join(f"{name.partition('_')[2]} {count}" for name, count in counts.items())
     print(f"fuzz: seed {WORDS.seed}: {commands} commands, {refused} of them refused; {of_kinds}")
-    print(f"fuzz: {sum(counts.values()) - failed} passed, {failed} failed")
+    print(f"fuzz: {sum(counts.values()) - failed} passed, {failed} failed{note(round(WORDS.seconds), SECONDS, 'seconds')}")
     sys.exit(1 if failed or not counts else 0)
 
 

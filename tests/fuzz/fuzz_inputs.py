@@ -19,7 +19,7 @@ TOKENS = [
 KEYS = [
     b"repos", b"repo", b"local", b"hooks", b"id", b"name", b"alias", b"language", b"entry", b"args", b"files", b"exclude", b"types",
     b"types_or", b"exclude_types", b"stages", b"default_stages", b"always_run", b"verbose", b"fail_fast", b"pass_filenames", b"x_reads", b"x_per_file",
-    b"log_file", b"additional_dependencies", b"system", b"script", b"fail", b"pygrep", b"pre-commit", b"manual",
+    b"x_at_most", b"log_file", b"additional_dependencies", b"system", b"script", b"fail", b"pygrep", b"pre-commit", b"manual",
 ]
 # What messages are made of, to be cleaned.
 MESSAGE_PIECES = [

@@ -1,7 +1,8 @@
 #!/usr/bin/env python3
 """Compares commits with those of Git, into whose repository pre-commit has installed its hooks, in random plays.
 
-Usage: tests/peers/compare_commits.py [PROGRAM [PLAYS [SEED]]]   (default: crates/hookhost/out/hookhost, 40 plays, seed 1)
+Usage: tests/peers/compare_commits.py [--sample] [PROGRAM [PLAYS [SEED]]]   (default: crates/hookhost/out/hookhost, 40 plays, seed 1;
+with --sample only some of them)
 
 pre-commit and Git must be installed. In a play the same files are staged and unstaged in a repository of Git and in one of
 `hookhost`, with the same configuration. Commits are tried in both, with messages of all kinds, with `--no-verify` and with hooks
@@ -22,11 +23,14 @@ from concurrent.futures import ThreadPoolExecutor
 
 sys.path.insert(0, os.path.abspath(f"{__file__}/../../shared"))
 from places import program
+from sample import note, sampled
 
 WORDS = sys.argv[1:]
 PROGRAM = os.path.abspath(WORDS[0] if WORDS else program("hookhost"))
 PLAYS, SEED = int(WORDS[1]) if len(WORDS) > 1 else 40, int(WORDS[2]) if len(WORDS) > 2 else 1
 COMMITS = 6
+# With --sample one play in so many is played.
+SAMPLED_ONE_IN = 4
 CONFIGURATION = ".pre-commit-config.yaml"
 STAGES = ["commit", "prepare-commit-msg", "commit-msg", "post-commit"]
 
@@ -354,19 +358,20 @@ def main():
         except (Differs, RuntimeError) as error:
             return (collections.Counter(), 0, 0), f"{type(error).__name__}: {error}"
 
+    numbers = sampled(range(PLAYS), lambda number: 0, SAMPLED_ONE_IN)
     with ThreadPoolExecutor(len(os.sched_getaffinity(0))) as pool:
-        for (some, a, b), failure in pool.map(answer, range(PLAYS)):
+        for (some, a, b), failure in pool.map(answer, numbers):
             needed, tried, made = needed + some, tried + a, made + b
             failures += [failure] if failure else []
     for failure in failures[:10]:
         print(f"compare_commits: {failure}")
     for name, count in sorted(needed.items()):
         print(f"{count:5} {name}: {REASONS[name]}")
-    unneeded = [name for name in REASONS if name not in needed] if PLAYS >= 40 else []
+    unneeded = [name for name in REASONS if name not in needed] if len(numbers) >= 40 else []
     for name in unneeded:
         print(f"compare_commits: no play needed the reason: {name}")
-    print(f"compare_commits: {tried} tried in {PLAYS} plays, {made} made")
-    print(f"compare_commits: {PLAYS - len(failures)} passed, {len(failures) + len(unneeded)} failed")
+    print(f"compare_commits: {tried} tried in {len(numbers)} plays, {made} made")
+    print(f"compare_commits: {len(numbers) - len(failures)} passed, {len(failures) + len(unneeded)} failed{note(len(numbers), PLAYS, 'plays')}")
     sys.exit(1 if failures or unneeded or not made else 0)
 
 

@@ -1,7 +1,8 @@
 #!/usr/bin/env python3
 """Compares whole reports with those of `pre-commit run --all-files`, on random configurations over random trees.
 
-Usage: tests/peers/compare_reports.py [PROGRAM [COUNT [SEED]]]   (default: crates/hookhost/out/hookhost, 200 configurations, seed 1)
+Usage: tests/peers/compare_reports.py [--sample] [PROGRAM [COUNT [SEED]]]   (default: crates/hookhost/out/hookhost, 200 configurations, seed
+1; with --sample only some of them)
 
 pre-commit (Debian's package of that name) must be installed, for the Python that runs this or for /usr/bin/python3, which Debian's
 packages serve. If it is missing, nothing can be compared, and that is a failure. `git` must be installed too.
@@ -33,6 +34,7 @@ sys.path.insert(0, os.path.abspath(f"{__file__}/../../shared"))
 from debian_python import try_again
 from places import program
 from row_tables import table_of
+from sample import IS_SAMPLED, note, sampled
 
 PROGRAM = os.path.abspath(sys.argv[1] if len(sys.argv) > 1 else program("hookhost"))
 
@@ -51,6 +53,8 @@ except ImportError:
 IN_MEMORY = "/dev/shm"
 CONFIGURATION = ".pre-commit-config.yaml"
 
+# With --sample one configuration in so many is compared.
+SAMPLED_ONE_IN = 4
 # One configuration in so many has pre-commit start its own process for `pygrep`.
 OWN_PROCESS = 20
 
@@ -400,7 +404,7 @@ def main():
     with tempfile.TemporaryDirectory(dir=IN_MEMORY if os.access(IN_MEMORY, os.W_OK) else None) as home:
         set_environment(home)
         tempfile.tempdir = home
-        for case in cases(count, seed):
+        for case in (compare := sampled(list(cases(count, seed)), lambda case: case.own_process, SAMPLED_ONE_IN)):
             answer = compared(case, rng)
             if answer is None:
                 agreed += 1
@@ -415,9 +419,9 @@ def main():
                 used[reason] += 1
     for reason, number in used.items():
         print(f"{number} differ: {reason}")
-    print(f"compare_reports: {agreed} of {count} agree, {excused} differ with a reason")
-    print(f"compare_reports: {agreed + excused} passed, {wrong} failed")
-    sys.exit(1 if wrong or not agreed or not all(used.values()) else 0)
+    print(f"compare_reports: {agreed} of {len(compare)} agree, {excused} differ with a reason")
+    print(f"compare_reports: {agreed + excused} passed, {wrong} failed{note(len(compare), count, 'configurations')}")
+    sys.exit(1 if wrong or not agreed or not (IS_SAMPLED or all(used.values())) else 0)
 
 
 main()

@@ -2,7 +2,7 @@
 """Plays random lists of commands on repositories in memory by two hosts, over children that answer by a table, and compares both with a
 model.
 
-Usage: tests/plays/plays.py [PLAYS [SEED]]   (default: 1,000 plays of 200 commands each, seed 1)
+Usage: tests/plays/plays.py [--sample] [PLAYS [SEED]]   (default: 1,000 plays of 200 commands each, seed 1; with --sample some of them)
 
 One host caches what children answered, the other drops it before each command. Among the commands is one that limits what is cached,
 to one answer, to two or three, or to as many as a new host does. The model has the commits, the staged files and the fixes as plain
@@ -26,13 +26,16 @@ import sys
 from concurrent.futures import ProcessPoolExecutor
 
 sys.path.insert(0, os.path.abspath(f"{__file__}/../../shared"))
-from host_model import (CONFIGURATION, FAULTS, MESSAGE, MOST_COMMAND, NO_PATH, NOT_STARTED, Answer, Hook, Machine, Memory, configuration_text,
+from host_model import (CONFIGURATION, FAULTS, MESSAGE, MOST_COMMAND, MOST_NAMES, NO_PATH, NOT_STARTED, Answer, Hook, Machine, Memory, configuration_text,
                         is_told, words_of_rows)
 from places import program
+from sample import note, sampled
 
 PROGRAM = program("hook_trial")
 PLAYS, SEED = int(sys.argv[1]) if len(sys.argv) > 1 else 1000, int(sys.argv[2]) if len(sys.argv) > 2 else 1
 COMMANDS = 200
+# With --sample one play in so many is played.
+SAMPLED_ONE_IN = 10
 # How often a hook has a command that is nearly as long as one may be: it is heavy.
 LONG = 0.006
 # A file that is always staged, so that a child may change it without having seen it.
@@ -63,7 +66,8 @@ def random_hook(rng, number):
     stages = rng.choice([[], ["pre-commit"], ["pre-commit"], [rng.choice(STAGES)], ["prepare-commit-msg", "commit-msg"]])
     chance = lambda part: rng.random() < part
     hook = Hook(f"h{number}", rng.choice(["Hook", "A name", "N" * 60]), rng.choice(["", "", "other"]), language, entry, rng.choice(ARGUMENTS),
-                rng.choice(PATTERNS), chance(0.3), not chance(0.2), chance(0.2), chance(0.1), stages, rng.choice(FURTHER), chance(0.2))
+                rng.choice(PATTERNS), chance(0.3), not chance(0.2), chance(0.2), chance(0.1), stages, rng.choice(FURTHER), chance(0.2),
+                rng.choice([MOST_NAMES] * 7 + [1, 2, 3]))
     return with_long_argument(rng, hook) if chance(LONG) else hook
 
 
@@ -231,15 +235,16 @@ def played(numbers):
 
 def main():
     wrong, ends, parts = [], collections.Counter(), collections.Counter()
+    numbers = sampled(range(PLAYS), lambda number: number % 4, SAMPLED_ONE_IN)
     with ProcessPoolExecutor(len(os.sched_getaffinity(0)), multiprocessing.get_context("fork")) as pool:
-        for some, more, still_more in pool.map(played, [range(at, min(at + 20, PLAYS)) for at in range(0, PLAYS, 20)]):
+        for some, more, still_more in pool.map(played, [numbers[at:at + 20] for at in range(0, len(numbers), 20)]):
             wrong, ends, parts = wrong + some, ends + more, parts + still_more
     for text in wrong[:5]:
         print(f"plays: {text[:3000]}")
     for counts in (ends, parts):
         print("plays: " + ", ".join(f"{name}: {count}" for name, count in sorted(counts.items())))
-    print(f"plays: {PLAYS} plays of {COMMANDS} commands by two hosts")
-    print(f"plays: {PLAYS - len(wrong)} passed, {len(wrong)} failed")
+    print(f"plays: {len(numbers)} plays of {COMMANDS} commands by two hosts")
+    print(f"plays: {len(numbers) - len(wrong)} passed, {len(wrong)} failed{note(len(numbers), PLAYS, 'plays')}")
     sys.exit(1 if wrong or not PLAYS else 0)
 
 

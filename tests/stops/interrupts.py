@@ -1,7 +1,7 @@
 #!/usr/bin/env python3
 """Interrupts the built program by signals, on a terminal and without one, and checks what it prints and leaves.
 
-Usage: tests/stops/interrupts.py [--all] [--only=WORD] [PROGRAM]   (default: crates/hookhost/out/hookhost)
+Usage: tests/stops/interrupts.py [--all | --sample] [--only=WORD] [PROGRAM]   (default: crates/hookhost/out/hookhost)
 
 SIGINT, SIGTERM and SIGHUP come while a child waits that says when it has begun. They come to the whole foreground group, as a terminal
 sends them for its keys and when it is closed. They also come to the program alone, as `kill` sends them. In the middle of its work,
@@ -13,7 +13,8 @@ the program. Without one it may, and the next run gives what it gives without it
 all the same. If the program is started with SIGCHLD ignored, no child can be waited for: each is a fault of its hook, and nothing of
 it is cached.
 
-Without --all it tries only one in several of the calls that strace counts, always the same ones.
+Without --all it tries only one in several of the calls that strace counts, always the same ones. With --sample it tries one in so many
+of these, by each command, and of the commands whose child waits the first and the last for each way.
 """
 import collections
 import fcntl
@@ -32,6 +33,7 @@ from contextlib import suppress
 from pathlib import Path
 
 sys.path.insert(0, os.path.abspath(f"{__file__}/../../shared"))
+from sample import note, sampled
 from host_program import Wrong, check
 from places import program
 from stops_calls import calls_of, traced
@@ -42,6 +44,8 @@ ONLY = "".join(word.partition("=")[2] for word in sys.argv[1:] if word.startswit
 WORDS = [word for word in sys.argv[1:] if not word.startswith("--")]
 PROGRAM = os.path.abspath(WORDS[0] if WORDS else program("hookhost"))
 WORKERS, ONE_IN, LIMIT = 2, 23, 60
+# With --sample one in so many of these cases is played.
+SAMPLED_ONE_IN = 10
 SIGNALS = [signal.SIGINT, signal.SIGTERM, signal.SIGHUP]
 # A child that says that it has begun, and waits until it may go on. It does both only if it's given the variable, and otherwise nothing.
 WAITS = """sh -c '[ -z "$BEGUN" ] || { echo $$ > $BEGUN; until [ -e $BEGUN.go ]; do sleep 0.01; done; }; exec cat "$@"' --"""
@@ -226,6 +230,12 @@ def cases():
                     yield signalled, name, number, call, at
 
 
+def group_of(case):
+    """What a sample plays one in so many cases of: of a way that a signal comes while a child runs, or of the calls of a command."""
+    look, name, *words = case
+    return (look, *words) if look is interrupted else (look, name)
+
+
 def tried(case):
     """A case, and its outcome, or what is wrong."""
     look, *words = case
@@ -254,14 +264,15 @@ def main():
     with tempfile.TemporaryDirectory(dir=QUICK) as folder:
         SCENES = {scene.name: scene for scene in scenes_of(PROGRAM, folder, ONLY, WAITING_HOOKS)}
         with ProcessPoolExecutor(WORKERS, multiprocessing.get_context("fork"), initializer=adopt_orphans) as pool:
-            results = list(map(show, pool.map(tried, cases(), chunksize=4)))
+            there = list(cases())
+            results = list(map(show, pool.map(tried, sampled(there, group_of, SAMPLED_ONE_IN), chunksize=4)))
     wrong = sum(text is not None for *_, text in results)
     for look in (interrupted, unread, unwaited, signalled):
         counts = collections.Counter(place for (each, *_), place, _ in results if each is look)
         print(f"{look.__name__}: " + ", ".join(f"{count} {place}" for place, count in sorted(counts.items())))
     took = sum(resource.getrusage(who).ru_utime + resource.getrusage(who).ru_stime for who in (resource.RUSAGE_SELF, resource.RUSAGE_CHILDREN))
     print(f"interrupts: {took:.0f} processor seconds, {time.monotonic() - start:.0f} s")
-    print(f"interrupts: {len(results) - wrong} passed, {wrong} failed")
+    print(f"interrupts: {len(results) - wrong} passed, {wrong} failed{note(len(results), len(there), 'cases')}")
     sys.exit(1 if wrong or not results else 0)
 
 

@@ -1,7 +1,7 @@
 #!/usr/bin/env python3
 """Stops the built program at each of its system calls, and checks what it leaves.
 
-Usage: tests/stops/stops.py [--all] [--only=WORD] [PROGRAM]   (default: crates/hookhost/out/hookhost)
+Usage: tests/stops/stops.py [--all | --sample] [--only=WORD] [PROGRAM]   (default: crates/hookhost/out/hookhost)
 
 Each command of tests/shared/stops_repository.py is run on copies of a repository. strace counts its system calls by their names, from
 the first one in its folder on. Each in turn is
@@ -19,7 +19,8 @@ can't look for a checkout of Git says that it drops what is cached, and is then 
 
 Without --all it tries each call that changes something of `commit` and `accept`, of a run that uses answers, of a limit and of a
 migration, and of the others one in several, always the same ones. The log of a killed command holds a change that isn't in the
-database yet: there the next commands are stopped as well.
+database yet: there the next commands are stopped as well. With --sample it tries one in so many of these, by each command and kind, and
+one of each call and kind at least.
 """
 import collections
 import itertools
@@ -36,6 +37,7 @@ from concurrent.futures import ProcessPoolExecutor
 from pathlib import Path
 
 sys.path.insert(0, os.path.abspath(f"{__file__}/../../shared"))
+from sample import note, sampled
 from host_program import Wrong, check
 from places import program
 from stops_calls import calls_of, traced
@@ -48,6 +50,8 @@ PROGRAM = os.path.abspath(WORDS[0] if WORDS else program("hookhost"))
 WORKERS = 2
 # Of the calls that aren't played in any case, one in so many is.
 ONE_IN = 7
+# With --sample one in so many of those is.
+SAMPLED_ONE_IN = 20
 # The calls that change what lies on the disk or who may use it, and those that take room there. What can't be written can't be reported
 # either.
 CHANGING = ("write", "pwrite64", "fsync", "fdatasync", "ftruncate", "rename", "renameat", "renameat2", "unlink", "unlinkat", "mkdir", "mkdirat", "rmdir",
@@ -93,6 +97,12 @@ def is_played(stop):
     is_chosen = stop.scene in CHOSEN and stop.call in CHANGING and stop.kind in ("kill", "EIO", "ENOSPC")
     is_of_migration = stop.scene == MIGRATING and stop.kind in ("kill", "half")
     return ALL or is_chosen or is_of_migration or zlib.crc32(" ".join(map(str, stop)).encode()) % ONE_IN == 0
+
+
+def chosen(stops):
+    """All of these stops, or with --sample some by each command and kind, and some of each call and kind."""
+    some = {*sampled(stops, lambda stop: (stop.scene, stop.kind), SAMPLED_ONE_IN), *sampled(stops, lambda stop: (stop.call, stop.kind), len(stops))}
+    return [stop for stop in stops if stop in some]
 
 
 def played(scene, stop, work, short):
@@ -150,10 +160,11 @@ def main():
         over_log = [("status over a log", left, ["status"]), ("rm over a log", left, ["rm", "e"])]
         scenes += [Scene(PROGRAM, folder, *scene) for scene in over_log if ONLY in scene[0]]
         SCENES = {scene.name: scene for scene in scenes}
-        stops = [stop for scene in SCENES.values() for stop in stops_of(scene)]
+        there = [stop for scene in SCENES.values() for stop in stops_of(scene)]
+        stops = chosen(there)
         with ProcessPoolExecutor(WORKERS, multiprocessing.get_context("fork"), initializer=adopt_orphans) as pool:
             results = list(map(show, pool.map(judged, stops, chunksize=4)))
-    tell(results, time.monotonic() - begin)
+    tell(results, len(there), time.monotonic() - begin)
 
 
 def show(result):
@@ -164,7 +175,7 @@ def show(result):
     return result
 
 
-def tell(results, seconds):
+def tell(results, count, seconds):
     """Prints of each command and kind of stop how many were played and in which state they left the repository."""
     wrong = sum(text is not None for _, _, text in results)
     for name in SCENES:
@@ -174,7 +185,7 @@ def tell(results, seconds):
     took = sum(resource.getrusage(who).ru_utime + resource.getrusage(who).ru_stime for who in (resource.RUSAGE_SELF, resource.RUSAGE_CHILDREN))
     stopped = sum(place != "not stopped" for _, place, _ in results)
     print(f"stops: {stopped} of {len(results)} stops came, {took:.0f} processor seconds, {seconds:.0f} s")
-    print(f"stops: {len(results) - wrong} passed, {wrong} failed")
+    print(f"stops: {len(results) - wrong} passed, {wrong} failed{note(len(results), count, 'stops')}")
     sys.exit(1 if wrong or not stopped else 0)
 
 

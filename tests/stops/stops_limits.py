@@ -1,7 +1,7 @@
 #!/usr/bin/env python3
 """Checks what commands on a repository leave while something runs out: runs them with the built program.
 
-Usage: tests/stops/stops_limits.py [--all] [--only=WORD] [PROGRAM]   (default: crates/hookhost/out/hookhost)
+Usage: tests/stops/stops_limits.py [--all | --sample] [--only=WORD] [PROGRAM]   (default: crates/hookhost/out/hookhost)
 
 Each of these runs out, from nothing up to what the command needs: pages of a full disk, which is a tmpfs of its own; the bytes that a
 file may have, with a signal and with an error; memory that may be mapped; files that may be open; processes of a user. And these may not
@@ -13,7 +13,8 @@ gone. A program whose stack can't grow is ended by the system at any moment, whi
 a run too, whose results may then differ from those without it. There only the repeated command is compared, after their results are
 dropped. If something needs root, a disk of its own or another user, and can't be tried, this script says so.
 
-Without --all it tries only one in several limits of bytes and memory, always the same ones.
+Without --all it tries only one in several limits of bytes and memory, always the same ones. With --sample it tries one in so many of
+these, by each command and limit.
 """
 import collections
 import multiprocessing
@@ -30,6 +31,7 @@ from concurrent.futures import ProcessPoolExecutor
 from contextlib import contextmanager
 
 sys.path.insert(0, os.path.abspath(f"{__file__}/../../shared"))
+from sample import note, sampled
 from host_program import Wrong, check
 from places import program
 from stops_repository import HOOKS, QUICK, adopt_orphans, faults_in, left_in, scenes_of, sections, told_by
@@ -38,7 +40,8 @@ ALL = "--all" in sys.argv
 ONLY = "".join(word.partition("=")[2] for word in sys.argv[1:] if word.startswith("--only="))
 WORDS = [word for word in sys.argv[1:] if not word.startswith("--")]
 GIVEN = os.path.abspath(WORDS[0] if WORDS else program("hookhost"))
-WORKERS, ONE_IN = 2, 3
+# Of the limits of which there are many one in so many is played, and with --sample one in so many of those.
+WORKERS, ONE_IN, SAMPLED_ONE_IN = 2, 3, 8
 PAGE = 4096
 # A user who has no other process, so that each counts, and one who is subject to permissions.
 LONELY, NOBODY = 64_321, 65_534
@@ -280,12 +283,13 @@ def main():
         SCENES = {scene.name: scene for scene in scenes_of(program, folder, ONLY, SMALL_HOOKS)}
         least = least_memory(program, folder)
         has_disks = can_have_disks(folder)
-        cases = [(name, limit) for name in SCENES for limit in (*limits(least), *(disk_limits() if has_disks else ())) if is_played(name, limit)]
+        there = [(name, limit) for name in SCENES for limit in (*limits(least), *(disk_limits() if has_disks else ())) if is_played(name, limit)]
+        cases = sampled(there, lambda case: (case[0], case[1].name), SAMPLED_ONE_IN)
         with ProcessPoolExecutor(WORKERS, multiprocessing.get_context("fork"), initializer=adopt_orphans) as pool:
             results = list(map(show, pool.map(tried, cases, chunksize=4)))
     if not has_disks:
         print("stops_limits: not played, since no disk can be mounted here: a full disk, a disk that is read alone")
-    tell(results, time.monotonic() - begin)
+    tell(results, len(there), time.monotonic() - begin)
 
 
 def show(result):
@@ -296,7 +300,7 @@ def show(result):
     return result
 
 
-def tell(results, seconds):
+def tell(results, count, seconds):
     """Prints of each kind of limit how many were played and in which state they left the repository."""
     wrong = sum(text is not None for *_, text in results)
     for name in dict.fromkeys(limit.name for _, limit, _, _ in results):
@@ -306,7 +310,7 @@ def tell(results, seconds):
         print("stops_limits: not played, since that needs root: processes of a user, and what a user may not write")
     took = sum(resource.getrusage(who).ru_utime + resource.getrusage(who).ru_stime for who in (resource.RUSAGE_SELF, resource.RUSAGE_CHILDREN))
     print(f"stops_limits: {took:.0f} processor seconds, {seconds:.0f} s")
-    print(f"stops_limits: {len(results) - wrong} passed, {wrong} failed")
+    print(f"stops_limits: {len(results) - wrong} passed, {wrong} failed{note(len(results), count, 'limits')}")
     sys.exit(1 if wrong or not results else 0)
 
 

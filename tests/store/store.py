@@ -1,13 +1,14 @@
 #!/usr/bin/env python3
 """Checks stores in real files: makes calls on them with the built program, and reads the files with sqlite3.
 
-Usage: tests/store/store.py [PROGRAM [CASE..]]   (default: crates/store_trial/out/store_trial, and all cases; a case by its
+Usage: tests/store/store.py [--sample] [PROGRAM [CASE..]]   (default: crates/store_trial/out/store_trial, and all cases; a case by its
 name, with `_`)
 
 A store is driven by lines, each answered by a line of fields with tabs between them. The answers are compared with a model of a
 store: a few dictionaries and a list of cached results (tests/store/store_model.py). The files are read, and damaged, by the program
 sqlite3, which makes stores of version 1 too. A play is killed at random moments. Each allocation of a play is refused in turn
-(tests/shared/refuse_allocation.c). A disk in memory stops at each of its operations in turn.
+(tests/shared/refuse_allocation.c). A disk in memory stops at each of its operations in turn. With --sample all cases are played, but only
+some of the allocations and operations, and of the random plays.
 
 The cases are, by their topic, in tests/store/store_plays.py, store_answers.py, store_versions.py, store_damage.py, store_large.py,
 store_stops.py and store_memory.py. They use the programs of store_program.py, and their inputs are in store_cases.py and
@@ -19,6 +20,7 @@ import sys
 import tempfile
 
 sys.path.insert(0, os.path.abspath(f"{__file__}/../../shared"))
+from sample import TALLY, note
 import store_answers
 import store_damage
 import store_large
@@ -45,7 +47,7 @@ def main():
         passed, failed = (passed, failed + 1) if wrong else (passed + 1, failed)
         if wrong:
             print(f"FAILED {case.__name__.replace('_', ' ')}: {str(wrong)[:2000]}")
-    print(f"store: {passed} passed, {failed} failed")
+    print(f"store: {passed} passed, {failed} failed{note(TALLY['played'], TALLY['count'], 'stops and refusals')}")
     sys.exit(1 if failed or not passed else 0)
 
 

@@ -8,10 +8,15 @@ import subprocess
 from concurrent.futures import ThreadPoolExecutor
 
 from places import TOP
+from sample import IS_SAMPLED, greatest, spread, tally
 from store_cases import REFUSED_MIGRATION, REFUSED_PLAY, REFUSED_USES, SHOWN
 from store_model import Course, Model, is_stopped_behind, model_over
 from store_plants import FIRST_STORE, LAST_TICKS, planting_store
 from store_program import answers, ask, check, rows_of, rows_of_model, run
+
+
+# With --sample one allocation in so many is refused.
+SAMPLED_ONE_IN = 10
 
 
 def refusing_library(folder):
@@ -111,6 +116,17 @@ class RefusedPlay:
         check(given in wanted, f"{place}it shows {given!r}, wanted one of {wanted!r}")
 
 
+def refuses_some_allocations(refused):
+    """The same if only some are refused. How many are noticed is then those of all, about."""
+    count = greatest(lambda number: refused.run(number)[0])
+    numbers = spread(range(1, count + 1), max(2, count // SAMPLED_ONE_IN))
+    tally(len(numbers), count)
+    with ThreadPoolExecutor(max_workers=len(os.sched_getaffinity(0))) as pool:
+        played = list(pool.map(refused.run, numbers))
+    check(all(is_refused for is_refused, _ in played), f"of {count} allocations some aren't refused: {played!r}")
+    return count, sum(is_noticed for _, is_noticed in played) * count // len(played)
+
+
 def refuses_each_allocation(refused):
     """How many allocations of a play there are, and how many of them are noticed if they are refused."""
     noticed = 0
@@ -130,7 +146,8 @@ def refuses_for_want_of_memory(folder):
         ("calls", None, REFUSED_PLAY, 100), ("uses", LAST_TICKS, REFUSED_USES, 50),
         ("migration", FIRST_STORE, REFUSED_MIGRATION, 50),
     ]:
-        count, noticed = refuses_each_allocation(RefusedPlay(folder, library, name, planted, play))
+        refuse = refuses_some_allocations if IS_SAMPLED else refuses_each_allocation
+        count, noticed = refuse(RefusedPlay(folder, library, name, planted, play))
         check(count > least and noticed > least / 2, f"{name}: {count} allocations were refused, and {noticed} noticed")
         print(f"memory, {name}: {count} allocations refused in turn, {noticed} times a call or the program gave up")
 

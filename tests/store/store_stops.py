@@ -7,11 +7,14 @@ import os
 from concurrent.futures import ThreadPoolExecutor
 
 from kept_answers import GREATEST_TICK
+from sample import IS_SAMPLED, greatest, spread, tally
 from store_cases import LAST, NOT_A_STORE, SHOWN, SQL, STOPPED_CALLS, STOPPED_COMMANDS, STOPPED_RUNS, STOPPED_USES
 from store_model import Course, Model, is_stopped_behind, lines_behind, recall_of, recalled_by
 from store_plants import STOPPED_MIGRATION, STOPPED_TICKS
 from store_program import check, rows_of_model, run_words
 
+# With --sample the disk stops at one operation in so many.
+SAMPLED_ONE_IN = 8
 # What a call answers if the disk stops, and what a command of a host does. Of several changes none is named then.
 STOPPED = (SQL, "refused\t2\tStore\t3", "refused\tStore\t3\tat\tnone")
 # What may be left if a play stops: a store, or none. Then how many rows it has, and what it shows and how many rows it has once it is
@@ -148,15 +151,28 @@ class StoppedPlay:
                   f"{place}: of {given[first]!r} answers the children tell {len(kept)}")
             check(all(found[line] in self.told[line] for line in kept), f"{place}: {found!r} isn't what the children told")
 
+    def some_stops(self, which):
+        """The same for some of the operations, and how many there are."""
+        count = greatest(lambda number: run_words([which, str(number - 1)], self.play)[0] != self.course.answers)
+        numbers = spread(range(count), max(2, count // SAMPLED_ONE_IN))
+        tally(len(numbers), count)
+        with ThreadPoolExecutor(max_workers=len(os.sched_getaffinity(0))) as pool:
+            stops = list(pool.map(lambda number: self.run(which, number), numbers))
+        check(None not in stops, f"of {count} stops on the {which} some don't come: {stops!r}")
+        return stops, count
+
     def stops(self, which):
-        """The lines at which the play stops, as `run` gives them, while the disk stops at each of its operations on a file in turn."""
+        """The lines at which the play stops, as `run` gives them, while the disk stops at each of its operations on a file in turn. And how
+        many these are."""
+        if IS_SAMPLED:
+            return self.some_stops(which)
         with ThreadPoolExecutor(max_workers=len(os.sched_getaffinity(0))) as pool:
             stops = []
             while None not in stops:
                 stops += pool.map(lambda number: self.run(which, number), range(len(stops), len(stops) + 64))
         ended = stops.index(None)
         check(stops[ended:].count(None) == len(stops) - ended, f"stopped later on the {which}, a play didn't end")
-        return stops[:ended]
+        return stops[:ended], ended
 
     def writes(self):
         """Which of the lines change what is in the store, or make it."""
@@ -168,11 +184,11 @@ def is_left_before_or_after_a_line_by_a_stop(play):
     """The disk stops at each operation on the log, and at each on the database file, and loses what wasn't
     synchronized. Each line that writes to the disk has to be stopped."""
     stopped = StoppedPlay(play)
-    stops = {which: stopped.stops(which) for which in ("log", "database")}
-    unstopped = [play[at] for at in stopped.writes() if at not in stops["log"]]
-    check(not unstopped, f"lines that no stop met: {unstopped!r}")
-    check(len(stops["log"]) > 40 and len(stops["database"]) > 10, f"too few stops: {stops!r}")
-    print(f"stops: at {len(stops['log'])} operations on the log and {len(stops['database'])} on the database file")
+    (stops, of_log), (_, of_database) = (stopped.stops(which) for which in ("log", "database"))
+    unstopped = [play[at] for at in stopped.writes() if at not in stops]
+    check(not unstopped or IS_SAMPLED and len(unstopped) < len(stopped.writes()) / 2, f"lines that no stop met: {unstopped!r}")
+    check(of_log > 40 and of_database > 10, f"too few stops: {of_log} and {of_database}")
+    print(f"stops: there are {of_log} operations on the log and {of_database} on the database file")
 
 
 def is_left_before_or_after_a_call_by_a_stop(_folder):
