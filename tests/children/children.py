@@ -45,7 +45,7 @@ def cases_of(module):
 MODULES = [children_ends, children_ahead, children_files, children_folder, children_beside, children_reads, children_settled, children_limits]
 CASES = [case for module in MODULES for case in cases_of(module)]
 # What depends on when a process is at work, on how much is read, or on whether children are started ahead.
-UNLIKE = [children_ahead.children_ahead_run_at_once, children_beside.a_killed_program_leaves_no_harm, children_reads.a_rewrite_right_behind_a_look_is_seen, children_reads.a_rewrite_around_a_look_is_seen, children_limits.a_signal_to_the_group_ends_a_child_too]
+UNLIKE = [children_ahead.children_ahead_run_at_once, children_ahead.children_of_a_large_tree_share_a_folder, children_beside.a_killed_program_leaves_no_harm, children_reads.a_rewrite_right_behind_a_look_is_seen, children_reads.a_rewrite_around_a_look_is_seen, children_limits.a_signal_to_the_group_ends_a_child_too]
 SETTLED = [children_reads.files_that_have_settled_are_read_once]
 READING = [
     children_reads.a_quiet_write_is_read_back,

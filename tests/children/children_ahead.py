@@ -1,10 +1,16 @@
-"""Cases of tests/children/children.py: children that are started ahead of their turns, several at once."""
+"""Cases of tests/children/children.py: children that are asked ahead of their turns, of which several run at once.
+
+Each runs in a folder of its own, and is started while it is waited for one of them. Only those of a tree of over 400 files first share
+a folder, and run at once when they are asked: once one of them changed anything there, they run again apart.
+"""
 import os
 import random
 from pathlib import Path
 
-from children_trial import MIB, TELLING, TREE, Trial, check, digits, equal
+from children_trial import MIB, SEEN, TELLING, TREE, Trial, check, digits, equal
 
+# A tree that is so large that its children share a folder.
+LARGE = TREE | {f"many/{number:03}": b"%d\n" % number for number in range(400)}
 # What a child may do, by how often: pass, fail, print, wait, end by a signal. None changes anything in its folder.
 QUIET = [
     ":", "exit 3", "echo out; echo err >&2", "sleep 0.02; cat a.txt", "f=$(mktemp); echo x > $f; rm $f; ls d", "sleep 0.01; exit 255",
@@ -14,10 +20,10 @@ LOUD = ["echo more >> a.txt", "rm d/c.txt", "printf %s new > b.txt; exit 1"]
 # Changes of which nothing may be left at the end, but which another child may have found meanwhile.
 BRIEF = [
     "touch new", "mkdir new", "ln -s a.txt new", "touch d/new", "mkdir -p .mypy_cache", "mkdir d/__pycache__", "touch .git/x",
-    "c=$(cat a.txt); : > a.txt; sleep 0.05; printf '%s\\n' \"$c\" > a.txt", "cat a.txt > ../copy; mv ../copy a.txt", "mv a.txt ../a; mv ../a a.txt",
+    "c=$(cat a.txt); : > a.txt; sleep 0.05; printf '%s\\n' \"$c\" > a.txt", "cat a.txt > ../copy$$; mv ../copy$$ a.txt", "mv a.txt ../a$$; mv ../a$$ a.txt",
     "mv a.txt x; mv x a.txt", "touch new; rm new", "touch d/new; rm d/new", "mkdir d/x; rmdir d/x", "chmod +x a.txt", "chmod +x a.txt; chmod -x a.txt",
-    "chmod 700 d; chmod 755 d", "chmod 755 .", "ln a.txt ../x; rm ../x", "mkdir .git/x; rmdir .git/x", "touch -d 2001-01-01 a.txt", "touch a.txt",
-    "mv d ../d2; mv ../d2 d", "setfattr -n user.x -v y a.txt || chmod g-w a.txt",
+    "chmod 700 d; chmod 755 d", "chmod 755 .", "ln a.txt ../x$$; rm ../x$$", "mkdir .git/x; rmdir .git/x", "touch -d 2001-01-01 a.txt", "touch a.txt",
+    "mv d ../d$$; mv ../d$$ d", "setfattr -n user.x -v y a.txt || chmod g-w a.txt",
 ]
 
 
@@ -38,13 +44,14 @@ def starts(log):
     return sorted(Path(log).read_text().split())
 
 
-def are_started():
-    """Whether children are started ahead: only if the times of files show each change, and aren't left aside."""
+def may_share():
+    """Whether children share a folder: only if the times of files show each change, and aren't left aside."""
     return TELLING and not Trial.reads
 
 
 def in_turn(tree, commands, most):
-    """The outcomes of commands that were started ahead, and how often each was started; and those of commands that weren't."""
+    """The outcomes of commands that were asked ahead, how often each was started before the first turn, and in all; and the outcomes of
+    those that weren't asked ahead."""
     one, other = Trial(tree), Trial(tree)
     counted, log = counting(one, commands)
     ahead(one, most, counted)
@@ -52,43 +59,74 @@ def in_turn(tree, commands, most):
     told = [one.sh(each) for each in counted]
     again = starts(log)
     wanted = [other.sh(each) for each in counting(other, commands)[0]]
-    one.sees_the_tree("children that were started ahead")
-    one.end()
-    other.end()
+    one.sees_the_tree("children that were asked ahead")
+    for trial in (one, other):
+        trial.end()
+        equal(sorted(os.listdir(f"{trial.top}/h")), ["scratch"], f"what is left of {commands!r}, {most} at once")
     return told, wanted, begun, again
 
 
+def numbers_of(commands, times=1):
+    return sorted(times * [str(number) for number in range(len(commands))])
+
+
 def children_ahead_answer_as_in_their_turns():
-    """Whatever they do but change files, and however many run at once, each answers as in its turn, and is started once. A child that gave
-    no answer is started again in its turn, which then says why."""
+    """Whatever they do, and however many run at once, each answers as in its turn, and is started once. A child that gave no answer is
+    started again in its turn, which then says why."""
     play = random.Random(58)
-    for most in (1, 2, 3, 8, 64):
-        commands = [play.choice(QUIET) for _ in range(play.randrange(2, 12))]
-        told, wanted, begun, again = in_turn(TREE, commands, most)
+    for at, most in enumerate((1, 2, 3, 8, 64, 2, 4)):
+        commands = [play.choice(QUIET + LOUD + BRIEF if at % 2 else QUIET) for _ in range(play.randrange(2, 12))]
+        told, wanted, _begun, again = in_turn(TREE, commands, most)
         equal(told, wanted, f"outcomes of {commands!r}, {most} at once")
-        numbers = [str(number) for number in range(len(commands))]
-        equal(begun, sorted(numbers) if are_started() else [], f"starts ahead of {commands!r}, {most} at once")
-        killed = [number for number in numbers if commands[int(number)] == "kill -9 $$" and are_started()]
-        equal(again, sorted(numbers + killed), f"starts in all of {commands!r}, {most} at once")
+        killed = [str(number) for number, command in enumerate(commands) if command == "kill -9 $$"]
+        equal(again, sorted(numbers_of(commands) + killed), f"starts of {commands!r}, {most} at once")
 
 
-def a_change_ahead_keeps_no_answer():
-    """If one of them changes a file of the tree, all run in their turns, on what those before them left."""
+def what_a_child_ahead_leaves_is_found_by_none():
+    """Children run while another one has changed its folder, in each way, and answer as in their turns. Each is started once."""
+    for change in LOUD + BRIEF:
+        one, other = Trial(TREE), Trial(TREE)
+        meet = f"{one.top}/meet"
+        os.mkdir(meet)
+        os.chmod(meet, 0o777)
+        waits = "for i in $(seq 600); do [ -e %s/%s ] && break; sleep 0.05; done"
+        commands = [f"({change}); touch {meet}/changed; {waits % (meet, 'looked')}", f"{waits % (meet, 'changed')}; {SEEN}; touch {meet}/looked"]
+        commands, log = counting(one, [*commands, SEEN])
+        ahead(one, 2, commands)
+        equal([one.sh(each) for each in commands], [other.sh(each) for each in commands], f"outcomes next to {change!r}")
+        equal(starts(log), 2 * ["0"] + 2 * ["1"] + 2 * ["2"], f"starts next to {change!r}, those of their turns among them")
+        one.end()
+        other.end()
+
+
+def an_answer_ahead_doesnt_name_its_folder():
+    """A child that writes the path of its folder, on its outputs or into a file, runs again in its turn: the path is that of the turns."""
+    for writes in ("pwd", "pwd >&2; exit 3", "pwd > a.txt", "basename \"$PWD\" > d/c.txt"):
+        trial = Trial(TREE)
+        meet = f"{trial.top}/meet"
+        os.mkdir(meet)
+        os.chmod(meet, 0o777)
+        waits = f"for i in $(seq 600); do [ $(ls {meet} | wc -l) -lt 3 ] || break; sleep 0.05; done"
+        commands, log = counting(trial, [f"touch {meet}/{number}; {waits}; {writes}" for number in range(3)])
+        ahead(trial, 3, commands)
+        told = [trial.sh(each) for each in commands]
+        equal(told, 3 * told[:1], f"outcomes of {writes!r}")
+        check("scratch." not in str(told), f"the outcomes of {writes!r} name another folder: {told!r}")
+        check(len(starts(log)) == 5, f"{writes!r} was started {len(starts(log))} times, wanted 5")
+        trial.end()
+
+
+def children_of_a_large_tree_share_a_folder():
+    """Those that change nothing answer as in their turns, and are started once. If one of them changes anything in the folder, if only for a
+    moment, all run again, each in a folder of its own: another may have found it."""
     play = random.Random(59)
-    for loud in LOUD:
-        commands = [*(play.choice(QUIET[:4]) for _ in range(4)), loud, "cat a.txt b.txt d/c.txt"]
-        play.shuffle(commands)
-        told, wanted, _begun, again = in_turn(TREE, commands, 4)
-        equal(told, wanted, f"outcomes of {commands!r}")
-        equal(again, sorted((1 + are_started()) * [str(number) for number in range(len(commands))]), f"starts of {commands!r}")
-
-
-def brief_changes_ahead_keep_no_answer():
-    """If one of them changes anything in the folder, if only for a moment, all run in their turns: another may have found it."""
-    for change in BRIEF:
-        told, wanted, begun, again = in_turn(TREE, ["cat a.txt", change, "ls -A d . | sort", "exit 1"], 4)
+    quiet = [play.choice(QUIET[:6]) for _ in range(6)]
+    for change in [None, *LOUD, *(BRIEF if may_share() else BRIEF[:2])]:
+        commands = quiet if change is None else ["cat a.txt", change, "ls -A d . | sort", "exit 1"]
+        told, wanted, begun, again = in_turn(LARGE, commands, 4)
         equal(told, wanted, f"outcomes next to {change!r}")
-        equal((begun, again), (list("0123"), sorted(2 * "0123")) if are_started() else ([], list("0123")), f"starts next to {change!r}")
+        wanted = numbers_of(commands) if may_share() else [], numbers_of(commands, 2 if change and may_share() else 1)
+        equal((begun, again), wanted, f"starts next to {change!r}, before the first turn and in all")
 
 
 def answers_ahead_are_of_one_tree():
@@ -98,21 +136,19 @@ def answers_ahead_are_of_one_tree():
     ahead(trial, 2, [look, other])
     equal(trial.sh(look), (0, b"one\n", {}), "the answer of its turn")
     equal(trial.sh(look), (0, b"one\n", {}), "the same once more")
-    more = ["1"] if are_started() else []
-    equal(starts(log), ["0", "0", *more], "the starts so far")
+    equal(starts(log).count("0"), 2, "the starts so far")
     trial.file("a.txt", b"three\n")
+    before = starts(log)
     equal(trial.sh(other), (0, b"two\n", {}), "the answer on another tree")
-    equal(starts(log), ["0", "0", "1", *more], "the starts on another tree")
+    equal(starts(log), [*before, "1"], "the starts on another tree")
     trial.file("a.txt", b"one\n")
     equal(trial.sh(other), (0, b"two\n", {}), "the answer on the first tree again")
-    equal(starts(log), ["0", "0", "1", "1", *more], "the starts in all")
+    equal(starts(log), [*before, "1", "1"], "the starts in all")
     trial.end()
 
 
 def children_ahead_run_at_once():
     """As many run at once as are allowed: each waits until all of them have begun."""
-    if not are_started():
-        return
     trial = Trial(TREE)
     meet = f"{trial.top}/meet"
     os.mkdir(meet)
@@ -126,13 +162,12 @@ def children_ahead_run_at_once():
 
 def no_more_children_run_at_once_than_allowed():
     """The third begins only once one of the first two has ended."""
-    if not are_started():
-        return
     trial = Trial(TREE)
     log = f"{trial.top}/order"
     commands = [f"echo begins >> {log}; sleep 0.2; echo ends >> {log}" for _ in range(5)]
     commands = [f"{command} # {number}" for number, command in enumerate(commands)]
     ahead(trial, 2, commands)
+    equal([trial.sh(each) for each in commands], 5 * [(0, b"", {})], "children that note when they run")
     running = most = 0
     for word in Path(log).read_text().split():
         running += 1 if word == "begins" else -1
@@ -164,12 +199,43 @@ def a_call_ahead_keeps_no_answer():
     trial.end()
 
 
-def a_lost_folder_ahead_is_made_again():
-    """If one of them removes the folder in which all run, the next child finds it whole."""
+def an_answer_ahead_doesnt_wait_for_others():
+    """The first answer is given while another child runs, and the run can end then: its end waits for that child."""
     trial = Trial(TREE)
-    commands = ["echo one", "rm -rf ../scratch", "sleep 0.1; echo two"]
+    os.chmod(trial.top, 0o777)
+    waits = f"for i in $(seq 600); do [ -e {trial.top}/%s ] && break; sleep 0.05; done"
+    first = f"{waits % 'begun'}; echo first"
+    ahead(trial, 2, [first, f"touch {trial.top}/begun; {waits % 'go'}; touch {trial.top}/over"])
+    equal(trial.sh(first), (0, b"first\n", {}), "the first of them, while the second runs")
+    check(not os.path.exists(f"{trial.top}/over"), "the second has ended before it could")
+    Path(f"{trial.top}/go").touch()
+    trial.end()
+    check(os.path.exists(f"{trial.top}/over"), "the run has ended before a child that was asked ahead")
+    equal(sorted(os.listdir(f"{trial.top}/h")), ["scratch"], "what is left then")
+
+
+def a_child_in_its_turn_runs_alone():
+    """A child that wasn't asked ahead begins once all others have ended. Those that weren't started yet run after it, each once."""
+    trial = Trial(TREE)
+    log = f"{trial.top}/order"
+    Path(log).touch()
+    os.chmod(log, 0o666)
+    notes = "echo begins >> {0}; sleep 0.1; echo ends >> {0}; echo {1}"
+    commands = [notes.format(log, number) for number in range(6)]
     ahead(trial, 3, commands)
-    equal(trial.sh("cat a.txt"), (0, b"one\n", {}), "the next child")
-    equal(trial.sh(commands[0]), (0, b"one\n", {}), "the first of them in its turn")
+    equal(trial.sh(commands[0]), (0, b"0\n", {}), "the first of them")
+    equal(trial.sh(f"[ $(grep -c begins {log}) = $(grep -c ends {log}) ]"), (0, b"", {}), "a child in its turn, while others were at work")
+    equal([trial.sh(each) for each in commands[1:]], [(0, b"%d\n" % number, {}) for number in range(1, 6)], "the others")
+    equal(Path(log).read_text().count("begins"), 6, "the starts of all of them")
+    trial.end()
+
+
+def a_lost_folder_ahead_is_made_again():
+    """If one of them removes its folder, it fails in its turn, and the next child finds the folder whole."""
+    trial, other = Trial(TREE), Trial(TREE)
+    commands = ["echo one", 'rm -rf "$PWD"', 'sleep 0.1; rm -rf "$PWD".run "$PWD"', "echo two; cat a.txt", "sleep 0.1; echo three"]
+    ahead(trial, 3, commands)
+    equal([trial.sh(each) for each in commands], [other.sh(each) for each in commands], "children of which some remove their folders")
     trial.sees_the_tree("a lost folder")
     trial.end()
+    other.end()

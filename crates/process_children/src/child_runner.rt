@@ -1,27 +1,31 @@
 //! Runs children: lays out their files, starts them, and reads back what they left. Each runs in its turn, but
 //! for those that were started ahead of it, several at once.
 
-use crate::ahead::{AheadAnswer, AheadAnswers};
+use crate::ahead::ChildrenAhead;
 use crate::contents::PIECE_BYTES;
 use crate::ending::{ChildEnding, ending_of};
 use crate::first_troubles::FirstTroubles;
 use crate::kept_folder::keep_as;
 use crate::known_files::KnownFiles;
-use crate::last_change::last_change;
+use crate::known_in_folders::KnownInFolders;
 use crate::links::WantedFiles;
 use crate::obstacle::at_place;
 use crate::read_back::read_back;
+use crate::run_folders::{FoldersAhead, leave_further, leave_unused, sees_state, take_further};
 use crate::scratch_folder::{AtEnd, ScratchFolder};
-use crate::side_by_side::RunningChildren;
 use crate::start::start;
 use crate::stop::ChildStop;
+use crate::together::answers_together;
 use child_port::{Answer, ChildAsk, Fault};
-use hook_base::{Changes, RepoPath, Text, Tree};
-use std::alloc::Global;
+use hook_base::{RepoPath, Text, Tree};
 use std::fs::{File, Files};
 use std::io::ErrorKind;
 use std::process::{Processes, SystemProcess};
 use std::{fs, io};
+
+// The trees of at most so many files are laid once for each child that runs at the same time. That takes about
+// as long as a usual tool takes to start.
+const MOST_FILES_APART: usize = 400;
 
 /// Runs children, and keeps what is known of those before.
 #[derive(Drop)]
@@ -29,17 +33,20 @@ pub(crate) struct ChildRunner<R: Files<File = File> + AllocGlobal + Drop> {
     runtime: R,
     folder: String,
     scratch: Option<ScratchFolder>,
-    known: KnownFiles,
+    known: KnownInFolders,
     calls: Option<String>,
     links: Vec<String>,
     state: Option<RepoPath>,
     at_end: AtEnd,
     troubles: FirstTroubles,
     at_once: usize,
-    // How many turns come next before children are started ahead again, and how often answers had to be dropped.
-    in_turn: usize,
-    dropped: u32,
-    ahead: AheadAnswers,
+    // Whether children that ran at once in one folder have changed it.
+    are_apart: bool,
+    // The folders of children that run at once, but for the first.
+    further: Vec<ScratchFolder>,
+    ahead: Option<ChildrenAhead>,
+    // How long the file of calls was when these were asked.
+    calls_before: u64,
 }
 
 impl<R: Files<File = File> + AllocGlobal + Drop> ChildRunner<R> {
@@ -50,9 +57,9 @@ impl<R: Files<File = File> + AllocGlobal + Drop> ChildRunner<R> {
         calls: Option<String>,
         at_end: AtEnd,
     ) -> ChildRunner<R> {
-        let known = KnownFiles::new(runtime.alloc());
+        let known = KnownInFolders::of_first(runtime.alloc(), KnownFiles::new(runtime.alloc()));
         let links = Vec::new(runtime.alloc());
-        let ahead = AheadAnswers::none(runtime.alloc());
+        let further = Vec::new(runtime.alloc());
         ChildRunner {
             runtime,
             folder,
@@ -64,15 +71,17 @@ impl<R: Files<File = File> + AllocGlobal + Drop> ChildRunner<R> {
             at_end,
             troubles: FirstTroubles::new(),
             at_once: 1,
-            in_turn: 0,
-            dropped: 0,
-            ahead,
+            are_apart: false,
+            further,
+            ahead: None,
+            calls_before: 0,
         }
     }
 
     /// From now on no file is known.
     pub(crate) fn read_everything(&mut self) {
-        self.known = KnownFiles::none_ever(self.runtime.alloc());
+        let alloc = self.runtime.alloc();
+        self.known = KnownInFolders::of_first(alloc, KnownFiles::none_ever(alloc));
     }
 
     /// From now on the folder of a child has links to these places.
@@ -92,19 +101,7 @@ impl<R: Files<File = File> + AllocGlobal + Drop> ChildRunner<R> {
 
     /// How many children may be started at once ahead of the next turn.
     pub(crate) fn at_once(&self) -> usize {
-        if self.in_turn == 0 && !self.known.are_mute() {
-            self.at_once
-        } else {
-            1
-        }
-    }
-
-    // Whether a child that has seen these files has seen that of Git's state, or `None` if no path was given.
-    fn sees_state(&self, seen: &Tree) -> Option<bool> {
-        match &self.state {
-            Some(path) => Some(seen.get(path).is_some()),
-            None => None,
-        }
+        self.at_once
     }
 
     /// The first troubles.
@@ -112,7 +109,7 @@ impl<R: Files<File = File> + AllocGlobal + Drop> ChildRunner<R> {
         &self.troubles
     }
 
-    /// Leaves the folder, after all children have ended.
+    /// Waits until all children have ended, and leaves the folders.
     pub(crate) fn leave(self) {
         let ChildRunner {
             runtime,
@@ -125,10 +122,15 @@ impl<R: Files<File = File> + AllocGlobal + Drop> ChildRunner<R> {
             at_end,
             troubles: _,
             at_once: _,
-            in_turn: _,
-            dropped: _,
-            ahead: _,
+            are_apart: _,
+            further,
+            ahead,
+            calls_before: _,
         } = self;
+        if let Some(ahead) = ahead {
+            ahead.end();
+        }
+        leave_further(&runtime, further);
         if let Some(scratch) = scratch {
             let alloc = runtime.alloc();
             scratch.leave(&runtime, alloc, at_end);
@@ -137,7 +139,7 @@ impl<R: Files<File = File> + AllocGlobal + Drop> ChildRunner<R> {
 
     fn take_scratch(&mut self) -> Result<ScratchFolder, ChildStop> {
         let folder = self.folder.as_str().trim_end_matches('/');
-        let taken = ScratchFolder::take(&self.runtime, self.runtime.alloc(), folder);
+        let taken = ScratchFolder::take(&self.runtime, self.runtime.alloc(), folder, 0);
         self.troubles.note_files(taken)
     }
 }
@@ -145,35 +147,28 @@ impl<R: Files<File = File> + AllocGlobal + Drop> ChildRunner<R> {
 impl<R: Files<File = File> + Processes<Started = SystemProcess> + AllocGlobal + Drop> ChildRunner<
     R,
 > {
-    /// Runs one child, in the folder that was taken for the first one. If it was started ahead of this turn on
-    /// this tree, its answer is taken.
+    /// Runs one child, in the folder that was taken for the first one, after all that run ahead of their turns
+    /// have ended. If it was asked ahead of this turn on this tree, its answer is taken.
     pub(crate) fn answer(
         &mut self,
         words: &[Text],
         tree: &Tree,
         seen: &Tree,
     ) -> Result<Answer, ChildStop> {
-        if let Some(ending) = self.ahead.take(words, seen, tree) {
-            return Ok(Answer {
-                status: ending.status,
-                output: ending.output,
-                changes: Changes::new(self.runtime.alloc()),
-            });
+        if let Some(answer) = self.answer_ahead(words, tree, seen) {
+            return Ok(answer);
         }
-        self.in_turn = self.in_turn.saturating_sub(1);
-        let sees_state = self.sees_state(seen);
+        let sees_state = sees_state(self.state.as_ref(), seen);
         let taken = match self.scratch.take() {
             Some(taken) => taken,
             None => self.take_scratch()?,
         };
         let answer = self.answer_in(&taken, words, tree, sees_state);
-        if answer.is_err() && !taken.is_marked(&self.runtime) {
-            // The child has removed the mark, maybe with all that was next to it. The next one takes a folder
-            // again.
-            taken.leave(&self.runtime, self.runtime.alloc(), AtEnd::FolderStays);
+        self.scratch = if answer.is_err() {
+            self.still_taken(taken)
         } else {
-            self.scratch = Some(taken);
-        }
+            Some(taken)
+        };
         answer
     }
 
@@ -187,17 +182,18 @@ impl<R: Files<File = File> + Processes<Started = SystemProcess> + AllocGlobal + 
         let alloc = self.runtime.alloc();
         let mut piece = vec![in alloc; 0u8; PIECE_BYTES]?;
         let piece = piece.as_mut_slice();
-        let (place, known) = (scratch.place(), &mut self.known);
+        let (place, known) = (scratch.place(), &mut self.known.first);
         let links = self.links.as_slice();
         let wanted = WantedFiles { tree, links };
         let laid = keep_as(&self.runtime, alloc, place, wanted, known, piece);
         let mut laid = self.troubles.note_files(laid)?;
-        self.known.child_starts(laid.found());
+        self.known.first.child_starts(laid.found());
         let inside = at_place(alloc, place, laid.own.inside(""));
         let inside = self.troubles.note_files(inside)?;
         let (inside, byte) = (inside.as_str(), scratch.input_byte());
         let ending = self.ending_in(inside, byte, words, sees_state, piece)?;
-        let changes = read_back(&self.runtime, alloc, laid, tree, &mut self.known, piece);
+        let known = &mut self.known.first;
+        let changes = read_back(&self.runtime, alloc, laid, tree, known, piece);
         Ok(Answer {
             status: ending.status,
             output: ending.output,
@@ -241,134 +237,152 @@ impl<R: Files<File = File> + Processes<Started = SystemProcess> + AllocGlobal + 
 impl<R: Files<File = File> + Processes<Started = SystemProcess> + AllocGlobal + Drop> ChildRunner<
     R,
 > {
-    /// Starts children ahead of their turns on this tree, several at once, and waits for all. The answers are
-    /// kept, each for its turn. A child that doesn't answer runs again in its turn, which then says why.
+    /// Asks children ahead of their turns on this tree, of which several run at once. The answers are kept, each
+    /// for its turn. A child that doesn't answer runs again in its turn, which then says why. If a call was
+    /// recorded meanwhile, no answer is kept.
     ///
-    /// No answer is kept if anything in the folder was changed, even if it is as before, if a call was recorded,
-    /// or if the folder was lost: a child may have found what another one did. Then so many children run in
-    /// their turns, and each time twice as many. None is started if changes needn't show.
+    /// Those of a large tree share a folder, until some of them change it. Those of a small tree, and all after
+    /// that, have folders of their own, and are started while it is waited for one of them.
     pub(crate) fn start_ahead(&mut self, asks: Vec<ChildAsk>, tree: &Tree) {
-        self.ahead = AheadAnswers::none(self.runtime.alloc());
-        let taken = match self.scratch.take() {
-            Some(taken) => taken,
-            None => match self.take_scratch() {
-                Ok(taken) => taken,
+        self.end_ahead();
+        if self.scratch.is_none() {
+            match self.take_scratch() {
+                Ok(taken) => self.scratch = Some(taken),
                 Err(_) => return,
-            },
-        };
-        let asked = asks.len();
-        match self.answers_ahead(&taken, asks, tree) {
-            Some(answers) => self.ahead = answers,
-            None => {
-                self.in_turn = asked.saturating_mul(2usize.saturating_pow(self.dropped));
-                self.dropped = self.dropped.saturating_add(1);
             }
         }
-        if taken.is_marked(&self.runtime) {
-            self.scratch = Some(taken);
+        let Ok(calls) = self.call_length() else {
+            return;
+        };
+        self.calls_before = calls;
+        let alloc = self.runtime.alloc();
+        let may_share = tree.len() > MOST_FILES_APART && !self.are_apart;
+        let shared = if may_share {
+            self.answers_together(asks.as_slice(), tree)
         } else {
-            taken.leave(&self.runtime, self.runtime.alloc(), AtEnd::FolderStays);
-        }
+            None
+        };
+        let ahead = match shared {
+            Some(answers) => ChildrenAhead::answered(alloc, asks, answers, tree),
+            None => {
+                self.are_apart = self.are_apart || may_share;
+                let folders = self.take_folders(asks.len());
+                ChildrenAhead::asked(alloc, asks, tree, folders)
+            }
+        };
+        self.ahead = ahead.ok();
     }
 
-    // The answers, the one whose turn comes first as the last. `None` if none may be kept.
-    fn answers_ahead(
-        &mut self,
-        scratch: &ScratchFolder,
-        asks: Vec<ChildAsk>,
-        tree: &Tree,
-    ) -> Option<AheadAnswers> {
+    // What the children answer if they share a folder, unless that can't count.
+    fn answers_together(&mut self, asks: &[ChildAsk], tree: &Tree) -> Option<Vec<Option<Answer>>> {
         let alloc = self.runtime.alloc();
         let mut piece = vec![in alloc; 0u8; PIECE_BYTES].ok()?;
-        let piece = piece.as_mut_slice();
-        let (place, known) = (scratch.place(), &mut self.known);
-        let links = self.links.as_slice();
-        let wanted = WantedFiles { tree, links };
-        let mut laid = keep_as(&self.runtime, alloc, place, wanted, known, piece).ok()?;
-        let device = self.known.device()?;
-        let last = last_change(&self.runtime, &mut laid.own, tree).ok()?;
-        let start = scratch.moment_after(last, device).ok()??;
-        self.known.child_starts(laid.found());
-        let inside = laid.own.inside("").ok()?;
-        let before = self.call_length().ok()?;
-        let endings = self.endings(
-            inside.as_str(),
-            scratch.input_byte(),
-            asks.as_slice(),
-            piece,
-        )?;
-        let last = last_change(&self.runtime, &mut laid.own, tree).ok()?;
-        if !last.is_before(start) {
-            return None;
-        }
-        let changes = read_back(&self.runtime, alloc, laid, tree, &mut self.known, piece).ok()?;
-        if !changes.is_empty() || self.call_length().ok()? != before {
-            return None;
-        }
-        kept_for_turns(alloc, asks, endings, tree)
+        let folders = FoldersAhead {
+            runtime: &self.runtime,
+            first: self.scratch.as_ref()?,
+            further: self.further.as_slice(),
+            links: self.links.as_slice(),
+            state: self.state.as_ref(),
+        };
+        let (known, piece) = (&mut self.known.first, piece.as_mut_slice());
+        answers_together(&folders, asks, self.at_once, tree, known, piece)
     }
 
-    // How the children ended, in the order of the asks, as far as they gave an answer.
-    fn endings(
-        &self,
-        folder: &str,
-        input_byte: u64,
-        asks: &[ChildAsk],
-        piece: &mut [u8],
-    ) -> Option<Vec<Option<ChildEnding>>> {
-        let (alloc, most) = (self.runtime.alloc(), self.at_once);
-        let mut endings = Vec::with_capacity(alloc, asks.len()).ok()?;
-        for _ask in asks {
-            endings.push(None).ok()?;
+    // Takes as many folders as so many children need, and returns how many there are, the first one included.
+    fn take_folders(&mut self, asks: usize) -> usize {
+        let most = self.at_once.min(asks).saturating_sub(1);
+        let folder = self.folder.as_str().trim_end_matches('/');
+        let (further, known) = (&mut self.further, &mut self.known);
+        if let Some(first) = &self.scratch {
+            take_further(&self.runtime, first, folder, further, known, most);
         }
-        let mut running = RunningChildren::with_room(alloc, most).ok()?;
-        let mut next = 0;
-        for _ in 0..u64::MAX {
-            next = self.start_some(folder, input_byte, asks, next, &mut running);
-            if running.len() == 0 {
-                break;
-            }
-            running.read(piece);
-            for _ in 0..most {
-                match running.take_ended() {
-                    Some((number, Ok(ending))) => {
-                        if let Some(place) = endings.get_mut(number) {
-                            *place = Some(ending);
-                        }
-                    }
-                    Some((_, Err(_))) => {}
-                    None => break,
-                }
-            }
-        }
-        Some(endings)
+        most.min(self.further.len()).saturating_add(1)
     }
 
-    // Starts further children, as long as fewer run than may at once. The answer is the number of the next ask.
-    fn start_some(
-        &self,
-        folder: &str,
-        input_byte: u64,
-        asks: &[ChildAsk],
-        next: usize,
-        running: &mut RunningChildren<SystemProcess>,
-    ) -> usize {
-        let mut next = next;
-        for _ in 0..asks.len() {
-            if running.len() >= self.at_once {
-                break;
-            }
-            let Some(ask) = asks.get(next) else {
-                break;
-            };
-            let (alloc, state) = (self.runtime.alloc(), self.sees_state(&ask.seen));
-            let words = ask.words.as_slice();
-            if let Ok(child) = start(&self.runtime, alloc, folder, input_byte, words, state) {
-                running.add(next, child);
-            }
-            next = next.saturating_add(1);
+    // The answer to what was asked ahead of this turn on this tree. If a call was recorded since, there is none,
+    // nor to anything else that was asked then.
+    fn answer_ahead(&mut self, words: &[Text], tree: &Tree, seen: &Tree) -> Option<Answer> {
+        if !self.ahead.as_ref()?.are_of(tree) {
+            self.end_ahead();
+            return None;
         }
-        next
+        let answer = self.take_ahead(words, seen);
+        if self.call_length().ok() != Some(self.calls_before) {
+            self.end_ahead();
+            return None;
+        }
+        if answer.is_none() {
+            self.pause_ahead();
+        }
+        answer
+    }
+
+    fn take_ahead(&mut self, words: &[Text], seen: &Tree) -> Option<Answer> {
+        let alloc = self.runtime.alloc();
+        let mut piece = vec![in alloc; 0u8; PIECE_BYTES].ok()?;
+        let folders = FoldersAhead {
+            runtime: &self.runtime,
+            first: self.scratch.as_ref()?,
+            further: self.further.as_slice(),
+            links: self.links.as_slice(),
+            state: self.state.as_ref(),
+        };
+        let (known, piece) = (&mut self.known, piece.as_mut_slice());
+        let ahead = self.ahead.as_mut()?;
+        ahead.take(words, seen, &folders, known, piece)
+    }
+
+    // Waits for the children that run ahead of their turns, before one runs in its turn. If no more can be
+    // started, their folders are left, so that one can be laid.
+    fn pause_ahead(&mut self) {
+        if self.paused() == Some(true) {
+            self.keep_marked();
+        } else {
+            self.end_ahead();
+        }
+    }
+
+    // The same. The answer is whether more can be started.
+    fn paused(&mut self) -> Option<bool> {
+        let alloc = self.runtime.alloc();
+        let mut piece = vec![in alloc; 0u8; PIECE_BYTES].ok()?;
+        let folders = FoldersAhead {
+            runtime: &self.runtime,
+            first: self.scratch.as_ref()?,
+            further: self.further.as_slice(),
+            links: self.links.as_slice(),
+            state: self.state.as_ref(),
+        };
+        let (known, piece) = (&mut self.known, piece.as_mut_slice());
+        let ahead = self.ahead.as_mut()?;
+        ahead.pause(&folders, known, piece);
+        Some(!ahead.has_failed())
+    }
+
+    // Waits for the children that run ahead of their turns. What they answer is dropped.
+    fn end_ahead(&mut self) {
+        if let Some(ahead) = self.ahead.take() {
+            ahead.end();
+            leave_unused(&self.runtime, &mut self.further, &mut self.known);
+            self.keep_marked();
+        }
+    }
+
+    // Leaves the first folder if a child has removed its mark.
+    fn keep_marked(&mut self) {
+        if let Some(taken) = self.scratch.take() {
+            self.scratch = self.still_taken(taken);
+        }
+    }
+
+    // The folder, unless a child has removed its mark, maybe with all that was next to it. Then the next child
+    // takes a folder again.
+    fn still_taken(&self, taken: ScratchFolder) -> Option<ScratchFolder> {
+        if taken.is_marked(&self.runtime) {
+            return Some(taken);
+        }
+        taken.leave(&self.runtime, self.runtime.alloc(), AtEnd::FolderStays);
+        None
     }
 
     fn call_length(&self) -> io::Result<u64> {
@@ -377,23 +391,6 @@ impl<R: Files<File = File> + Processes<Started = SystemProcess> + AllocGlobal + 
             None => Ok(0),
         }
     }
-}
-
-// The answers of the children that gave one, with what was asked.
-fn kept_for_turns(
-    alloc: Global,
-    asks: Vec<ChildAsk>,
-    endings: Vec<Option<ChildEnding>>,
-    tree: &Tree,
-) -> Option<AheadAnswers> {
-    let (mut asks, mut endings) = (asks, endings);
-    let mut answers = Vec::with_capacity(alloc, asks.len()).ok()?;
-    for _ in 0..asks.len() {
-        if let (Some(ask), Some(Some(ending))) = (asks.pop(), endings.pop()) {
-            answers.push(AheadAnswer { ask, ending }).ok()?;
-        }
-    }
-    Some(AheadAnswers::of(tree.copy().ok()?, answers))
 }
 
 // The length of the file at a place, 0 if none is there.

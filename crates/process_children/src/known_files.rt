@@ -57,6 +57,16 @@ impl KnownFiles {
         KnownFiles::with_times(alloc, FileTimes::Mute)
     }
 
+    /// What the times of files show.
+    pub(crate) fn times(&self) -> FileTimes {
+        self.times
+    }
+
+    /// From now on the times of files show this. So children count that were started in another folder.
+    pub(crate) fn set_times(&mut self, times: FileTimes) {
+        self.times = times;
+    }
+
     fn with_times(alloc: Global, times: FileTimes) -> KnownFiles {
         KnownFiles {
             times,
@@ -96,6 +106,11 @@ impl KnownFiles {
     /// Begins a walk that only looks files up.
     pub(crate) fn begin(&mut self) {
         self.at = 0;
+    }
+
+    /// Whether a folder was laid, or begun to be.
+    pub(crate) fn has_folder(&self) -> bool {
+        self.folder.is_some()
     }
 
     /// Notes that a child is about to be started. The folder was changed just before.

@@ -1,8 +1,9 @@
 //! The scratch folder of a child, from when it was laid until its files are read back.
 
 use crate::disk_paths::standing_scratch;
-use crate::own_files::OwnFiles;
+use crate::own_files::{HeldFiles, OwnFiles};
 use crate::stamp::Identity;
+use std::alloc::Global;
 use std::fs::{Files, Metadata};
 use std::io::ErrorKind;
 use std::{fs, io};
@@ -17,6 +18,13 @@ pub(crate) struct LaidFolder<'a> {
     found: Metadata,
 }
 
+/// What is held of the scratch folder of a child that runs next to others.
+#[derive(Drop)]
+pub(crate) struct HeldLaid {
+    files: HeldFiles,
+    found: Metadata,
+}
+
 impl<'a> LaidFolder<'a> {
     /// The folder of these files, which was just laid.
     pub(crate) fn of<R: Files>(files: &R, mut own: OwnFiles<'a>) -> io::Result<LaidFolder<'a>> {
@@ -24,6 +32,22 @@ impl<'a> LaidFolder<'a> {
         let place = own.inside("")?;
         let found = fs::symlink_metadata(files, place.as_str())?;
         Ok(LaidFolder { own, found })
+    }
+
+    /// The folder at this place, as `held` has given it.
+    pub(crate) fn of_held(alloc: Global, place: &'a str, held: HeldLaid) -> LaidFolder<'a> {
+        let HeldLaid { files, found } = held;
+        let own = OwnFiles::of_held(alloc, place, files);
+        LaidFolder { own, found }
+    }
+
+    /// What is held of it, apart from its place.
+    pub(crate) fn held(self) -> HeldLaid {
+        let LaidFolder { own, found } = self;
+        HeldLaid {
+            files: own.held(),
+            found,
+        }
     }
 
     /// Its metadata from when it was laid.

@@ -17,9 +17,11 @@
 //! (`known_files`). This shows in the metadata of each (`stamp`), and in what the times of files show in this
 //! run (`file_ages`) and on this file system (`file_system`).
 //!
-//! Children may be started ahead of their turns, several at once (`side_by_side`). Their answers are kept only
-//! if none of them changed anything in the folder, which another may have found (`last_change`). Each is
-//! given in its turn, if the tree is still the same then (`ahead`).
+//! Children may be asked ahead of their turns (`ahead`), of which several run at once (`side_by_side`). Each has a
+//! scratch folder of its own (`run_folders`), of whose files other things are known (`known_in_folders`). Those of
+//! a large tree first share one (`together`): their answers are kept only if none of them changed anything
+//! there, which another may have found (`last_change`). An answer is given in its turn, if the tree is still the
+//! same then.
 //!
 //! Before the first call a folder is taken that no other run uses (`scratch_folder`). The file of `run_mark`
 //! says so. `removal` removes what a run left that a signal ended, and `input` shows whether a child of such
@@ -42,6 +44,7 @@ mod held_folder;
 mod input;
 mod kept_folder;
 mod known_files;
+mod known_in_folders;
 mod laid_folder;
 mod last_change;
 mod links;
@@ -50,8 +53,10 @@ mod obstacle;
 mod outputs;
 mod own_files;
 mod process_children;
+mod processors;
 mod read_back;
 mod removal;
+mod run_folders;
 mod run_mark;
 mod scratch_folder;
 mod search;
@@ -60,7 +65,9 @@ mod stamp;
 mod start;
 mod stop;
 mod stray_files;
+mod together;
 mod trash;
 
 pub use obstacle::Obstacle;
 pub use process_children::ProcessChildren;
+pub use processors::usable_processors;

@@ -13,6 +13,9 @@ use std::io;
 use std::io::{ErrorKind, Read};
 use std::os::fd::AsRawFd;
 
+/// The number of milliseconds for which poll(2) waits without a limit.
+pub(crate) const NO_LIMIT: i32 = -1;
+
 /// What is kept of the two outputs of a child.
 #[derive(Debug, Drop)]
 pub(crate) struct Outputs {
@@ -54,7 +57,7 @@ impl Outputs {
                 break;
             }
             let mut both = pipes.asked();
-            wait_for_any(&mut both)?;
+            wait_for_any(&mut both, NO_LIMIT)?;
             self.read_ready(pipes, both, piece)?;
         }
         Ok(())
@@ -189,9 +192,10 @@ fn asked(fd: i32) -> pollfd {
     }
 }
 
-/// Waits until one of the pipes has something to read, or is at its end. After a signal none may be (poll(2)).
-pub(crate) fn wait_for_any(pipes: &mut [pollfd]) -> io::Result<()> {
-    if libc::net::poll(pipes, -1) < 0 {
+/// Waits until one of the pipes has something to read, or is at its end, or until so many milliseconds have
+/// passed. After a signal none may be (poll(2)).
+pub(crate) fn wait_for_any(pipes: &mut [pollfd], milliseconds: i32) -> io::Result<()> {
+    if libc::net::poll(pipes, milliseconds) < 0 {
         let error = io::Error::from_raw_os_error(os::errno());
         if error.kind() != ErrorKind::Interrupted {
             return Err(error);

@@ -42,6 +42,13 @@ pub(crate) struct OwnFiles<'a> {
     held: Option<HeldFolder>,
 }
 
+/// What is held of the files of a scratch folder while its child runs.
+#[derive(Debug, Drop)]
+pub(crate) struct HeldFiles {
+    holds: bool,
+    scratch: Option<HeldFolder>,
+}
+
 impl<'a> OwnFiles<'a> {
     /// The files of this scratch folder.
     pub(crate) fn of<R: Files>(files: &R, alloc: Global, folder: &'a str) -> OwnFiles<'a> {
@@ -53,6 +60,33 @@ impl<'a> OwnFiles<'a> {
             inner: String::new(alloc),
             held: None,
         }
+    }
+
+    /// The files of a scratch folder that is held open, as `held` has given it.
+    pub(crate) fn of_held(alloc: Global, folder: &'a str, held: HeldFiles) -> OwnFiles<'a> {
+        let HeldFiles { holds, scratch } = held;
+        OwnFiles {
+            alloc,
+            folder,
+            holds,
+            scratch,
+            inner: String::new(alloc),
+            held: None,
+        }
+    }
+
+    /// What is held of them, apart from the place of their folder. The folder in it that was found last is
+    /// closed.
+    pub(crate) fn held(self) -> HeldFiles {
+        let OwnFiles {
+            alloc: _,
+            folder: _,
+            holds,
+            scratch,
+            inner: _,
+            held: _,
+        } = self;
+        HeldFiles { holds, scratch }
     }
 
     /// Turns the error of a result into the trouble at this path of the tree.

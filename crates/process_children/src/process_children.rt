@@ -103,9 +103,10 @@ impl<
     /// next. With 0 or 1, as at first, each runs in its turn.
     ///
     /// What children answer ahead of their turns is kept. [`run`](Children::run) gives it in place of starting
-    /// the child again, if its words, seen files and tree are the same. The children share the folder, so
-    /// nothing is kept if one of them changed anything there, for however short a time: another may have
-    /// found it. Nothing is kept either of a child that gave no answer. These run in their turns.
+    /// the child again, if its words, seen files and tree are the same. Each of the children has a folder of its
+    /// own, next to that of the turns. Those of a tree of over 400 files first share one; once one of them changed
+    /// anything there, for however short a time, they run again apart, since another may have found it. Nothing
+    /// is kept of a child that gave no answer, or that names its own folder. These run in their turns.
     pub fn run_at_once(&mut self, most: usize)
         ensures calls { ⟦<ProcessChildren<R> as Children>⟧.call_count self.new
             ≡ ⟦<ProcessChildren<R> as Children>⟧.call_count self.old }

@@ -36,16 +36,17 @@ pub(crate) struct ScratchFolder {
 }
 
 impl ScratchFolder {
-    /// Takes a folder for a run. If another run uses it, or a child that outlived its run, the run gets one
-    /// next to it: the first, by their numbers, that none uses. The folder of a run that was stopped is
-    /// removed. The folder isn't made here.
+    /// Takes a folder for a run: this one, whose number is 0, or one next to it. It is the first from the number
+    /// `first` on that no other run uses, nor a child that outlived its run. The folder of a run that was
+    /// stopped is removed. The folder isn't made here.
     pub(crate) fn take<R: Files<File = File>>(
         files: &R,
         alloc: Global,
         folder: &str,
+        first: u64,
     ) -> Result<ScratchFolder, Obstacle> {
         at_place(alloc, folder, make_parent(files, folder))?;
-        for number in 0..u64::MAX {
+        for number in first..u64::MAX {
             let place = numbered(alloc, folder, number)?;
             if let Some(mark) = mark_of(files, alloc, place.as_str())? {
                 // What other runs left does no harm, so it may stay.
@@ -65,6 +66,11 @@ impl ScratchFolder {
     /// Its place.
     pub(crate) fn place(&self) -> &str {
         self.place.as_str()
+    }
+
+    /// Its number.
+    pub(crate) fn number(&self) -> u64 {
+        self.number
     }
 
     /// The byte on which the standard input of the run's children is locked.

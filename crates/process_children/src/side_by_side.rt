@@ -1,7 +1,7 @@
 //! Children that run at the same time.
 
 use crate::ending::{ChildEnding, end};
-use crate::outputs::{Outputs, Pipes, wait_for_any};
+use crate::outputs::{NO_LIMIT, Outputs, Pipes, wait_for_any};
 use crate::stop::ChildStop;
 use libc::types::pollfd;
 use std::alloc::{AllocError, Global};
@@ -66,16 +66,16 @@ where
         });
     }
 
-    /// Waits until one of the children writes or closes an output, and reads that. If the system doesn't
-    /// take the question, all outputs count as not read.
-    pub(crate) fn read(&mut self, piece: &mut [u8]) {
+    /// Waits until one of the children writes or closes an output, and reads that; or until so many
+    /// milliseconds have passed. If the system doesn't take the question, all outputs count as not read.
+    pub(crate) fn read(&mut self, piece: &mut [u8], milliseconds: i32) {
         self.pipes.clear();
         for child in self.running.iter() {
             let [output, error] = child.pipes.asked();
             let _output = self.pipes.push(output);
             let _error = self.pipes.push(error);
         }
-        if wait_for_any(self.pipes.as_mut_slice()).is_err() {
+        if wait_for_any(self.pipes.as_mut_slice(), milliseconds).is_err() {
             for child in self.running.iter_mut() {
                 child.give_up();
             }
@@ -86,6 +86,20 @@ where
             let at = index.saturating_mul(2);
             if let (Some(output), Some(error)) = (found.get(at), found.get(at.saturating_add(1))) {
                 child.read([*output, *error], piece);
+            }
+        }
+    }
+
+    /// Waits until all have ended.
+    pub(crate) fn end_all(&mut self) {
+        let mut piece = [0u8; 4_096];
+        for _ in 0..u64::MAX {
+            if self.len() == 0 {
+                break;
+            }
+            self.read(&mut piece, NO_LIMIT);
+            for _ in 0..self.len() {
+                let _ended = self.take_ended();
             }
         }
     }
