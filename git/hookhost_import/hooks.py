@@ -20,14 +20,26 @@ OWN_KEYS = ("x_reads", "x_per_file", "x_at_most")
 NO_FILES = ("symlink", "directory", "socket")
 
 
+@dataclass(frozen=True)
+class Row:
+    """A hook that is run at a commit: the numbers of its repository and of the hook in there, the names by which it is chosen, its own
+    fail_fast, and the local hook that it has become, or None if it is left to pre-commit."""
+
+    place: tuple
+    names: tuple
+    fail_fast: bool
+    made: dict
+
+
 @dataclass
 class Import:
     """What becomes of a configuration: the keys at its top, its local hooks, the hooks that are left to pre-commit, each with the reason
-    and whether it is run at a commit, and the folders and files whose change asks for another import."""
+    and whether it is run at a commit, all hooks that are, and the folders and files whose change asks for another import."""
 
     top: dict
     hooks: list = field(default_factory=list)
     left: list = field(default_factory=list)
+    rows: list = field(default_factory=list)
     looked: set = field(default_factory=set)
 
 
@@ -129,7 +141,8 @@ def imported(config, store, maker):
     """Has pre-commit install what the hooks need, and makes local hooks of them."""
     with speaking():
         hooks = list(all_hooks(config, store))
-        raws = [(repo.get("rev", ""), raw) for repo in config["repos"] for raw in repo["hooks"]]
+        places = [(number, at) for number, repo in enumerate(config["repos"]) for at in range(len(repo["hooks"]))]
+        raws = [config["repos"][number]["hooks"][at] for number, at in places]
         reasons = [why_left(hook) for hook in hooks]
         wanted = [hook for hook, why in zip(hooks, reasons) if why is None and needs_environment(hook)]
         install_hook_envs([hook for hook in wanted if not {hook.id, hook.alias} & maker.skipped], store)
@@ -137,14 +150,39 @@ def imported(config, store, maker):
     is_taken = means_the_same(config["files"]) and means_the_same(config["exclude"]) and maker.program.takes(found.top, [])
     if not is_taken:
         found.top = {}
-    for hook, why, (rev, raw) in zip(hooks, reasons, raws, strict=True):
+    for hook, why, raw, place in zip(hooks, reasons, raws, places, strict=True):
+        rev, is_run = config["repos"][place[0]].get("rev", ""), bool(AT_COMMIT & set(hook.stages))
         if why is None and not is_taken:
             why = "files or exclude at the top is a pattern that hookhost doesn't take"
         made = maker.made(hook, rev, raw, found.looked) if why is None else None
         if made is not None and not maker.program.takes({}, [made]):
-            why = "hookhost doesn't take it; its patterns may look around or back"
-        if why is None:
-            found.hooks.append(made)
+            made, why = None, "hookhost doesn't take it; its patterns may look around or back"
+        if made is None:
+            found.left.append((hook.id, why, is_run))
         else:
-            found.left.append((hook.id, why, bool(AT_COMMIT & set(hook.stages))))
+            found.hooks.append(made)
+        if is_run:
+            found.rows.append(Row(place, (hook.id, hook.alias), hook.fail_fast, made))
+    return found
+
+
+@dataclass
+class Part:
+    """Hooks that follow one another, all run by hookhost or all left to pre-commit, or one alone whose failure ends the run."""
+
+    is_left: bool
+    is_alone: bool
+    rows: list = field(default_factory=list)
+
+
+def parts_of(rows, is_fail_fast):
+    """The hooks in parts. Before the last hook that is left, each with fail_fast is a part of its own: the part's failure is the hook's.
+    After it hookhost ends the run by itself. If every failure ends the run, any part's does."""
+    last = max((at for at, row in enumerate(rows) if row.made is None), default=-1)
+    found = []
+    for at, row in enumerate(rows):
+        part = Part(row.made is None, row.fail_fast and at <= last and not is_fail_fast)
+        if not found or part.is_alone or found[-1].is_alone or found[-1].is_left != part.is_left:
+            found.append(part)
+        found[-1].rows.append(row)
     return found

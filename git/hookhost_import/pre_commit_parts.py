@@ -7,6 +7,7 @@ import sys
 from hookhost_import.basics import BadConfiguration, Refused
 
 try:
+    import yaml
     from pre_commit.clientlib import load_config
     from pre_commit.commands.run import Classifier
     from pre_commit.envcontext import UNSET
@@ -25,8 +26,8 @@ except ImportError as why:
 
 # Releases from 4.4 on have another name for each.
 SYSTEM, SCRIPT = ("system", "unsupported"), ("script", "unsupported_script")
-__all__ = ["Classifier", "SCRIPT", "SYSTEM", "Store", "UNSET", "all_hooks", "environment_of", "install_hook_envs", "languages", "loaded", "modules",
-           "runs_plainly", "speaking"]
+__all__ = ["Classifier", "SCRIPT", "SYSTEM", "Store", "UNSET", "all_hooks", "as_written", "environment_of", "install_hook_envs", "languages", "loaded",
+           "modules", "runs_plainly", "speaking", "text_of_some"]
 
 
 class Messages(logging.Handler):
@@ -67,6 +68,23 @@ def loaded(path):
         return load_config(path)
     except FatalError as why:
         raise BadConfiguration(f"pre-commit doesn't take the configuration: {str(why).strip()}") from None
+
+
+def as_written(path):
+    """The configuration without defaults. With all of them pre-commit wouldn't take a hook of `repo: meta`."""
+    with open(path, encoding="utf-8") as file:
+        found = yaml.safe_load(file)
+    # Before 3.0 the repositories alone may be the configuration.
+    return {"repos": found} if isinstance(found, list) else found
+
+
+def text_of_some(config, places, left_out):
+    """The text of a configuration, as it is written, with the hooks at these places alone, and without these keys of hooks."""
+    repos = []
+    for number, repo in enumerate(config["repos"]):
+        hooks = [{key: it for key, it in hook.items() if key not in left_out} for at, hook in enumerate(repo["hooks"]) if (number, at) in places]
+        repos += [repo | {"hooks": hooks}] if hooks else []
+    return yaml.safe_dump(config | {"repos": repos}, allow_unicode=True, sort_keys=False)
 
 
 def modules():

@@ -4,8 +4,8 @@
 Usage: tests/git/imported_hooks.py [PROGRAM [PART]]   (default: crates/hookhost/out/hookhost, and all cases; PART is one of a name)
 
 The repositories of the hooks are made on the spot (imported_hooks_made.py), and nothing comes from the network: pip has no index. The
-cases are in imported_hooks_runs.py, .._refusals.py and .._parts.py. Reports have to be those of pre-commit in a clone of the same
-repository. It is Debian's pre-commit, or another one on the PATH.
+cases are in imported_hooks_runs.py, .._order.py, .._refusals.py and .._parts.py. Reports have to be those of pre-commit in a
+clone of the same repository. It is Debian's pre-commit, or another one on the PATH.
 """
 import os
 import sys
@@ -14,6 +14,7 @@ import time
 
 sys.path.insert(0, os.path.abspath(f"{__file__}/../../shared"))
 from git_bridge_repository import Wrong, environment
+from imported_hooks_order import CASES as ORDER
 from imported_hooks_parts import CASES as PARTS
 from imported_hooks_refusals import CASES as REFUSALS
 from imported_hooks_runs import CASES as RUNS
@@ -36,7 +37,7 @@ def is_wrong(case, top, env):
 
 
 def main():
-    chosen = [case for case in (*RUNS, *REFUSALS, *PARTS) if PART in case.__name__]
+    chosen = [case for case in (*RUNS, *ORDER, *REFUSALS, *PARTS) if PART in case.__name__]
     failed = 0
     with tempfile.TemporaryDirectory(dir="/dev/shm" if os.path.isdir("/dev/shm") else None) as top:
         home = os.path.join(top, "home")

@@ -91,22 +91,22 @@ def hooks_that_cannot_be_made_are_left_to_pre_commit(top, env):
     edit((here,), {"a.txt": "a\n", "b.txt": "b\n"})
     for what in ("first", "second"):
         answer = here.run(env={"SKIP": "dock"})
-        same(f"the {what} run", (answer.status, [name for name, _ in answer.verdicts]), (0, ["Script", "Local", "Local pygrep", "Files that look ahead", "Docker", "identity"]))
+        same(f"the {what} run", (answer.status, [name for name, _ in answer.verdicts]), (0, ["Script", "Files that look ahead", "Docker", "identity", "Local", "Local pygrep"]))
         check("\na.txt\nb.txt\n" in answer.out, f"identity doesn't print the files: {answer!r}")
-        same("starts", here.started(), (["scr a.txt b.txt", "loc a.txt b.txt"] if what == "first" else []) + ["ahead a.txt"])
+        same("starts", here.started(), ["scr a.txt b.txt", "ahead a.txt", "loc a.txt b.txt"] if what == "first" else ["ahead a.txt"])
         if what == "first":
             for name in ("ahead", "dock", "identity"):
                 check(f"left to pre-commit: '{name}': " in answer.err, f"{name} isn't named: {answer!r}")
     # There is no docker here, or no such image.
     answer = here.run()
-    same("with docker", (answer.status, dict(answer.verdicts)["Docker"], answer.verdicts[-1]), (1, "Failed", ("identity", "Passed")))
+    same("with docker", (answer.status, dict(answer.verdicts)["Docker"], dict(answer.verdicts)["identity"]), (1, "Failed", "Passed"))
     answer = here.run("identity")
     same("one of them alone", (answer.status, answer.verdicts), (0, [("identity", "Passed")]))
     answer = here.run("scr")
     same("one of the others alone", (answer.status, answer.verdicts), (0, [("Script", "Passed")]))
     here.started()
     answer = here.run("--files", "a.txt", env={"SKIP": "dock,identity"})
-    same("on one file", (answer.status, here.started()), (0, ["scr a.txt", "loc a.txt", "ahead a.txt"]))
+    same("on one file", (answer.status, here.started()), (0, ["scr a.txt", "ahead a.txt", "loc a.txt"]))
     # Git hands another index to its hook then.
     here.git.installed()
     made(here.git.commit(env={"SKIP": "dock"}))
