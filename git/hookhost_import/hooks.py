@@ -15,7 +15,8 @@ KEYS = {
     "alias": "", "args": [], "files": "", "exclude": "^$", "types": ["file"], "types_or": [], "exclude_types": [], "always_run": False,
     "pass_filenames": True, "require_serial": False, "verbose": False, "fail_fast": False,
 }
-OWN_KEYS = ("x_reads", "x_per_file", "x_at_most")
+# Keys of hookhost's own, and the kinds of their values. pre-commit runs the hooks without them.
+OWN_KEYS = {"x_reads": (str, "a text in quotes"), "x_per_file": (bool, "true or false"), "x_at_most": (int, "a number")}
 # The types of what a tree of hookhost doesn't have.
 NO_FILES = ("symlink", "directory", "socket")
 
@@ -53,8 +54,11 @@ def gets(hook, kind):
     return tags >= set(hook.types) and (not hook.types_or or bool(tags & set(hook.types_or))) and not tags & set(hook.exclude_types)
 
 
-def why_left(hook):
+def why_left(hook, raw):
     """Why a hook is left to pre-commit, by what it is; None if it isn't."""
+    for key, (kind, what) in OWN_KEYS.items():
+        if key in raw and type(raw[key]) is not kind:
+            return f"its {key} has to be {what}"
     if hook.src == "meta":
         return "it is a hook of pre-commit itself"
     if hook.language not in PLAIN and not runs_plainly(hook.language):
@@ -85,7 +89,7 @@ def keys_of(hook, raw):
             found[key] = held
     # hookhost takes an empty list for all stages, and pre-commit for none.
     found["stages"] = list(hook.stages) or ["post-rewrite"]
-    return found | {key: raw[key] for key in OWN_KEYS if isinstance(raw.get(key), (str, bool, int))}
+    return found | {key: raw[key] for key in OWN_KEYS if key in raw}
 
 
 def with_command(keys, language, entry, args, **more):
@@ -143,7 +147,7 @@ def imported(config, store, maker):
         hooks = list(all_hooks(config, store))
         places = [(number, at) for number, repo in enumerate(config["repos"]) for at in range(len(repo["hooks"]))]
         raws = [config["repos"][number]["hooks"][at] for number, at in places]
-        reasons = [why_left(hook) for hook in hooks]
+        reasons = [why_left(hook, raw) for hook, raw in zip(hooks, raws, strict=True)]
         wanted = [hook for hook, why in zip(hooks, reasons) if why is None and needs_environment(hook)]
         install_hook_envs([hook for hook in wanted if not {hook.id, hook.alias} & maker.skipped], store)
     found = Import(top_of(config))

@@ -140,6 +140,26 @@ def yaml_that_hookhost_does_not_read_is_imported(top, env):
     same("again", (here.run().status, here.started()), (0, ["a a.txt", "a x a.txt"]))
 
 
+def keys_of_hookhosts_own_are_kept(top, env):
+    """Those of the team's entry of a hook decide what is in the key, and how many files a command is handed."""
+    hooks = remote(top, env)
+    here = by_hookhost(top, env, of_remote(hooks, "{id: scr, x_reads: '^rules$', x_per_file: true}", "{id: py, x_reads: '^/', x_at_most: 2, types_or: [plain-text]}",
+                                           "{id: sys, x_reads: [a], args: ['WRONG']}", "{id: pyg, x_per_file: 'true'}", "{id: look, x_reads: }"))
+    edit((here,), {"a.txt": "a\n", "b.txt": "b\n", "c.txt": "c\n", "rules": "r\n"})
+    made_text = here.git.run(IMPORTER).out
+    for part in ('x_reads: "^rules$"\n    x_per_file: true\n', 'x_reads: "^/"\n    x_at_most: 2\n'):
+        check(part in made_text, f"{part!r} isn't in {made_text}")
+    answer = here.run()
+    for name, key, what in (("sys", "x_reads", "a text in quotes"), ("pyg", "x_per_file", "true or false"), ("look", "x_reads", "a text in quotes")):
+        check(f"left to pre-commit: '{name}': its {key} has to be {what}\n" in answer.err, f"{name}: {answer!r}")
+    # pre-commit would warn of them.
+    check("Unexpected key" not in answer.text, f"{answer!r}")
+    same("what is started", here.started(), ["scr a.txt", "scr b.txt", "scr c.txt", "py a.txt b.txt", "py c.txt", "sys WRONG a.txt b.txt c.txt rules"])
+    for path, wanted in (("b.txt", ["scr b.txt", "py a.txt b.txt"]), ("rules", ["scr a.txt", "scr b.txt", "scr c.txt"]), ("other", [])):
+        edit((here,), {path: "other\n"})
+        same(f"after an edit of {path}", (here.run().status, [line for line in here.started() if not line.startswith("sys")]), (0, wanted))
+
+
 def hookhost_import_alone(top, env):
     hooks = remote(top, env)
     here = by_hookhost(top, env, of_remote(hooks, "pyg", "dock"))
@@ -160,5 +180,5 @@ def hookhost_import_alone(top, env):
 CASES = [
     the_table_of_tools_is_that_of_hookhost, a_tool_is_known_if_its_package_has_installed_it, patterns_that_mean_something_else_are_known,
     the_python_of_pre_commit_is_found, any_text_is_read_back,
-    another_configuration_is_named, yaml_that_hookhost_does_not_read_is_imported, hookhost_import_alone,
+    another_configuration_is_named, yaml_that_hookhost_does_not_read_is_imported, keys_of_hookhosts_own_are_kept, hookhost_import_alone,
 ]
