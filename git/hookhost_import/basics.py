@@ -34,6 +34,11 @@ def in_utf8(text, what):
     return text
 
 
+def in_comment(text):
+    """The text on one line of ASCII that shows it, for a comment."""
+    return "".join(it if it.isprintable() else "?" for it in text.encode("ascii", "backslashreplace").decode())
+
+
 def write_whole(path, held, mode=0o644):
     """Writes a file that is there whole or not at all."""
     new = f"{path}.{os.getpid()}.new"

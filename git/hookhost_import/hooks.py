@@ -34,11 +34,13 @@ class Row:
 
 @dataclass
 class Import:
-    """What becomes of a configuration: the keys at its top, its local hooks, the hooks that are left to pre-commit, each with the reason
-    and whether it is run at a commit, all hooks that are, and the folders and files whose change asks for another import."""
+    """What becomes of a configuration: the keys at its top, its local hooks and the repository of each, the hooks that are left to
+    pre-commit, each with the reason and whether it is run at a commit, all hooks that are, and the folders and files whose change asks for
+    another import."""
 
     top: dict
     hooks: list = field(default_factory=list)
+    sources: list = field(default_factory=list)
     left: list = field(default_factory=list)
     rows: list = field(default_factory=list)
     looked: set = field(default_factory=set)
@@ -165,6 +167,7 @@ def imported(config, store, maker):
             found.left.append((hook.id, why, is_run))
         else:
             found.hooks.append(made)
+            found.sources.append("" if hook.src == "local" else f"{hook.src}, {rev}")
         if is_run:
             found.rows.append(Row(place, (hook.id, hook.alias), hook.fail_fast, made))
     return found

@@ -5,7 +5,7 @@ import re
 import shlex
 import sys
 
-from hookhost_import.basics import digest_of, in_utf8, write_whole
+from hookhost_import.basics import digest_of, in_comment, in_utf8, write_whole
 from hookhost_import.environments import Environment, state_of
 from hookhost_import.pre_commit_parts import SCRIPT, UNSET, languages
 
@@ -38,8 +38,7 @@ def line_of(name, value):
 
 def script_of(hook, lines, words):
     """The text of a script. It says whose hook it starts."""
-    said = f"{hook.id} of {hook.src}".encode("ascii", "backslashreplace").decode()
-    comment = "# The hook " + "".join(it if it.isprintable() else "?" for it in said) + ", by hookhost-import."
+    comment = f"# The hook {in_comment(f'{hook.id} of {hook.src}')}, by hookhost-import."
     return "\n".join(["#!/bin/sh", comment, *lines, "exec " + shlex.join(words) + ' "$@"']) + "\n"
 
 

@@ -1,4 +1,8 @@
 """A configuration as text, in the YAML that hookhost reads (docs/REFERENCE.md, "The configuration's text")."""
+import itertools
+
+from hookhost_import.basics import in_comment
+
 ESCAPES = {"\\": "\\\\", '"': '\\"', "\n": "\\n", "\t": "\\t", "\r": "\\r", "\0": "\\0"}
 
 
@@ -23,13 +27,14 @@ def value(it):
     return "[" + ", ".join(map(in_quotes, it)) + "]" if isinstance(it, (list, tuple)) else in_quotes(it)
 
 
-def text_of(head, top, hooks):
-    """The text: lines of comment, the keys at the top, and the hooks, each a table of its keys."""
+def text_of(head, top, hooks, sources=()):
+    """The text: lines of comment, the keys at the top, and the hooks, each a table of its keys, below a comment with its repository."""
     lines = [f"# {line}" for line in head] + [f"{key}: {value(it)}" for key, it in top.items()]
     if not hooks:
         return "\n".join([*lines, "repos: []"]) + "\n"
     lines += ["repos:", "- repo: local", "  hooks:"]
-    for hook in hooks:
+    for hook, source in itertools.zip_longest(hooks, sources):
+        lines += [f"  # of {in_comment(source)}"] if source else []
         for number, (key, it) in enumerate(hook.items()):
             lines.append(("  - " if number == 0 else "    ") + f"{key}: {value(it)}")
     return "\n".join(lines) + "\n"

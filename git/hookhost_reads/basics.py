@@ -38,6 +38,13 @@ def below(folder, path):
     return path[len(folder) + 1:] if path.startswith(folder + "/") else None
 
 
+def write_program(path):
+    """Writes a program that does nothing."""
+    with open(path, "wb") as file:
+        file.write(b"#!/bin/sh\nexit 0\n")
+    os.chmod(path, 0o755)
+
+
 def done(words, **how):
     """A command that has ended, with what it printed."""
     return subprocess.run(words, stdin=subprocess.DEVNULL if "input" not in how else None, capture_output=True, **how)

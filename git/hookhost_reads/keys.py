@@ -3,7 +3,7 @@ import os
 import re
 from dataclasses import dataclass
 
-from hookhost_reads.basics import Refused, as_pattern, extension, shown
+from hookhost_reads.basics import Refused, as_pattern, extension, shown, write_program
 from hookhost_reads.staged import is_taken
 from hookhost_reads.strace import STARTS
 
@@ -71,10 +71,11 @@ def absent_items(absent, made, world):
 class Prober:
     """Finds out from hookhost which items are in the keys of a hook's commands, in a store where each command does nothing."""
 
-    def __init__(self, world, name, commands, words):
+    def __init__(self, world, name, commands, words, contents=None):
         self.world, self.name, self.words, self.commands = world, name, words, {command.words for command in commands}
         self.env = {"PATH": stubs(world, commands) + ":" + world.env["PATH"]}
-        self.store = world.store(scripts(world, commands))
+        world.let_scripts(do_nothing=True)
+        self.store = world.store(scripts(world, commands) | (contents or {}))
         self.cached()
         self.most = self.cached()
         # Those that aren't cached at all are started each time.
@@ -172,9 +173,7 @@ def stubs(world, commands):
         for word in called:
             path = os.path.join(folder, word)
             if word and "/" not in word and word not in (".", "..") and not os.path.exists(path):
-                with open(path, "wb") as file:
-                    file.write(b"#!/bin/sh\nexit 0\n")
-                os.chmod(path, 0o755)
+                write_program(path)
     return folder
 
 

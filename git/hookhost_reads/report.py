@@ -2,13 +2,15 @@
 import os
 import re
 
-from hookhost_reads.basics import as_pattern, below, extension, shown
+from hookhost_reads.basics import CONFIGURATION, as_pattern, below, extension, shown
 from hookhost_reads.configuration import x_reads_of
 from hookhost_reads.keys import Prober, items_of
 from hookhost_reads.world import traced
 
 # So many lines of a kind are printed of a hook, and then how many more there are.
 MOST_LINES = 10
+# What says that a command reads just the files that it is handed: no path begins so.
+NO_FILE = "^/"
 # With so many paths in a pattern, those of one folder and extension become one.
 MOST_PATHS, MOST_ALIKE = 20, 5
 # Folders of the system: who puts something there installs it.
@@ -24,7 +26,8 @@ def outside_of(commands, world):
     found = set()
     for command in commands:
         for path in command.opened.keys() - command.made:
-            if path.startswith("/") and not is_system(path) and path != world.place and below(world.place, path) is None and os.path.isfile(path) and path != world.program:
+            is_own = is_system(path) or path in (world.place, world.program) or below(world.place, path) is not None or world.is_of_import(path)
+            if path.startswith("/") and not is_own and os.path.isfile(path):
                 found.add(path)
     for depth in range(12, 1, -1):
         groups = {}
@@ -80,6 +83,9 @@ def tell(head, lines):
 
 def report(world, name, is_cautious):
     """Prints what is found of the hooks of a name, and returns whether something is missing."""
+    if name in world.left and name not in world.languages:
+        print(f"{name}: left to pre-commit, and so not traced")
+        return True
     commands, verdicts, said = traced(world, name)
     if not commands and world.languages.get(name, set()) & {"system", "script"} and not verdicts <= {"Skipped"}:
         said = said or ["strace shows no command"]
@@ -104,10 +110,13 @@ def report(world, name, is_cautious):
         tell_x_reads(world, name, commands, items, missing, is_cautious)
     tell("lists", [item.told for item in found if item.kind == "names"])
     tell("outside", outside_of(commands, world))
-    if any(command.calls_git for command in commands):
+    calls_git = any(command.calls_git for command in commands)
+    if calls_git:
         print("  calls Git")
     if "Failed" in verdicts:
         print("  failed")
+    elif not missing and not is_cautious and not calls_git:
+        tell_enough(world, name, commands, items)
     return bool(missing)
 
 
@@ -121,3 +130,22 @@ def tell_x_reads(world, name, commands, items, missing, is_cautious):
         print(f"  to be added to x_reads: {in_yaml(pattern_of(missing, ''))}")
     else:
         print(f"  x_reads: {in_yaml(pattern_of(missing, old))}")
+    tell_place(world, name)
+
+
+def tell_place(world, name):
+    """Prints in which entry of the team's configuration the pattern of a hook of another repository has to stand."""
+    for source in world.imported.sources(name) if world.imported else []:
+        print(f"  where: the hook {name} of {source}, in {world.staged.configuration}")
+
+
+def tell_enough(world, name, commands, items):
+    """Prints for a hook that has every file in its key, since the import doesn't know what it reads, which pattern has what it read."""
+    if world.imported is None or not world.imported.sees_all(name):
+        return
+    prober = Prober(world, name, commands, [], {CONFIGURATION: os.fsencode(world.imported.without_x_reads(name))})
+    if prober.never:
+        return
+    found = [item for item in set().union(*prober.missing(items).values()) if item.kind != "names"]
+    print(f"  every file is in the key, of which this is enough: x_reads: {in_yaml(pattern_of(found, '') if found else NO_FILE)}")
+    tell_place(world, name)

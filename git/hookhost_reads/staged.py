@@ -4,7 +4,7 @@ import re
 import shutil
 from dataclasses import dataclass
 
-from hookhost_reads.basics import CONFIGURATION, Refused, done
+from hookhost_reads.basics import CONFIGURATION, Refused, done, shown
 
 # The most bytes that hookhost takes of a file, and of a path.
 MOST_BYTES, MOST_PATH = 16 * 1024 * 1024, 4096
@@ -13,7 +13,7 @@ MOST_BYTES, MOST_PATH = 16 * 1024 * 1024, 4096
 @dataclass
 class Staged:
     """The staged files: the folder with their copies, their paths, which are executable, and which a commit would change. Also the names
-    of hookhost.link that none of them has."""
+    of hookhost.link that none of them has, and the path of the team's configuration."""
 
     folder: str
     top: str
@@ -23,6 +23,7 @@ class Staged:
     left_out: int = 0
     is_git: bool = False
     links: tuple = ()
+    configuration: str = CONFIGURATION
 
 
 def is_taken(path):
@@ -43,6 +44,15 @@ def git(*words, env=None, cwd=None, given=None):
 
 def names(data):
     return [os.fsdecode(name) for name in data.split(b"\0") if name]
+
+
+def name_of_configuration():
+    """The path of the configuration in the index, by `git config hookhost.config`."""
+    told = done(["git", "config", "hookhost.config"])
+    name = os.fsdecode(told.stdout).removesuffix("\n") if told.returncode == 0 else CONFIGURATION
+    if not re.fullmatch(r"[A-Za-z0-9_.+/-]+", name) or name.startswith("-") or {"", ".", ".."} & set(name.split("/")):
+        raise Refused(f"hookhost.config can't be {shown(name)}")
+    return name
 
 
 def staged_in_git(place):
@@ -74,7 +84,7 @@ def staged_in_git(place):
     executable = {path for path, (mode, _) in plain.items() if mode == b"100755"}
     links = [name.removesuffix("/") for name in names(done(["git", "config", "-z", "--get-all", "hookhost.link"]).stdout)]
     links = tuple(name for name in links if name not in plain and not any(path.startswith(name + "/") for path in plain))
-    return Staged(tree, top, sorted(plain), executable, [path for path in changed if path in plain], left_out, True, links)
+    return Staged(tree, top, sorted(plain), executable, [path for path in changed if path in plain], left_out, True, links, name_of_configuration())
 
 
 # The hook that copies what it finds to a folder.
@@ -117,6 +127,6 @@ def staged_files(program, place):
         staged = staged_in_git(place)
     else:
         raise Refused("here is neither a repository of hookhost (.hookhost) nor a working tree of Git")
-    if CONFIGURATION not in staged.paths:
-        raise Refused(f"no {CONFIGURATION} is staged")
+    if staged.configuration not in staged.paths:
+        raise Refused(f"no {staged.configuration} is staged")
     return staged

@@ -1,9 +1,10 @@
 """What is the same for all hooks, and what the commands of one did."""
 import os
 import re
+import sys
 
-from hookhost_reads.basics import CONFIGURATION, Refused, shown
-from hookhost_reads.configuration import languages_of
+from hookhost_reads.basics import CONFIGURATION, Refused, shown, write_program
+from hookhost_reads.configuration import imported, languages_of
 from hookhost_reads.staged import staged_files
 from hookhost_reads.store import Store
 from hookhost_reads.strace import TRACED, Command, strace_words
@@ -12,9 +13,10 @@ from hookhost_reads.strace import TRACED, Command, strace_words
 class World:
     """All that is the same for all hooks."""
 
-    def __init__(self, place, program, options):
+    def __init__(self, place, program, options, here):
         self.place, self.program, self.strace = place, program, strace_words()
         self.staged = staged_files(self.program, place)
+        self.imported = imported(self.program, self.staged, place, here)
         self.scratch = os.path.join(place, "runs", "scratch")
         os.mkdir(os.path.join(place, "runs"))
         modules = os.path.join(self.staged.top, "node_modules")
@@ -33,6 +35,7 @@ class World:
         self.env |= {"HOOKHOST_SCRATCH": self.scratch, "UV_USE_IO_URING": "0",
                      "GIT_CEILING_DIRECTORIES": os.path.join(place, "runs") + (":" + ceiling if ceiling else "")}
         self.languages = languages_of(self.program, self.staged, self.env)
+        self.left = self.imported.left if self.imported else []
         files = self.chosen(options)
         self.selections = [[path] for path in files] if options.each else [files]
         with open(os.path.join(self.staged.folder, CONFIGURATION), encoding="utf-8", errors="replace") as file:
@@ -50,7 +53,33 @@ class World:
         it = self.in_scratch.fullmatch(full)
         return it and it[1]
 
+    def let_scripts(self, do_nothing):
+        """Has the scripts that start imported hooks start nothing, or what they are for."""
+        if self.imported is None:
+            return
+        own, none, new = (self.imported.scripts + end for end in (".own", ".none", ".new"))
+        if not os.path.exists(none):
+            os.mkdir(none)
+            for name in os.listdir(own):
+                write_program(os.path.join(none, name))
+        os.symlink(none if do_nothing else own, new)
+        os.replace(new, self.imported.scripts)
+
+    def is_of_import(self, path):
+        """Whether an imported hook's command has the file in its name, by a digest: its environment, and what that leads to."""
+        return self.imported is not None and any(path == it or path.startswith(it + "/") for it in self.imported.looked)
+
     def chosen(self, options):
+        found = self.selected(options)
+        if CONFIGURATION not in found or self.imported is None and self.staged.configuration == CONFIGURATION:
+            return found
+        # Hooks find another text in its place.
+        print(f"hookhost-reads: left to pre-commit: {CONFIGURATION}, in whose place hooks find what hookhost reads", file=sys.stderr)
+        if found == [CONFIGURATION]:
+            raise Refused("there is no other file: --all-files takes all, --files some")
+        return [path for path in found if path != CONFIGURATION]
+
+    def selected(self, options):
         if options.all_files:
             return self.staged.paths
         if options.files is None:
@@ -70,6 +99,7 @@ class World:
 def traced(world, name):
     """What the commands of the hooks of a name did, how the hooks ended, and what couldn't be started."""
     commands, verdicts, said = {}, set(), []
+    world.let_scripts(do_nothing=False)
     for selection in world.selections:
         with world.store({}).trace(name, selection, TRACED, "--fresh") as (status, printed, errors, found):
             if status > 1:

@@ -17,6 +17,7 @@ import time
 
 sys.path.insert(0, os.path.abspath(f"{__file__}/../../shared"))
 from git_bridge_repository import PROGRAM, Answer, Repository, Wrong, check, configuration, environment, same, shell
+from hookhost_reads_imports import CASES as IMPORTS
 from hookhost_reads_tools import KNOWN, TELLING, TOLD, TREE, hooks_of, known_names
 from places import TOP
 
@@ -386,7 +387,7 @@ CASES = [
     a_hook_that_reads_what_it_is_handed, each_kind_of_look_is_told, what_is_told_is_answered_from_the_cache, an_old_pattern_is_kept, an_old_pattern_counts,
     scripts_of_the_tree_are_tried, a_file_that_is_handed_with_others_is_read_alone, files_outside_are_told, what_links_lead_to_is_found, hostile_names_are_quoted, many_files_become_one_pattern,
     hooks_that_fail_or_fix_are_told, a_hook_that_is_handed_nothing_sees_all, what_is_left_at_work_is_not_waited_for, a_hook_that_calls_git_is_told,
-    nothing_is_changed, a_repository_of_hookhost_is_looked_at, what_keeps_it_from_working_is_told,
+    nothing_is_changed, a_repository_of_hookhost_is_looked_at, what_keeps_it_from_working_is_told, *IMPORTS,
 ]
 
 

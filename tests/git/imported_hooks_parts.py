@@ -168,6 +168,7 @@ def hookhost_import_alone(top, env):
     check("left to pre-commit: 'dock': hookhost doesn't start hooks of the language docker_image" in answer.err, f"{answer!r}")
     here.git.write("made.yaml", answer.out)
     same("the language", re.findall("language: .*", answer.out), ['language: "pygrep"'])
+    check(f'  # of {hooks.folder}, v1.0\n  - id: "pyg"\n' in answer.out, f"the repository isn't told: {answer!r}")
     same("hookhost takes it", here.git.run(PROGRAM, "explain", "made.yaml").out.splitlines()[0], "made.yaml: taken, hooks: 1")
     answer = here.git.run(IMPORTER, "--help")
     same("--help", (answer.status, answer.out[:22]), (0, "Usage: hookhost-import"))
