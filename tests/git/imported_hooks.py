@@ -4,7 +4,7 @@
 Usage: tests/git/imported_hooks.py [PROGRAM [PART]]   (default: crates/hookhost/out/hookhost, and all cases; PART is one of a name)
 
 The repositories of the hooks are made on the spot (imported_hooks_made.py), and nothing comes from the network: pip has no index. The
-cases are in imported_hooks_runs.py, .._order.py, .._refusals.py and .._parts.py. Reports have to be those of pre-commit in a
+cases are in imported_hooks_runs.py, .._order.py, .._tools.py, .._refusals.py and .._parts.py. Reports have to be those of pre-commit in a
 clone of the same repository. It is Debian's pre-commit, or another one on the PATH.
 """
 import os
@@ -18,6 +18,7 @@ from imported_hooks_order import CASES as ORDER
 from imported_hooks_parts import CASES as PARTS
 from imported_hooks_refusals import CASES as REFUSALS
 from imported_hooks_runs import CASES as RUNS
+from imported_hooks_tools import CASES as TOOLS
 
 PART = sys.argv[2] if len(sys.argv) > 2 else ""
 SHOWS_TIMES = "IMPORTED_HOOKS_TIMES" in os.environ
@@ -37,7 +38,7 @@ def is_wrong(case, top, env):
 
 
 def main():
-    chosen = [case for case in (*RUNS, *ORDER, *REFUSALS, *PARTS) if PART in case.__name__]
+    chosen = [case for case in (*RUNS, *ORDER, *TOOLS, *REFUSALS, *PARTS) if PART in case.__name__]
     failed = 0
     with tempfile.TemporaryDirectory(dir="/dev/shm" if os.path.isdir("/dev/shm") else None) as top:
         home = os.path.join(top, "home")
