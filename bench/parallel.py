@@ -78,7 +78,7 @@ def time_case(folder, text, files, count, entry, own, alone):
     ours, theirs = os.path.join(folder, "ours"), os.path.join(folder, "theirs")
     make(ours, files, hooks(count, entry, "files: ^folder" + own), ([PROGRAM, "init"], [PROGRAM, "add", "."]))
     run = [PROGRAM, "run", "--all-files", "--fresh"]
-    timed = {"one at once": (ours, [*run, "--jobs=1"]), f"{AT_ONCE} at once": (ours, run)}
+    timed = {"one at once": (ours, [*run, "--jobs=1"]), f"{AT_ONCE} at once": (ours, [*run, f"--jobs={AT_ONCE}"])}
     timed["the commands alone"] = (ours, ["sh", "-c", f'seq {alone[0]} | xargs -P{AT_ONCE} -n1 sh -c "$0"', alone[1]])
     if PRE_COMMIT:
         make(theirs, files, hooks(count, entry, "files: ^folder"), (["git", "init", "--quiet", "."], ["git", "add", "--all"]))
