@@ -26,8 +26,8 @@ except ImportError as why:
 
 # Releases from 4.4 on have another name for each.
 SYSTEM, SCRIPT = ("system", "unsupported"), ("script", "unsupported_script")
-__all__ = ["Classifier", "SCRIPT", "SYSTEM", "Store", "UNSET", "all_hooks", "as_written", "environment_of", "install_hook_envs", "languages", "loaded",
-           "modules", "runs_plainly", "speaking", "text_of_some"]
+__all__ = ["Classifier", "SCRIPT", "SYSTEM", "Store", "UNSET", "all_hooks", "as_written", "environment_of", "install_hook_envs", "languages",
+           "loaded", "modules", "runs_plainly", "speaking", "text_of_some"]
 
 
 class Messages(logging.Handler):

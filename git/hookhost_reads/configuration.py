@@ -152,11 +152,12 @@ def imported(program, staged, place, here):
 
 
 def import_of(program, staged, place, here, team):
+    """Has hookhost-import make the team's configuration into one of local hooks, with all that it writes in this script's own folder."""
     importer = os.path.join(here, "hookhost-import")
     importer = importer if os.access(importer, os.X_OK) else shutil.which("hookhost-import")
     if importer is None or shutil.which("pre-commit") is None:
-        raise Refused(f"{told_refusal(program, staged)}\nTo go on, install pre-commit (pre-commit.com), which then installs the hooks of other repositories; or write them as "
-                      "local ones, as docs/FROM_PRE_COMMIT.md shows")
+        raise Refused(f"{told_refusal(program, staged)}\nTo go on, install pre-commit (pre-commit.com), which then installs the hooks of other "
+                      "repositories; or write them as local ones, as docs/FROM_PRE_COMMIT.md shows")
     print(f"hookhost-reads: {staged.configuration} has hooks that pre-commit installs: they are made ready", file=sys.stderr, flush=True)
     scripts, *lists = (os.path.join(place, name) for name in ("scripts", "served", "left", "looked"))
     os.mkdir(scripts + ".own")
@@ -165,7 +166,7 @@ def import_of(program, staged, place, here, team):
     if subprocess.run(words, cwd=staged.top, env=os.environ | {"HOOKHOST": program}, stdin=subprocess.DEVNULL).returncode:
         raise Refused(f"{told_refusal(program, staged)}\nThe hooks of {staged.configuration} can't be made ready by pre-commit")
     text, left, looked = (read(path) for path in lists)
-    made = Import(text, left.splitlines(), scripts, looked.split("\0")[:-1])
+    made = Import(text, left.split("\n")[:-1], scripts, looked.split("\0")[:-1])
     if made.left:
         print(f"hookhost-reads: left to pre-commit, and so not traced: {', '.join(made.left)}", file=sys.stderr, flush=True)
     return made

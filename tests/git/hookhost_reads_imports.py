@@ -22,9 +22,11 @@ def main():
     return len([open(name).read() for name in ("setup.cfg", *sys.argv[1:])]) < 2
 """
 FILES = (
-    (".pre-commit-hooks.yaml", MANIFEST, None), ("bin/rules.sh", '#!/bin/sh\ncat "${0%/*}/words" rules "$@" > /dev/null; test ! -e more/rules\n', 0o755), ("bin/words", "w\n", None),
-    ("bin/plain.sh", '#!/bin/sh\ncat "$@" > /dev/null\n', 0o755), ("bin/asks.sh", "#!/bin/sh\ncat rules > /dev/null; git status > /dev/null 2>&1 || true\n", 0o755),
-    ("bin/wrong.sh", "#!/bin/sh\ncat rules > /dev/null; exit 1\n", 0o755), ("tiny_hook.py", MODULE, None), ("setup.py", SETUP, None),
+    (".pre-commit-hooks.yaml", MANIFEST, None), ("bin/words", "w\n", None), ("tiny_hook.py", MODULE, None), ("setup.py", SETUP, None),
+    ("bin/rules.sh", '#!/bin/sh\ncat "${0%/*}/words" rules "$@" > /dev/null; test ! -e more/rules\n', 0o755),
+    ("bin/plain.sh", '#!/bin/sh\ncat "$@" > /dev/null\n', 0o755),
+    ("bin/asks.sh", "#!/bin/sh\ncat rules > /dev/null; git status > /dev/null 2>&1 || true\n", 0o755),
+    ("bin/wrong.sh", "#!/bin/sh\ncat rules > /dev/null; exit 1\n", 0o755),
 )
 TREE = {"a": "a\n", "b": "b\n", "rules": "r\n", "setup.cfg": "[x]\n", "values": "v\n"}
 LOCAL = "\n- repo: local\n  hooks:\n  - {id: loc, name: Local, language: system, entry: sh -c 'cat values \"$@\"' --, files: '^a$'}\n"
@@ -61,7 +63,8 @@ def hooks_of_other_repositories_are_traced(desk):
         same(name, told[name], [ALL_IN, ENOUGH + pattern, where(name, hooks)])
     same("those whose reads may be others", (told["asks"], told["wrong"]), ([ALL_IN, "calls Git"], [ALL_IN, "failed"]))
     same("loc", told["loc"], ["1 file missing from the key", "reads: values", "x_reads: '^values$'"])
-    same("with cautious keys", desk.told("rules", "wrong", "loc", "--cautious", "--files", "a", status=0), {"rules": [ALL_IN], "wrong": [ALL_IN, "failed"], "loc": [ALL_IN]})
+    told = desk.told("rules", "wrong", "loc", "--cautious", "--files", "a", status=0)
+    same("with cautious keys", told, {"rules": [ALL_IN], "wrong": [ALL_IN, "failed"], "loc": [ALL_IN]})
     same("the folder of Git", sorted(os.listdir(os.path.join(desk.git.folder, ".git"))), before)
     desk.is_clean()
     # With these lines an edit of another file starts none of them.
@@ -112,12 +115,14 @@ def without_pre_commit_the_ways_to_go_on_are_told(desk):
     hooks = hooks_of(desk)
     lay(desk, of_remote(hooks, "rules") + LOCAL)
     without = {"PATH": path_without(desk.home, "pre-commit")}
-    refused(desk, "hookhost-reads: the staged configuration is refused:", f"{CONFIGURATION}:2: ", "install pre-commit (pre-commit.com)", "docs/FROM_PRE_COMMIT.md", env=without)
+    refused(desk, "hookhost-reads: the staged configuration is refused:", f"{CONFIGURATION}:2: ", "install pre-commit (pre-commit.com)",
+            "docs/FROM_PRE_COMMIT.md", env=without)
     # Local ones need none.
     lay(desk, LOCAL)
     same("local hooks", desk.reads("--files", "a", env=without).out.split("\n")[0], "loc: 1 file missing from the key")
     lay(desk, of_remote(hooks, "nowhere"))
-    refused(desk, "hookhost-reads: .pre-commit-config.yaml has hooks that pre-commit installs", "`nowhere` is not present in repository", "can't be made ready by pre-commit")
+    refused(desk, f"hookhost-reads: {CONFIGURATION} has hooks that pre-commit installs", "`nowhere` is not present in repository",
+            "can't be made ready by pre-commit")
 
 
 CASES = [

@@ -61,7 +61,7 @@ def fail_fast_ends_the_run_for_both(top, env):
                 same(f"{what}: what is started", theirs, [f"h{at}" for at in range(len(wanted))])
             else:
                 ours, started = here.run(), here.started()
-            same(f"{what}: verdicts", [(name, verdict) for name, verdict in ours.verdicts], [(f"The hook h{at}", verdict) for at, verdict in enumerate(wanted)])
+            same(f"{what}: verdicts", ours.verdicts, [(f"The hook h{at}", verdict) for at, verdict in enumerate(wanted)])
             check(set(started) <= {f"h{at}" for at in range(len(wanted))}, f"{what}: {started} are started")
             left = [f"h{at}" for at, kind in enumerate(kinds.split()[:len(wanted)]) if kind.startswith("left")]
             same(f"{what}: what is left to pre-commit", [name for name in started if name in left], left)
@@ -105,7 +105,8 @@ def hooks_find_what_those_before_have_fixed(top, env):
         here.git.write(f".git/hookhost/lists/{name}.lock", "")
     here.git.add("a.txt", "a\n")
     ours = here.run()
-    same("after a kill", ([verdict for _, verdict in ours.verdicts], ours.lines(), here.git.read("a.txt")), (["Failed"] * 3, [], b"a\none\ntwo\nthree\n"))
+    same("after a kill", ([verdict for _, verdict in ours.verdicts], ours.lines()), (["Failed"] * 3, []))
+    same("what is fixed", here.git.read("a.txt"), b"a\none\ntwo\nthree\n")
 
 
 def lines_of(answer):
@@ -115,7 +116,8 @@ def lines_of(answer):
 
 def hooks_are_chosen_in_all_parts(top, env):
     """By an id that hooks of both have, by an alias, and by SKIP; and what is cached is counted over the parts."""
-    text = local(hook("same", "true"), hook("one", "true", is_left=True, keys=", alias: other"), hook("same", "true", is_left=True), hook("last", "true", keys=", alias: other"), hook("hand", "true", keys=", stages: [manual]"))
+    text = local(hook("same", "true"), hook("one", "true", is_left=True, keys=", alias: other"), hook("same", "true", is_left=True),
+                 hook("last", "true", keys=", alias: other"), hook("hand", "true", keys=", stages: [manual]"))
     here, there = by_hookhost(top, env, text), by_pre_commit(top, env, text)
     edit((here, there), {"a.txt": "a\n"})
     for words, wanted in ((["same"], ["same", "same"]), (["other"], ["one", "last"]), (["one"], ["one"]), ([], ["one", "same"])):
@@ -134,7 +136,8 @@ def hooks_are_chosen_in_all_parts(top, env):
 def all_files_end_with_a_failure_too(top, env):
     """With fail_fast no hook is run on the files that only pre-commit can hand to hooks, once one has failed."""
     hooks = remote(top, env)
-    text = of_remote(hooks, "scr") + local(hook("one", "! grep -q one a.txt", is_left=True)) + "\n- repo: meta\n  hooks:\n  - {id: identity, name: Identity}\n"
+    meta = "\n- repo: meta\n  hooks:\n  - {id: identity, name: Identity}\n"
+    text = of_remote(hooks, "scr") + local(hook("one", "! grep -q one a.txt", is_left=True)) + meta
     here = by_hookhost(top, env, text)
     edit((here,), {"a.txt": "a\n"})
     answer = here.run("--all-files")
@@ -144,13 +147,15 @@ def all_files_end_with_a_failure_too(top, env):
     same("without fail_fast", [name for name, _ in here.run("--all-files").verdicts], ["Script", "The hook one", "Identity", "Script"])
     # That of a hook counts too, whoever runs it, and one in the hook's own repository.
     ends, here_alone = "pass_filenames: false, fail_fast: true", local(hook("one", "! grep -q one a.txt"))
-    for what, held in (("at the top", f"fail_fast: true\nrepos:{text}"), ("of a hook that is left", "repos:" + text.replace("pass_filenames: false", ends)),
+    for what, held in (("at the top", f"fail_fast: true\nrepos:{text}"),
+                       ("of a hook that is left", "repos:" + text.replace("pass_filenames: false", ends)),
                        ("of a hook that isn't", "repos:" + of_remote(hooks, "scr") + here_alone.replace("pass_filenames: false", ends))):
         here.git.add(CONFIGURATION, held)
         answer = here.run("--all-files")
         same(f"with fail_fast {what}", (answer.status, [name for name, _ in answer.verdicts]), (1, ["Script", "The hook one"]))
         tells_the_end(answer)
-    hooks = remote(top, env, ((".pre-commit-hooks.yaml", f"- {{id: scr, name: Script, language: script, entry: bin/scr.sh, files: {LEFT}, types: [plain-text], fail_fast: true}}\n", None),), name="fast")
+    manifest = f"- {{id: scr, name: Script, language: script, entry: bin/scr.sh, files: {LEFT}, types: [plain-text], fail_fast: true}}\n"
+    hooks = remote(top, env, ((".pre-commit-hooks.yaml", manifest, None),), name="fast")
     edit((here,), {CONFIGURATION: "repos:" + of_remote(hooks, "scr") + local(hook("one", "true")), "a.txt": "BAD\n"})
     answer = here.run("--all-files")
     same("with that of its repository", (answer.status, [name for name, _ in answer.verdicts]), (1, ["Script"]))
@@ -158,7 +163,8 @@ def all_files_end_with_a_failure_too(top, env):
 
 
 def tells_the_end(answer):
-    check(f"no hook is run on the files that only pre-commit can hand them, since one failed and the configuration has fail_fast: {CONFIGURATION}" in answer.err, f"{answer!r}")
+    told = "no hook is run on the files that only pre-commit can hand them, since one failed and the configuration has fail_fast"
+    check(f"{told}: {CONFIGURATION}" in answer.err, f"{answer!r}")
 
 
 CASES = [fail_fast_ends_the_run_for_both, hooks_find_what_those_before_have_fixed, hooks_are_chosen_in_all_parts, all_files_end_with_a_failure_too]

@@ -17,11 +17,11 @@ READS = os.path.join(TOP, "git/hookhost-reads")
 MODULES = "/usr/lib/python3/dist-packages"
 # The packages of wheels: their modules, and what they need of the others.
 WHEELS = {
-    "black": (["black", "blib2to3", "_black_version.py"], ["click", "mypy_extensions", "packaging", "pathspec", "platformdirs"]), "click": (["click"], []),
-    "mypy_extensions": (["mypy_extensions.py"], []), "packaging": (["packaging"], []), "pathspec": (["pathspec"], []), "platformdirs": (["platformdirs"], []),
-    "isort": (["isort"], ["toml"]), "toml": (["toml"], []), "pyupgrade": (["pyupgrade"], ["tokenize_rt"]), "tokenize_rt": (["tokenize_rt.py"], []),
-    "flake8": (["flake8"], ["mccabe", "pycodestyle", "pyflakes"]), "mccabe": (["mccabe.py"], []), "pycodestyle": (["pycodestyle.py"], []), "pyflakes": (["pyflakes"], []),
+    "black": (["black", "blib2to3", "_black_version.py"], ["click", "mypy_extensions", "packaging", "pathspec", "platformdirs"]),
+    "isort": (["isort"], ["toml"]), "pyupgrade": (["pyupgrade"], ["tokenize_rt"]), "flake8": (["flake8"], ["mccabe", "pycodestyle", "pyflakes"]),
     "codespell": (["codespell_lib"], []), "yamllint": (["yamllint"], ["pathspec", "PyYAML"]), "PyYAML": (["yaml"], []),
+} | {name: ([name], []) for name in ("click", "packaging", "pathspec", "platformdirs", "pyflakes", "toml")} | {
+    name: ([name + ".py"], []) for name in ("mccabe", "mypy_extensions", "pycodestyle", "tokenize_rt")
 }
 SETUP = 'from setuptools import setup\nsetup(name="mirror-{0}", version="1.0", py_modules=[], install_requires={1})\n'
 # As in the repositories of these tools.
@@ -42,7 +42,7 @@ TOOLS = r"""
 - {id: no-eval, name: no eval, entry: '\beval\(', language: pygrep, types: [python]}
 - {id: no-orig, name: no backups, entry: Backups are not committed., language: fail, files: '\.orig$'}
 """
-TEXT = """repos:
+TEXT = """
 - repo: {formatters}
   rev: v1.0
   hooks:
@@ -76,20 +76,24 @@ TEXT = """repos:
   - {{id: check, name: values, language: script, entry: ./check, files: '^data/', x_reads: '^check$|^values$'}}
   - {{id: no-secrets, name: no secrets, language: fail, entry: Secrets are not committed., files: 'secret'}}
 """
-ORDER = ["pyupgrade", "isort", "black", "types", "no print", "flake8", "codespell", "yamllint", "shellcheck", "xmllint", "no blanket noqa", "no eval", "no backups", "numbers", "values", "no secrets"]
+ORDER = ["pyupgrade", "isort", "black", "types", "no print", "flake8", "codespell", "yamllint", "shellcheck", "xmllint", "no blanket noqa", "no eval",
+         "no backups", "numbers", "values", "no secrets"]
 # What starts a command, by the name that it notes.
 STARTS = ["pyupgrade", "isort", "black", "mypy", "flake8", "codespell", "yamllint", "shellcheck", "xmllint", "pygrep", "jq", "check"]
 GOOD = {
-    "app/__init__.py": "", "app/main.py": "import os\nimport sys\n\nfrom app.values import NUMBER\n\nLISTED = {os.name, sys.platform, str(NUMBER)}\n", "app/values.py": "NUMBER: int = 1\n",
-    "README.md": "# A title\n\nA text.\n", "conf/a.yaml": "first: 1\n", "run.sh": "#!/bin/sh\necho \"$1\"\n", "data/a.json": '{"number": 1}\n', "data/a.xml": "<data/>\n", "values": "1\n",
+    "app/main.py": "import os\nimport sys\n\nfrom app.values import NUMBER\n\nLISTED = {os.name, sys.platform, str(NUMBER)}\n",
+    "app/__init__.py": "", "app/values.py": "NUMBER: int = 1\n", "README.md": "# A title\n\nA text.\n", "conf/a.yaml": "first: 1\n",
+    "run.sh": "#!/bin/sh\necho \"$1\"\n", "data/a.json": '{"number": 1}\n', "data/a.xml": "<data/>\n", "values": "1\n",
     "check": '#!/bin/sh\necho check >> "$HOOKS_LOG"\ngrep -q "$(cat values)" data/a.json\n',
-    "mypy.ini": "[mypy]\ncache_dir = /dev/null\n", "setup.cfg": "[flake8]\nmax-line-length = 88\n", "pyproject.toml": '[tool.isort]\nprofile = "black"\n', ".yamllint": "extends: relaxed\nrules: {line-length: disable}\n",
+    "mypy.ini": "[mypy]\ncache_dir = /dev/null\n", "setup.cfg": "[flake8]\nmax-line-length = 88\n",
+    "pyproject.toml": '[tool.isort]\nprofile = "black"\n', ".yamllint": "extends: relaxed\nrules: {line-length: disable}\n",
 }
 # What hooks fix by themselves, and the rest.
 FIXED = {"app/main.py": "import sys, os\nfrom app.values import NUMBER\nLISTED = set([os.name, sys.platform, str( NUMBER )])\n"}
 BAD = {
-    "app/values.py": "import re\n\nNUMBER: int = \"1\"\nprint(eval(\"1\"))  # noqa\n", "README.md": "# A title\n\nTeh text.\n", "conf/a.yaml": "first: 1\nfirst: 2\n", "run.sh": "#!/bin/sh\necho $1\n",
-    "data/a.json": '{"number": null}\n', "data/a.xml": "<data>\n", "a.orig": "a\n", "data/secret": "s\n",
+    "app/values.py": "import re\n\nNUMBER: int = \"1\"\nprint(eval(\"1\"))  # noqa\n", "README.md": "# A title\n\nTeh text.\n",
+    "conf/a.yaml": "first: 1\nfirst: 2\n", "run.sh": "#!/bin/sh\necho $1\n", "data/a.json": '{"number": null}\n', "data/a.xml": "<data>\n",
+    "a.orig": "a\n", "data/secret": "s\n",
 }
 # Tools that aren't scripts of Python note by these what they start, and Python by the other.
 SHIM = '#!/bin/sh\necho {0} >> "$HOOKS_LOG"\nexec {1} "$@"\n'
@@ -108,17 +112,17 @@ def wheel(folder, name, modules, needs):
     head, = (read(os.path.join(info, each)) for each in ("METADATA", "PKG-INFO") if os.path.exists(os.path.join(info, each)))
     version = re.search("^Version: (.*)$", head, re.MULTILINE)[1]
     own = f"{name}-{version}.dist-info"
-    texts = {"METADATA": f"Metadata-Version: 2.1\nName: {name}\nVersion: {version}\n" + "".join(f"Requires-Dist: {each}\n" for each in needs),
-             "WHEEL": "Wheel-Version: 1.0\nGenerator: tests\nRoot-Is-Purelib: true\nTag: py3-none-any\n"}
+    texts = {f"{own}/METADATA": f"Metadata-Version: 2.1\nName: {name}\nVersion: {version}\n" + "".join(f"Requires-Dist: {each}\n" for each in needs),
+             f"{own}/WHEEL": "Wheel-Version: 1.0\nGenerator: tests\nRoot-Is-Purelib: true\nTag: py3-none-any\n"}
     if os.path.exists(os.path.join(info, "entry_points.txt")):
-        texts["entry_points.txt"] = read(os.path.join(info, "entry_points.txt"))
+        texts[f"{own}/entry_points.txt"] = read(os.path.join(info, "entry_points.txt"))
+    names = [path for module in modules for path in files_of(module)]
+    texts[f"{own}/RECORD"] = "".join(f"{path},,\n" for path in (*names, *texts, f"{own}/RECORD"))
     with zipfile.ZipFile(os.path.join(folder, f"{name}-{version}-py3-none-any.whl"), "w") as file:
-        names = [path for module in modules for path in files_of(module)]
         for path in names:
             file.write(os.path.join(MODULES, path), path)
-        for each, text in texts.items():
-            file.writestr(f"{own}/{each}", text)
-        file.writestr(f"{own}/RECORD", "".join(f"{path},,\n" for path in (*names, *(f"{own}/{each}" for each in (*texts, "RECORD")))))
+        for path, text in texts.items():
+            file.writestr(path, text)
 
 
 def files_of(module):
@@ -126,7 +130,8 @@ def files_of(module):
     top = os.path.join(MODULES, module)
     if os.path.isfile(top):
         return [module]
-    return [os.path.relpath(os.path.join(folder, name), MODULES) for folder, _, names in os.walk(top) for name in sorted(names) if not folder.endswith("__pycache__")]
+    found = [os.path.join(folder, name) for folder, _, names in os.walk(top) for name in sorted(names) if not folder.endswith("__pycache__")]
+    return [os.path.relpath(path, MODULES) for path in found]
 
 
 def read(path):
@@ -134,10 +139,11 @@ def read(path):
         return file.read()
 
 
-def mirror(top, env, name, manifest, files=()):
+def mirror(top, env, name, manifest, *file):
+    """A repository with hooks and one file more."""
     git = Repository.made(os.path.join(top, name), env)
-    for path, held, mode in ((".pre-commit-hooks.yaml", manifest, None), *files):
-        git.add(path, held, mode)
+    git.add(".pre-commit-hooks.yaml", manifest)
+    git.add(*file)
     release(git, "v1.0")
     return git.folder
 
@@ -151,11 +157,11 @@ def desk(top, env):
     for name in ("shellcheck", "xmllint", "jq"):
         write(os.path.join(top, "shims", name), SHIM.format(name, shutil.which(name)), 0o755)
     write(os.path.join(top, "python/sitecustomize.py"), CUSTOMIZE)
-    env = env | {"PIP_FIND_LINKS": os.path.join(top, "wheels"), "PATH": os.path.join(top, "shims") + ":" + env["PATH"], "PYTHONPATH": os.path.join(top, "python"),
-                 "PYTHONDONTWRITEBYTECODE": "1"}
-    formatters = mirror(top, env, "formatters", FORMATTERS, (("setup.py", SETUP.format("formatters", ["pyupgrade", "isort", "black"]), None),))
-    linters = mirror(top, env, "linters", LINTERS, (("setup.py", SETUP.format("linters", ["flake8", "codespell", "yamllint"]), None),))
-    tools = mirror(top, env, "tools", TOOLS, (("bin/shellcheck.sh", '#!/bin/sh\nexec shellcheck "$@"\n', 0o755),))
+    env = env | {"PIP_FIND_LINKS": os.path.join(top, "wheels"), "PATH": os.path.join(top, "shims") + ":" + env["PATH"],
+                 "PYTHONPATH": os.path.join(top, "python"), "PYTHONDONTWRITEBYTECODE": "1"}
+    formatters = mirror(top, env, "formatters", FORMATTERS, "setup.py", SETUP.format("formatters", ["pyupgrade", "isort", "black"]))
+    linters = mirror(top, env, "linters", LINTERS, "setup.py", SETUP.format("linters", ["flake8", "codespell", "yamllint"]))
+    tools = mirror(top, env, "tools", TOOLS, "bin/shellcheck.sh", '#!/bin/sh\nexec shellcheck "$@"\n', 0o755)
     return env, TEXT.format(formatters=formatters, linters=linters, tools=tools)
 
 
@@ -179,19 +185,13 @@ class Team(Side):
         return {path: held for path, held in self.git.working_files().items() if not path.startswith(".mypy_cache")}
 
 
-def team(top, env, name, text, words):
-    return Team(top, env, name, text.removeprefix("repos:"), words)
-
-
 def real_tools_of_other_repositories(top, env):
     env, text = desk(top, env)
-    here, there = team(top, env, "here", text, (BRIDGE, "run")), team(top, env, "there", text, ("pre-commit", "run", "--color", "never"))
-    sides = (here, there)
+    here, there = sides = Team(top, env, "here", text, (BRIDGE, "run")), Team(top, env, "there", text, ("pre-commit", "run", "--color", "never"))
     for side in sides:
         side.lay(GOOD | FIXED | BAD)
     # Over all files, of which some are fixed.
-    failed = {*ORDER}
-    ours = same_verdicts("the bad tree", here, there, failed)
+    ours = same_verdicts("the bad tree", here, there, {*ORDER})
     for side in sides:
         side.lay({path: side.git.read(path).decode() for path in FIXED})
         for path in BAD:
@@ -204,7 +204,9 @@ def real_tools_of_other_repositories(top, env):
     ours = same_verdicts("again", here, there, set(), lambda: same("what is started again", here.started(), on_configuration))
     edits(here, on_configuration)
     answer = here.git.run(READS, "--all-files", "--cautious")
-    same(f"what is missing from keys, with {answer!r}", (answer.status, "outside: " in answer.out, answer.out.count(": all that it reads is in the key\n")), (0, False, len(STARTS) + 1))
+    count = answer.out.count(": all that it reads is in the key\n")
+    # Two hooks start pygrep.
+    same(f"what keys have, with {answer!r}", (answer.status, "outside: " in answer.out, count), (0, False, len(STARTS) + 1))
     commits(here, there)
 
 
@@ -242,7 +244,7 @@ def edits(here, on_configuration):
 def commits(here, there):
     for side in (here, there):
         side.git.git("commit", "--quiet", "--no-verify", "-m", "m")
-        check(side.git.run(*(("pre-commit", "install") if side is there else (BRIDGE, "install"))).status == 0, "the hook of Git isn't installed")
+        same("install", side.git.run(side.words[0], "install").status, 0)
         side.lay({"app/main.py": FIXED["app/main.py"], "conf/a.yaml": "first: 1\nfirst: 2\n"})
     ours, theirs = (side.git.commit() for side in (here, there))
     not_made(ours)
