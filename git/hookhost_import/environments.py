@@ -1,4 +1,5 @@
 """What hooks run: the files of clones and environments, and of the programs outside to which these lead."""
+import hashlib
 import os
 import shutil
 
@@ -9,9 +10,20 @@ from hookhost_import.pre_commit_parts import environment_of
 LEFT_OUT = (".git", "__pycache__")
 
 
+class States:
+    """Whether the state of a file is a digest of what it holds, and not what the system keeps of it."""
+
+    by_content = False
+
+
 def state_of(path):
-    """What tells whether a file is still the same, without reading it."""
+    """What tells whether a file is still the same, by default without reading it."""
     try:
+        if States.by_content and os.path.isfile(path):
+            with open(path, "rb") as file:
+                return f"{path} {hashlib.sha256(file.read()).hexdigest()}"
+        if States.by_content and os.path.exists(path):
+            return f"{path} is a folder"
         found = os.stat(path)
     except OSError:
         return f"{path} is missing"

@@ -87,7 +87,10 @@ class Side:
 
 def by_hookhost(top, env, text, name="here"):
     from git_bridge_repository import BRIDGE
-    return Side(top, env, name, text, (BRIDGE, "run"))
+    side = Side(top, env, name, text, (BRIDGE, "run"))
+    # What is started is compared, and a hook that calls Git ahead of its turn starts again in its turn.
+    side.git.git("config", "hookhost.jobs", "1")
+    return side
 
 
 def by_pre_commit(top, env, text, name="there"):
