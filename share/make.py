@@ -52,6 +52,8 @@ columns, by default 80."),
     ("HOOKHOST_LINKS", "names with colons between, as .venv:node_modules. The commands of hooks find a link of each name to the file or folder of that \
 name in HOOKHOST_TOP, or without that in the current folder, unless a file of the run has the name. hookhost-git sets it to the names of hookhost.link."),
     ("HOOKHOST_SCRATCH", "hookhost-git sets it to the folder in which the commands of hooks run, in place of .hookhost/scratch."),
+    ("HOOKHOST_AHEAD", "hookhost-git sets it to a folder next to which commands of hooks run ahead of their turns. Without it, and with \
+HOOKHOST_GIT_CALLS, each runs in its turn."),
     ("HOOKHOST_GIT_CALLS", "hookhost-git sets it to a file in which its own git notes calls that found no repository. A command that made one has \
 no result: it is reported as a fault, and never cached."),
 ]

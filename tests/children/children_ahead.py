@@ -125,7 +125,7 @@ def children_of_a_large_tree_share_a_folder():
         commands = quiet if change is None else ["cat a.txt", change, "ls -A d . | sort", "exit 1"]
         told, wanted, begun, again = in_turn(LARGE, commands, 4)
         equal(told, wanted, f"outcomes next to {change!r}")
-        wanted = numbers_of(commands) if may_share() else [], numbers_of(commands, 2 if change and may_share() else 1)
+        wanted = [], numbers_of(commands, 2 if change and may_share() else 1)
         equal((begun, again), wanted, f"starts next to {change!r}, before the first turn and in all")
 
 

@@ -5,7 +5,7 @@ Usage: tests/git/git_bridge.py [--sample] [PROGRAM [PART [PLAYS [FIRST]]]]   (de
 
 PART is `cases`, `plays`, `kills`, or a part of a case's name.
 First come the promises of docs/GIT.md, case by case (tests/git/git_bridge_cases.py, .._fixes.py, .._forms.py, .._runs.py,
-.._calls.py, .._served.py, .._keeping.py, .._share.py, .._tools.py, .._links.py, .._partial.py and .._state.py), and what README.md shows
+.._calls.py, .._served.py, .._keeping.py, .._share.py, .._tools.py, .._links.py, .._partial.py, .._state.py and .._ahead.py), and what README.md shows
 (tests/git/git_bridge_readme.py). Then come random repositories that are compared with copies in which pre-commit is the hook
 (tests/git/git_bridge_plays.py), and kills (tests/git/git_bridge_kills.py). With --sample only some of the plays and of the kills come.
 """
@@ -16,6 +16,7 @@ import time
 
 sys.path.insert(0, os.path.abspath(f"{__file__}/../../shared"))
 from sample import TALLY, note, sampled, tally
+from git_bridge_ahead import CASES as AHEAD
 from git_bridge_calls import CASES as CALLS
 from git_bridge_cases import CASES
 from git_bridge_fixes import CASES as FIXES
@@ -59,7 +60,7 @@ def in_folder(action):
 
 def run_cases():
     """How many cases there were, and how many failed."""
-    cases = (*CASES, *FIXES, *FORMS, *RUNS, *CALLS, *SERVED, *KEEPING, *SHARED, *TOOLS, *LINKS, *PARTIAL, *STATES, readme_session)
+    cases = (*CASES, *FIXES, *FORMS, *RUNS, *CALLS, *SERVED, *KEEPING, *SHARED, *TOOLS, *LINKS, *PARTIAL, *STATES, *AHEAD, readme_session)
     chosen = [case for case in cases if PART == "cases" or PART in case.__name__]
     failed = [case.__name__ for case in chosen if in_folder(case)]
     for name in failed:

@@ -305,7 +305,8 @@ def git_in_other_places(top, env):
         wanted = asked.of_git(git)
         git.installed()
         made(git.commit(env=asked.env))
-        scratch = os.path.join(folder, "scratch") if place == "/nowhere" else os.path.join(folder, os.listdir(folder)[0], "scratch")
+        numbers = [name for name in os.listdir(folder) if not name.endswith(".ahead")]
+        scratch = os.path.join(folder, "scratch") if place == "/nowhere" else os.path.join(folder, numbers[0], "scratch")
         same(f"in {place}", asked.answers(scratch), wanted)
 
 

@@ -31,6 +31,8 @@ class Desk:
     def __init__(self, top, env, line="git log --oneline -1", keys=READS, name="git"):
         self.named, self.other = (os.path.join(top, f"{name}.{which}.log") for which in ("named", "other"))
         self.git = repository(top, env, *self.hooks(line, keys), name=name)
+        # A hook that calls Git ahead of its turn starts again in its turn.
+        self.git.git("config", "hookhost.jobs", "1")
         self.git.add("a.txt", "a\n")
         self.git.add("sub/b", "b\n")
 
@@ -328,6 +330,8 @@ def what_a_hook_does_to_it(top, env):
             same(f"what is told after {line!r}", (answer.lines(), "All changes" in answer.out), ([], False))
             same(f"the working files after {line!r}", git.working_files(), before)
             same(f"what is staged after {line!r}", git.store("cat", "--", STATE).out[:len(WORDS)], WORDS)
+    # A hook that calls Git ahead of its turn starts again in its turn.
+    git.git("config", "hookhost.jobs", "1")
     log = os.path.join(top, "git.named.log")
     git.configure("id: does, name: Does, language: system, always_run: true, pass_filenames: false, " + shell(f"echo x > {STATE}"), starts_hook(log, READS + ", files: 'txt$'", "git log --oneline -1", name="named"))
     for count in (1, 2):

@@ -140,7 +140,7 @@ def remembers_the_largest_answers_and_no_larger_ones(folder):
     play(folder, ["commit first\\n"])
     files, wanted = staged_rows(folder), sorted(map(row_of, large_answers()))
     for count in (1, 2):
-        said = run(folder, "run", "--all-files")
+        said = run(folder, "run", "--jobs=1", "--all-files")
         check(said == (1, b"".join(large_report()), TOO_LARGE), f"with large answers a run says {said!r:.2000}")
         starts = starts_of(folder, LARGE)
         check(starts == {name: count if name in FAULTS else 1 for name in LARGE}, f"large answers come of {starts!r} starts")

@@ -123,7 +123,7 @@ def runs_as_many_at_once_as_it_may(folder):
         says(tested.run(*words, "--jobs=3", MEETING="4", LIMIT=SHORT)[0], 1, f"{words!r} with three at once")
         check(tested.most_at_once() <= 3, f"{words!r}: more than three ran at once")
         do(tested.work, "forget")
-        says(tested.run(*words, MEETING="4", LIMIT=SHORT), (1, report(*ends), b""), f"{words!r} one after another")
+        says(tested.run(*words, "--jobs=1", MEETING="4", LIMIT=SHORT), (1, report(*ends), b""), f"{words!r} one after another")
         says(tested.most_at_once(), 1, f"{words!r}: how many ran at once of one that may")
         do(tested.work, "forget")
         passed = report(*((name, 0) for name, _, _ in hooks)) + (b"commit 1\n" if words[0] == "commit" else b"")
@@ -143,7 +143,28 @@ def runs_parts_of_one_hook_at_once(folder):
         wanted = [files[first:first + names] for first in range(0, len(files), names)]
         says(given, wanted, f"the names of parts of {keys}")
         do(tested.work, "forget")
-        says(tested.run("run", MEETING=str(parts), LIMIT=SHORT)[0], 1, f"parts of {keys} one after another")
+        says(tested.run("run", "--jobs=1", MEETING=str(parts), LIMIT=SHORT)[0], 1, f"parts of {keys} one after another")
+
+
+def is_limited():
+    """Whether a control group limits the time of processors."""
+    with suppress(OSError):
+        return not Path("/sys/fs/cgroup/cpu.max").read_text("ascii").startswith("max")
+    return False
+
+
+def runs_as_many_at_once_as_there_are_processors(folder):
+    """So it is without `--jobs`."""
+    usable = os.sched_getaffinity(0)
+    hooks = [(f"hook{at}", NO_NAMES, "meet") for at in range(4)]
+    for count in sorted({1, 1 if is_limited() else min(len(usable), 3)}):
+        tested = Repository(in_one_folder(folder, str(count)), hooks)
+        os.sched_setaffinity(0, sorted(usable)[:count])
+        try:
+            says(tested.run("run", "--all-files", "--fresh", MEETING=str(count))[0], 0, f"with {count} processors")
+        finally:
+            os.sched_setaffinity(0, usable)
+        says(tested.most_at_once(), count, f"how many ran at once with {count} processors")
 
 
 def never_runs_more_at_once(folder):
@@ -466,8 +487,8 @@ def refuses_other_numbers(folder):
             says((found[0], found[2], tested.begun()), (0, b"", ["hook"]), f"{words!r} with {given!r}")
 
 
-CASES = [runs_as_many_at_once_as_it_may, runs_parts_of_one_hook_at_once, never_runs_more_at_once, shows_durations_of_hooks_that_run_alone,
-         takes_few_open_files,
+CASES = [runs_as_many_at_once_as_it_may, runs_as_many_at_once_as_there_are_processors, runs_parts_of_one_hook_at_once,
+         never_runs_more_at_once, shows_durations_of_hooks_that_run_alone, takes_few_open_files,
          starts_nothing_after_a_hook_that_may_be_the_last, runs_a_serial_hook_alone, runs_hooks_of_a_message_one_after_another,
          starts_no_command_whose_answer_is_cached, sees_what_hooks_before_it_changed, takes_no_new_file_of_another, takes_nothing_of_another,
          ends_by_a_signal_while_several_run, runs_on_beside_commands_that_outlive_it, reports_commands_that_signals_end, refuses_other_numbers]

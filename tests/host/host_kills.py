@@ -147,14 +147,14 @@ def is_left_whole_by_kills_of_runs_and_commits(folder):
         write(base, name, held)
         do(base, "add", name)
     play(base, ["fix a 2", "set"])
-    words = ["run", "--hook-stage", "manual"]
+    words = ["run", "--jobs=1", "--hook-stage", "manual"]
     wanted = run(killed.copy(), *words)
     check_kills(killed, words, 1, lambda work: check(run(work, *words) == wanted, "after a kill a run says something else"))
-    check_kills(killed, ["commit", "-m", "second"], 0)
+    check_kills(killed, ["commit", "--jobs=1", "-m", "second"], 0)
     write(base, "bad", b"x" * 100000)
     do(base, "add", "bad")
     play(base, ["fix a 2", "set"])
-    check_kills(killed, ["commit", "-m", "refused"], 1)
+    check_kills(killed, ["commit", "--jobs=1", "-m", "refused"], 1)
 
 
 def is_left_whole_by_kills_of_forget(folder):

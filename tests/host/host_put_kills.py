@@ -162,7 +162,7 @@ def keeps_what_was_answered_before_a_kill_of_a_run(folder):
     """A killed run leaves the first of the answers that a whole one puts, each as the reference writes it down."""
     base = with_files(folder, PUT_FILES)
     play(base, ["commit first\\n", "fix a1 2", "set"])
-    putting = Putting(folder, base, ["run", "--all-files"], RUN_ANSWERS, len(RUN_ANSWERS))
+    putting = Putting(folder, base, ["run", "--jobs=1", "--all-files"], RUN_ANSWERS, len(RUN_ANSWERS))
     # One more child ends by a signal.
     check((putting.said[0], putting.starts) == (1, len(RUN_ANSWERS) + 1), f"a run starts {putting.starts} children")
     for work, count, _ in putting.each():
@@ -173,7 +173,7 @@ def keeps_what_was_answered_before_a_kill_of_a_commit(folder):
     """A killed commit is made or isn't, and leaves the first of the answers. Those of hooks after it are left only if it is made."""
     base = with_files(folder, COMMITTED)
     play(base, ["fix x 2", "set"])
-    putting = Putting(folder, base, ["commit", "-m", "text"], COMMIT_ANSWERS, len(COMMIT_ANSWERS) - 1)
+    putting = Putting(folder, base, ["commit", "--jobs=1", "-m", "text"], COMMIT_ANSWERS, len(COMMIT_ANSWERS) - 1)
     check((putting.said[0], putting.starts) == (0, len(COMMIT_ANSWERS)), f"a commit starts {putting.starts} children")
     for work, count, is_made in putting.each():
         if is_made:
@@ -200,7 +200,7 @@ def keeps_a_book_of_the_run(folder, base):
     """A killed run leaves one of the books that a whole one passes through, and the next run starts just what that one
     lacks."""
     play(base, ["fix a1 2", "set"])
-    words, programs, killed = ["run", "--all-files"], counted_programs(folder), Killed(folder, base)
+    words, programs, killed = ["run", "--jobs=1", "--all-files"], counted_programs(folder), Killed(folder, base)
     work = killed.copy()
     passed, starts = looked_up(model_of(book_in(work)), RUN_PARTS)
     before = state(work)

@@ -32,7 +32,9 @@ UNKNOWN = "exec < /dev/null; " + WAITS + '{ rm -f a; echo late > b; echo late > 
 # Lets the child go on that waits, until it has done what it does late.
 MEETS = 'readlink /proc/$(cat $TOP/pid)/cwd > $TOP/cwd; touch $TOP/go; until [ -e $TOP/done ]; do sleep 0.01; done\n'
 # Each run starts its children, with any results of those before it cached.
-RUN, TRY, COMMIT = ["run", "--all-files", "--fresh"], ["try", "told.yaml", "a", "b"], ["commit", "-m", "text"]
+# Each command runs in its turn: host_jobs.py plays those that run at the same time.
+IN_TURN = "--jobs=1"
+RUN, TRY, COMMIT = ["run", IN_TURN, "--all-files", "--fresh"], ["try", IN_TURN, "told.yaml", "a", "b"], ["commit", IN_TURN, "-m", "text"]
 ENDING = [signal.SIGTERM, signal.SIGINT, signal.SIGHUP, signal.SIGKILL]
 
 

@@ -39,7 +39,7 @@ import process_plays
 from host_books import book_of, children_in, model_of
 from host_program import LOCK, STORE, Wrong, check, paths_in, write
 from places import program
-from process_plays import RUNNING, Command, Play, line_of
+from process_plays import RUNNING, Command, Play, in_turn, line_of
 from stops_repository import LOG, QUICK, adopt_orphans, left_in, wait_for_orphans
 
 COMMANDS, SEED = int(OPTIONS.get("commands", 200)), int(OPTIONS.get("seed", 1))
@@ -106,7 +106,7 @@ class LongPlay(Play):
         call, number, seconds = self.chance.choice(list(CALLS)), self.chance.random(), self.chance.uniform(0, 1.5)
         at_a_call = ["strace", "-qq", "-o", "/dev/null", "-e", f"trace={call}", "-e", f"inject={call}:signal=KILL:when={1 + int(number * CALLS[call])}"]
         by_call = self.chance.random() < 0.7
-        program = subprocess.Popen([*at_a_call * by_call, PROGRAM, *command.words], cwd=host.folder, env=host.environment | skip,
+        program = subprocess.Popen([*at_a_call * by_call, PROGRAM, *in_turn(command)], cwd=host.folder, env=host.environment | skip,
                                    stdin=subprocess.DEVNULL, stdout=subprocess.PIPE, stderr=subprocess.DEVNULL)
         if not by_call:
             time.sleep(seconds * self.seconds)

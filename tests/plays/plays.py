@@ -127,7 +127,7 @@ class Table:
 def random_command(rng, machine, kind=None):
     """A command of this kind, or of any: its words, and the call that it is of a machine."""
     skip = [f"h{rng.randint(0, 3)}"] if rng.random() < 0.15 else ["other"] if rng.random() < 0.05 else []
-    kind = kind or rng.choices(["add", "configuration", "rm", "accept", "run", "commit", "log", "show", "forget", "limit"], [27, 7, 7, 12, 33, 20, 2, 3, 2, 4])[0]
+    kind = kind or rng.choices(["add", "configuration", "rm", "accept", "run", "message", "commit", "log", "show", "forget", "limit"], [27, 7, 7, 12, 33, 8, 20, 2, 3, 2, 4])[0]
     if kind == "configuration":
         found, text = random_configuration(rng)
         machine.configurations[text] = found
@@ -142,6 +142,9 @@ def random_command(rng, machine, kind=None):
         stage, files, only = rng.choice(["pre-commit", "pre-commit", "manual"]), rng.choice(["changed", "all"] * 4 + PATHS), rng.choice([""] * 7 + ["h0", "other", "nope"])
         how = rng.choice(["remembering", "remembering", "fresh"])
         return ("run", stage, files, only, how, ",".join(skip)), lambda host: host.run(stage, files, only, how == "fresh", skip)
+    if kind == "message":
+        stage, message = rng.choice(["prepare-commit-msg", "commit-msg"]), rng.choice(MESSAGES)
+        return ("message", stage, message, ",".join(skip)), lambda host: host.message(stage, message, skip)
     if kind == "commit":
         message, how = rng.choice(MESSAGES), rng.choice(["verified", "verified", "verified", "unverified"])
         return ("commit", message, how, ",".join(skip)), lambda host: host.commit(message, how, skip)

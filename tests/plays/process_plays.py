@@ -214,6 +214,12 @@ def random_again(rng, last):
 
 # ---- the hosts
 
+def in_turn(command):
+    """The words of a command whose hooks run each in its turn, so that what is started can be counted."""
+    word, *others = command.words
+    return (word, "--jobs=1", *others) if word in RUNNING else command.words
+
+
 class Host:
     """A repository in a folder of its own, and what the model says that is cached in it."""
 
@@ -232,7 +238,7 @@ class Host:
         if command.held is not None:
             write(self.folder, path, command.held)
         skip = {} if command.skip is None else {"SKIP": command.skip}
-        answer = run(self.folder, *command.words, program=PROGRAM, env=self.environment | skip)
+        answer = run(self.folder, *in_turn(command), program=PROGRAM, env=self.environment | skip)
         if command.held is not None:
             os.remove(os.path.join(self.folder, path))
             with suppress(OSError):

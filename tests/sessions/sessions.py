@@ -23,6 +23,7 @@ A session file holds cases. `== NAME` begins a case, in an empty folder. Within 
   -- stderr contains TEXT   a part of what it printed there
   -- status N       its exit status (0 if left out)
   -- output FILE    its standard output goes to this file, as /dev/full, and isn't compared
+  -- counted        hooks count their calls: from here on each `run`, `run-files` and `commit` has `--jobs=1`
   -- locked         another process holds the lock while the next command runs
   -- environment NAME=VALUE   the variable has this value in the next command's environment
   -- play           store_trial plays the lines that follow on the folder's store, and answers `ok` to each
@@ -90,7 +91,7 @@ def cases_of(path):
 
 def commands_of(steps):
     """The steps as a list of files to write, commands with what they must print, and looks at the folder."""
-    stdin, is_locked, environment, command = b"", False, {}, None
+    stdin, is_locked, environment, command, is_counted = b"", False, {}, None, False
     for head, body in steps:
         word, _, rest = head.partition(" ")
         if word in LAID or word in LOOKED_AT:
@@ -99,11 +100,15 @@ def commands_of(steps):
             stdin = rest or body.encode()
         elif word == "locked":
             is_locked = True
+        elif word == "counted":
+            is_counted = True
         elif word == "environment":
             name, _, value = rest.partition("=")
             environment[name] = value
         elif word in ("run", "run-bytes"):
             words = shlex.split(rest) if word == "run" else [unescaped(each) for each in rest.split()]
+            if is_counted and words[:1] and words[0] in RUNNING:
+                words.insert(1, "--jobs=1")
             command = {"words": words, "stdin": stdin, "stdout": b"", "stderr": b"", "part": None, "status": 0,
                        "output": None, "shown": None, "is_locked": is_locked, "environment": environment}
             stdin, is_locked, environment = b"", False, {}

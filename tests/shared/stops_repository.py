@@ -35,7 +35,9 @@ HOOKS = b"""repos:
   - {id: away, name: Away, language: system, entry: rm, files: '^d$', stages: [manual]}
   - {id: says, name: Says, language: system, entry: cat, files: '^a$', verbose: true, stages: [manual]}
 """
-RUN = ("run", "--hook-stage", "manual", "--all-files")
+# Each command runs in its turn, so that the calls of the system come in the same order each time.
+IN_TURN = "--jobs=1"
+RUN = ("run", IN_TURN, "--hook-stage", "manual", "--all-files")
 IDS = {"Look": "look", "Refuse": "refuse", "Write": "write", "Behind": "behind", "Mend": "mend", "Away": "away", "Says": "says"}
 LOOKS = (("status",), ("fixes",), ("log",), ("cat", "b"))
 # What a command prints that is refused, what it prints of what it did, and of a file among several.
@@ -402,11 +404,11 @@ def scenes_of(program, folder, only, hooks=HOOKS):
     scenes = [
         ("init", empty, ["init"]), ("add", base, ["add", "new"]), ("add several", base, ["add", "new", "many", "b"]),
         ("rm", base, ["rm", "e", "d"]), ("run", to_run, list(RUN), 3), ("accept", base, ["accept"]),
-        ("commit", to_commit, ["commit", "-m", "second"], 3, 1), ("refused commit", to_refuse, ["commit", "-m", "refused"], 2),
+        ("commit", to_commit, ["commit", IN_TURN, "-m", "second"], 3, 1), ("refused commit", to_refuse, ["commit", IN_TURN, "-m", "refused"], 2),
         ("forget", base, ["forget"], None), ("status", base, ["status"]),
         # What is used, numbered again and dropped, and how many may be.
         ("run that uses", to_use, list(RUN), 3), ("run that numbers anew", to_number, list(RUN), 3),
-        ("run that drops", to_drop, list(RUN), 3), ("commit that uses", to_commit_anew, ["commit", "-m", "second"], 3, 1),
+        ("run that drops", to_drop, list(RUN), 3), ("commit that uses", to_commit_anew, ["commit", IN_TURN, "-m", "second"], 3, 1),
         ("limit", base, ["memory", "--limit=2"], None),
         # Stores that become others first.
         ("status of version 1", first, ["status"]), ("run of version 1", first_to_run, list(RUN), 3),

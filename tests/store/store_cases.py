@@ -207,10 +207,12 @@ CHILDREN = [
 HOOKS_STORY = [
     ("accept-fixes", "no store"),
     ("run-hooks all", "no store"),
+    ("check-message m", "no store"),
     ("commit-verified m", "no store"),
     ("create", "ok"),
     ("accept-fixes", "refused\t11\tNoFixes\tnone"),
     ("run-hooks changed", "refused\t7\tNoConfig\tnone"),
+    ("prepare-message m", "refused\t7\tNoConfig\tnone"),
     ("commit-verified m", "refused\t10\tNothingStaged\tnone"),
     ("add - b.txt 1", "ok"),
     ("commit-unverified m", "refused\t7\tNoConfig\tnone"),
@@ -242,6 +244,11 @@ HOOKS_STORY = [
     ("commit-verified 3", "ok\tfailed\tcommit-msg"),
     ("commit-verified m", "ok\tcommitted\t2\ttold"),
     ("commit-verified m", "refused\t10\tNothingStaged\tnone"),
+    ("prepare-message m", "ok\tpassed\tm"),
+    ("check-message m", "ok\tfailed\tm"),
+    ("check-message m\\n", "ok\tpassed\tm\\nsigned\\n"),
+    ("check-message 2\\n", "ok\tpassed\t"),
+    ("check-message 3\\n", "ok\tfailed\tm\\n"),
     ("log", "ok\t1\tn\\n\t2\tm\\nsigned\\n"),
     ("add - b.txt 2", "ok"),
     ("run-hooks changed", "ok\tfailed\tb.txt\tgone"),
@@ -280,6 +287,11 @@ FOUR_STORY = [
     ("add - b.txt 0", "ok"),
     ("commit-verified 1", "ok\tfailed\tprepare-commit-msg"),
     ("answers", "ok\t3"),
+    ("prepare-message m\\n", f"ok\tpassed\t{MARKED}"),
+    ("answers", "ok\t3"),
+    (f"check-message {MARKED}", f"ok\tpassed\t{MARKED}signed\\n"),
+    ("answers", "ok\t4"),
+    ("log", f"ok\t1\t{MARKED}signed\\n\t2\t{MARKED}"),
 ]
 RUN_STORY = [
     ("create", "ok"),
@@ -301,7 +313,7 @@ STOPPED_CALLS = ["create", "stage plain a.txt 1", "stage executable tools/run 2"
                  "fix tools/run 8", "set", "stage-all add - b.txt 9 | add executable b.txt 10 | remove tools/run | add - dir/c 2 | add - dir/d "]
 STOPPED_COMMANDS = [*FOUR_CHILDREN, "create", f"stage plain {FOUR_STAGES}", "add - b.txt 1", "commit-verified m", "commit-unverified n", "run-hooks all",
                     "run-hooks changed", "run-hooks all", "edit-all add - a 8 | remove a | add executable dir/c 9 | add - dir/c 10", "run-hooks all",
-                    "accept-fixes", "remove dir/c", "forget-answers", "commit-verified m"]
+                    "accept-fixes", "remove dir/c", "forget-answers", "prepare-message m\\n", f"check-message {MARKED}", "check-message 3", "commit-verified m"]
 STOPPED_RUNS = [*RUN_CHILDREN, "create", f"stage plain {RUN_CONFIG}", "add - a.txt x\\t\\n", "run-hooks changed", "accept-fixes", "run-hooks changed",
                 "run-hooks changed", "forget-answers", "run-hooks changed"]
 # Looking up, caching and limiting.

@@ -118,14 +118,7 @@ impl<C: Children, W: Write> Children for ShownChildren<C, W> {
     }
 
     fn start_ahead(&mut self, asks: Vec<ChildAsk>, tree: &Tree) {
-        let before = self.inner.calls();
-        let (Some(terminal), Some(first)) = (&mut self.terminal, asks.first()) else {
-            self.inner.start_ahead(asks, tree);
-            return;
-        };
-        terminal.show(self.hook.as_ref(), first.words.as_slice(), before);
         self.inner.start_ahead(asks, tree);
-        terminal.clear();
     }
 }
 

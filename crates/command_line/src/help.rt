@@ -33,9 +33,9 @@ selects. The commands of system and script hooks run in .hookhost/scratch of the
 current folder, each over copies of all named files: no other file is written, and
 at the end that folder is removed. The report goes to standard output.
 
-With --jobs=N at most N commands run at the same time, and without it each runs
-alone. If one of them changes files, they are run again one after another, so the
-report is the same whatever N is. Those of a hook with require_serial: true run
+Several commands run at the same time: as many as there are processors, or at most N
+with --jobs=N. If one of them changes files, those after it are run again, so the
+report is the same as with --jobs=1. Those of a hook with require_serial: true run
 alone.
 
 Example:

@@ -159,10 +159,10 @@ their command reads, and commands of known tools. No failure is then taken from 
 cache. With --verbose the output of every hook is printed, and after the report
 'answered from the cache: N', how many commands weren't started.
 
-With --jobs=N at most N commands of hooks run at the same time; without it, and with
---verbose, each runs alone. If one of them changes files, they are run again one
-after another, so the report is the same whatever N is. Those of a hook with
-require_serial: true run alone.
+Several commands run at the same time: as many as there are processors, or at most N
+with --jobs=N. If one of them changes files, those after it are run again, so the
+report is the same as with --jobs=1. Those of a hook with require_serial: true run
+alone, and so do all with --verbose.
 
 Examples:
   hookhost run

@@ -158,7 +158,7 @@ IsStopOfItsList (Limit limit) stop = ⊥
 abbrev pub IsVariable : List ℕ → Type 0
 IsVariable word =
     (word ≡ codes "HOOKHOST_GIT_CALLS") ⊎ (word ≡ codes "HOOKHOST_SCRATCH") ⊎ (word ≡ codes "HOOKHOST_LINKS")
-    ⊎ (word ≡ codes "HOOKHOST_GIT_STATE")
+    ⊎ (word ≡ codes "HOOKHOST_GIT_STATE") ⊎ (word ≡ codes "HOOKHOST_AHEAD")
 
 -- the variable isn't UTF-8 or names what can't be, or memory was refused
 abbrev pub IsStopOfVariable : List ℕ → CommandStop → Type 0

@@ -12,7 +12,7 @@ use crate::terminal::terminal_of;
 use child_display::ShownChildren;
 use hook_base::{Items, OutOfMemory, Text};
 use hook_cli::{TryFault, skip_list_of};
-use process_children::ProcessChildren;
+use process_children::{ProcessChildren, usable_processors};
 use repository_files::SCRATCH;
 use std::alloc::Global;
 use std::env::{self, VarError};
@@ -29,15 +29,19 @@ const GIT_CALLS: &str = "HOOKHOST_GIT_CALLS";
 // Git's own.
 const SCRATCH_FOLDER: &str = "HOOKHOST_SCRATCH";
 
+// The variable by which Git's hook names the folder next to which children run ahead of their turns: there its
+// own `git` finds no repository, and records each call for the folder of the child.
+const AHEAD_FOLDER: &str = "HOOKHOST_AHEAD";
+
 /// Children that are processes and that a terminal shows.
 pub(crate) type RealChildren = HeardChildren<ShownChildren<ProcessChildren<HostRuntime>, Stderr>>;
 
-/// The children of a run on the repository, of which none has run yet, and at most so many at once, one if it
-/// isn't said. They run in the folder that the
-/// variable of Git's hook names, and otherwise in that of the repository. If a variable names a file of
-/// calls, a child during which a call was recorded there is a fault. If one names the file that represents
-/// Git's state, each child learns whether it has seen that. A variable that isn't UTF-8, or names what can't
-/// be, is `CommandStop::CannotUse`; want of memory is `CommandStop::Refused`.
+/// The children of a run on the repository, of which none has run yet, and at most so many at once, or as many as
+/// there are processors. They run in the folder that the variable of Git's hook names, and otherwise in that of
+/// the repository. If a variable names a file of calls, a child during which a call was recorded there is a
+/// fault, and several run at once only if another names the folder for those ahead of their turns. If one names
+/// the file that represents Git's state, each child learns whether it has seen that. A variable that isn't
+/// UTF-8, or names what can't be, is `CommandStop::CannotUse`; want of memory is `CommandStop::Refused`.
 pub(crate) fn children_of(rt: &HostRuntime, jobs: Option<u32>) -> Result<RealChildren, CommandStop>
     ensures { IfErr result IsStopOfChildren }
 {
@@ -46,12 +50,16 @@ pub(crate) fn children_of(rt: &HostRuntime, jobs: Option<u32>) -> Result<RealChi
         Some(folder) => folder,
         None => String::from_str(rt.alloc(), SCRATCH)?,
     };
+    let apart = named_by(rt.alloc(), AHEAD_FOLDER, env::var(rt, AHEAD_FOLDER))?;
     let links = linked(rt)?;
     let state = git_state(rt)?;
     let mut children = ProcessChildren::watching(rt.clone()?, folder, calls);
     children.link(links);
     if let Some(path) = state {
         children.tell_state(path);
+    }
+    if let Some(folder) = apart {
+        children.run_apart(folder);
     }
     Ok(shown(rt, children, jobs)?)
 }
@@ -63,7 +71,10 @@ fn shown(
     jobs: Option<u32>,
 ) -> Result<RealChildren, OutOfMemory> {
     let mut children = children;
-    children.run_at_once(jobs.unwrap_or(1) as usize);
+    children.run_at_once(match jobs {
+        Some(jobs) => jobs as usize,
+        None => usable_processors(rt),
+    });
     let shown = ShownChildren::new(children, terminal_of(rt));
     Ok(HeardChildren::new(rt.clone()?, shown))
 }
@@ -85,8 +96,8 @@ pub(crate) fn named_by(
     }
 }
 
-/// The children of a run without a repository, at most so many at once, one if it isn't said. Nothing is left
-/// of their folder at their end.
+/// The children of a run without a repository, at most so many at once, or as many as there are processors.
+/// Nothing is left of their folder at their end.
 pub(crate) fn passing_children(
     rt: &HostRuntime,
     jobs: Option<u32>,

@@ -5,14 +5,13 @@ use crate::ending::ChildEnding;
 use crate::kept_folder::keep_as;
 use crate::known_in_folders::KnownInFolders;
 use crate::laid_folder::{HeldLaid, LaidFolder};
-use crate::links::{WantedFiles, last_name};
+use crate::links::WantedFiles;
 use crate::outputs::NO_LIMIT;
 use crate::read_back::read_back;
 use crate::run_folders::FoldersAhead;
 use crate::side_by_side::RunningChildren;
 use child_port::{Answer, ChildAsk};
 use hook_base::{OutOfMemory, Text, Tree};
-use memchr::memmem;
 use std::alloc::{AllocError, Global};
 use std::fs::{File, Files};
 use std::mem;
@@ -24,6 +23,48 @@ const FILES_A_MILLISECOND: usize = 20;
 // Once more bytes of output wait for their turns, no child is started but that of the turn.
 const MOST_KEPT_BYTES: usize = 4_194_304;
 
+/// What children are asked ahead of their turns, and on which tree.
+#[derive(Drop)]
+pub(crate) struct AsksAhead {
+    /// What each is asked, in the order of their turns.
+    pub asks: Vec<ChildAsk>,
+    /// The tree.
+    pub tree: Tree,
+}
+
+impl AsksAhead {
+    /// These asks on this tree. A child that an earlier one would answer isn't among them: if the run asks it
+    /// nevertheless, it runs in its turn.
+    pub(crate) fn on(
+        alloc: Global,
+        asks: Vec<ChildAsk>,
+        tree: &Tree,
+    ) -> Result<AsksAhead, OutOfMemory> {
+        let mut others: Vec<ChildAsk> = Vec::with_capacity(alloc, asks.len())?;
+        for ask in asks {
+            let is_asked = others
+                .iter()
+                .any(|other| other.words == ask.words && other.seen == ask.seen);
+            if !is_asked {
+                others.push(ask)?;
+            }
+        }
+        Ok(AsksAhead {
+            asks: others,
+            tree: tree.copy()?,
+        })
+    }
+}
+
+/// The folders in which children may run.
+#[derive(Clone, Copy, Debug)]
+pub(crate) struct FolderCount {
+    /// How many there are.
+    pub folders: usize,
+    /// Whether the first one is for the child of the turn alone.
+    pub keeps_first: bool,
+}
+
 /// Children that were asked ahead of their turns on one tree. They are started in the order of their turns,
 /// while it is waited for the answer of one of them.
 #[derive(Drop)]
@@ -34,6 +75,10 @@ pub(crate) struct ChildrenAhead {
     next: usize,
     // A folder each, with the same numbers as the folders of the run.
     lanes: Vec<Lane>,
+    // Whether the first folder is for the child of the turn alone.
+    keeps_first: bool,
+    // How many may run at once.
+    most: usize,
     running: RunningChildren<SystemProcess>,
     // Whether no child has ended for as long as it takes to lay a further folder.
     has_waited: bool,
@@ -66,29 +111,30 @@ struct Lane {
 }
 
 impl ChildrenAhead {
-    /// Children that are asked on this tree, of which as many may run at once as there are folders. None is
-    /// started yet.
+    /// Children that are asked on this tree, of which so many may run at once in these folders. None is started
+    /// yet.
     pub(crate) fn asked(
         alloc: Global,
-        asks: Vec<ChildAsk>,
-        tree: &Tree,
-        folders: usize,
+        asks: AsksAhead,
+        folders: FolderCount,
+        most: usize,
     ) -> Result<ChildrenAhead, OutOfMemory> {
+        let AsksAhead { asks, tree } = asks;
         let mut asked = Vec::with_capacity(alloc, asks.len())?;
         for ask in asks {
             let standing = AskStanding::Comes;
             asked.push(AskedChild { ask, standing })?;
         }
-        ChildrenAhead::of(alloc, asked, tree, 0, folders)
+        ChildrenAhead::of(alloc, asked, tree, 0, folders, most)
     }
 
     /// Children that were asked on this tree, and have answered so, as far as there are answers.
     pub(crate) fn answered(
         alloc: Global,
-        asks: Vec<ChildAsk>,
+        asks: AsksAhead,
         answers: Vec<Option<Answer>>,
-        tree: &Tree,
     ) -> Result<ChildrenAhead, OutOfMemory> {
+        let AsksAhead { asks, tree } = asks;
         let mut asked = Vec::with_capacity(alloc, asks.len())?;
         for (ask, answer) in asks.into_iter().zip(answers) {
             let standing = match answer {
@@ -98,18 +144,23 @@ impl ChildrenAhead {
             asked.push(AskedChild { ask, standing })?;
         }
         let next = asked.len();
-        ChildrenAhead::of(alloc, asked, tree, next, 0)
+        let none = FolderCount {
+            folders: 0,
+            keeps_first: false,
+        };
+        ChildrenAhead::of(alloc, asked, tree, next, none, 0)
     }
 
     fn of(
         alloc: Global,
         asked: Vec<AskedChild>,
-        tree: &Tree,
+        tree: Tree,
         next: usize,
-        folders: usize,
+        count: FolderCount,
+        most: usize,
     ) -> Result<ChildrenAhead, OutOfMemory> {
-        let mut lanes = Vec::with_capacity(alloc, folders)?;
-        for _ in 0..folders {
+        let mut lanes = Vec::with_capacity(alloc, count.folders)?;
+        for _ in 0..count.folders {
             lanes.push(Lane {
                 was_laid: false,
                 child: 0,
@@ -117,11 +168,13 @@ impl ChildrenAhead {
             })?;
         }
         Ok(ChildrenAhead {
-            tree: tree.copy()?,
+            tree,
             asked,
             next,
             lanes,
-            running: RunningChildren::with_room(alloc, folders)?,
+            keeps_first: count.keeps_first,
+            most,
+            running: RunningChildren::with_room(alloc, count.folders)?,
             has_waited: false,
             has_failed: false,
         })
@@ -188,6 +241,8 @@ impl ChildrenAhead {
             asked: _,
             next: _,
             lanes: _,
+            keeps_first: _,
+            most: _,
             mut running,
             has_waited: _,
             has_failed: _,
@@ -225,11 +280,14 @@ impl ChildrenAhead {
     // The folder in which the next child starts now: one whose child has ended, or one that wasn't laid yet.
     fn lane_of_next(&self, turn: usize) -> Option<usize> {
         let is_ahead = self.next > turn;
-        if self.next >= self.asked.len() || is_ahead && self.kept_bytes() > MOST_KEPT_BYTES {
+        if !self.has_further() || is_ahead && self.kept_bytes() > MOST_KEPT_BYTES {
             return None;
         }
-        let mut lanes = self.lanes.iter();
-        let free = lanes.position(|lane| lane.was_laid && lane.laid.is_none());
+        if self.keeps_first && self.next == turn {
+            let first = self.lanes.first()?;
+            return first.laid.is_none().then_some(0);
+        }
+        let free = self.free();
         if free.is_some() {
             return free;
         }
@@ -238,6 +296,19 @@ impl ChildrenAhead {
         } else {
             None
         }
+    }
+
+    // Whether there is a child that may be started besides those that run.
+    fn has_further(&self) -> bool {
+        self.next < self.asked.len() && self.running.len() < self.most
+    }
+
+    // A folder in which a child ahead of its turn may run, and whose last child has ended.
+    fn free(&self) -> Option<usize> {
+        let from = usize::from(self.keeps_first);
+        let mut lanes = self.lanes.iter().skip(from);
+        let at = lanes.position(|lane| lane.was_laid && lane.laid.is_none())?;
+        Some(at.saturating_add(from))
     }
 
     // How many bytes of output wait for their turns.
@@ -251,13 +322,17 @@ impl ChildrenAhead {
         kept
     }
 
+    // A folder for children ahead of their turns that wasn't laid yet.
     fn unlaid(&self) -> Option<usize> {
-        self.lanes.iter().position(|lane| !lane.was_laid)
+        let from = usize::from(self.keeps_first);
+        let mut lanes = self.lanes.iter().skip(from);
+        let at = lanes.position(|lane| !lane.was_laid)?;
+        Some(at.saturating_add(from))
     }
 
     // How long to wait for a child before a further folder is laid.
     fn most_milliseconds(&self) -> i32 {
-        if self.next < self.asked.len() && self.unlaid().is_some() {
+        if self.has_further() && self.unlaid().is_some() {
             let milliseconds = (self.tree.len() / FILES_A_MILLISECOND).saturating_add(1);
             i32::try_from(milliseconds).unwrap_or(i32::MAX)
         } else {
@@ -336,7 +411,7 @@ impl ChildrenAhead {
                 output,
                 changes,
             };
-            if at == 0 || !names(&answer, last_name(scratch.place())) {
+            if folders.is_of_turn(at, scratch, &answer) {
                 asked.standing = AskStanding::Answered(answer);
             }
         }
@@ -368,21 +443,4 @@ impl AskedChild {
             AskStanding::Comes | AskStanding::Over => None,
         }
     }
-}
-
-// Whether a child may have written the name of the folder that it ran in, which isn't that of its turn.
-fn names(answer: &Answer, name: &str) -> bool {
-    has_name(answer.output.as_slice(), name)
-        || answer
-            .changes
-            .as_slice()
-            .iter()
-            .any(|change| match &change.now {
-                Some(now) => has_name(now.as_slice(), name),
-                None => false,
-            })
-}
-
-fn has_name(bytes: &[u8], name: &str) -> bool {
-    memmem::find(bytes, name.as_bytes()).is_some()
 }

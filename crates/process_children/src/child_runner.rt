@@ -1,7 +1,7 @@
 //! Runs children: lays out their files, starts them, and reads back what they left. Each runs in its turn, but
 //! for those that were started ahead of it, several at once.
 
-use crate::ahead::ChildrenAhead;
+use crate::ahead::{AsksAhead, ChildrenAhead, FolderCount};
 use crate::contents::PIECE_BYTES;
 use crate::ending::{ChildEnding, ending_of};
 use crate::first_troubles::FirstTroubles;
@@ -27,6 +27,9 @@ use std::{fs, io};
 // as long as a usual tool takes to start.
 const MOST_FILES_APART: usize = 400;
 
+// How many bytes all further folders of a run may hold, about.
+const MOST_BYTES_APART: usize = 1_073_741_824;
+
 /// Runs children, and keeps what is known of those before.
 #[derive(Drop)]
 pub(crate) struct ChildRunner<R: Files<File = File> + AllocGlobal + Drop> {
@@ -42,8 +45,12 @@ pub(crate) struct ChildRunner<R: Files<File = File> + AllocGlobal + Drop> {
     at_once: usize,
     // Whether children that ran at once in one folder have changed it.
     are_apart: bool,
+    // The folder next to which the further ones are, if the first is for the child of the turn alone.
+    apart: Option<String>,
     // The folders of children that run at once, but for the first.
     further: Vec<ScratchFolder>,
+    // What was asked, of which no child was started yet.
+    asked: Option<AsksAhead>,
     ahead: Option<ChildrenAhead>,
     // How long the file of calls was when these were asked.
     calls_before: u64,
@@ -72,7 +79,9 @@ impl<R: Files<File = File> + AllocGlobal + Drop> ChildRunner<R> {
             troubles: FirstTroubles::new(),
             at_once: 1,
             are_apart: false,
+            apart: None,
             further,
+            asked: None,
             ahead: None,
             calls_before: 0,
         }
@@ -99,9 +108,19 @@ impl<R: Files<File = File> + AllocGlobal + Drop> ChildRunner<R> {
         self.at_once = most;
     }
 
+    /// From now on children ahead of their turns run next to this folder, and not next to that of the turns.
+    pub(crate) fn run_apart(&mut self, folder: String) {
+        self.apart = Some(folder);
+    }
+
     /// How many children may be started at once ahead of the next turn.
     pub(crate) fn at_once(&self) -> usize {
-        self.at_once
+        // A call that is recorded for all of them would be that of none.
+        if self.calls.is_some() && self.apart.is_none() {
+            1
+        } else {
+            self.at_once
+        }
     }
 
     /// The first troubles.
@@ -123,7 +142,9 @@ impl<R: Files<File = File> + AllocGlobal + Drop> ChildRunner<R> {
             troubles: _,
             at_once: _,
             are_apart: _,
+            apart: _,
             further,
+            asked: _,
             ahead,
             calls_before: _,
         } = self;
@@ -237,14 +258,20 @@ impl<R: Files<File = File> + Processes<Started = SystemProcess> + AllocGlobal + 
 impl<R: Files<File = File> + Processes<Started = SystemProcess> + AllocGlobal + Drop> ChildRunner<
     R,
 > {
-    /// Asks children ahead of their turns on this tree, of which several run at once. The answers are kept, each
-    /// for its turn. A child that doesn't answer runs again in its turn, which then says why. If a call was
-    /// recorded meanwhile, no answer is kept.
+    /// Asks children ahead of their turns on this tree, of which several run at once. None is started before the
+    /// next turn. The answers are kept, each for its turn. A child that doesn't answer runs again in its turn, which
+    /// then says why. If a call was recorded meanwhile, no answer is kept.
     ///
     /// Those of a large tree share a folder, until some of them change it. Those of a small tree, and all after
-    /// that, have folders of their own, and are started while it is waited for one of them.
+    /// that, have folders of their own, and are started while it is waited for one of them. So have all if the first
+    /// folder is for the child of the turn alone.
     pub(crate) fn start_ahead(&mut self, asks: Vec<ChildAsk>, tree: &Tree) {
         self.end_ahead();
+        self.asked = AsksAhead::on(self.runtime.alloc(), asks, tree).ok();
+    }
+
+    // Begins with what was asked, before the first turn on its tree.
+    fn begin_ahead(&mut self, asked: AsksAhead) {
         if self.scratch.is_none() {
             match self.take_scratch() {
                 Ok(taken) => self.scratch = Some(taken),
@@ -256,18 +283,19 @@ impl<R: Files<File = File> + Processes<Started = SystemProcess> + AllocGlobal + 
         };
         self.calls_before = calls;
         let alloc = self.runtime.alloc();
-        let may_share = tree.len() > MOST_FILES_APART && !self.are_apart;
+        let is_large = asked.tree.len() > MOST_FILES_APART;
+        let may_share = is_large && !self.are_apart && self.apart.is_none();
         let shared = if may_share {
-            self.answers_together(asks.as_slice(), tree)
+            self.answers_together(asked.asks.as_slice(), &asked.tree)
         } else {
             None
         };
         let ahead = match shared {
-            Some(answers) => ChildrenAhead::answered(alloc, asks, answers, tree),
+            Some(answers) => ChildrenAhead::answered(alloc, asked, answers),
             None => {
                 self.are_apart = self.are_apart || may_share;
-                let folders = self.take_folders(asks.len());
-                ChildrenAhead::asked(alloc, asks, tree, folders)
+                let folders = self.take_folders(asked.asks.len(), &asked.tree);
+                ChildrenAhead::asked(alloc, asked, folders, self.at_once)
             }
         };
         self.ahead = ahead.ok();
@@ -283,25 +311,35 @@ impl<R: Files<File = File> + Processes<Started = SystemProcess> + AllocGlobal + 
             further: self.further.as_slice(),
             links: self.links.as_slice(),
             state: self.state.as_ref(),
+            records_calls: self.apart.is_some(),
         };
         let (known, piece) = (&mut self.known.first, piece.as_mut_slice());
         answers_together(&folders, asks, self.at_once, tree, known, piece)
     }
 
     // Takes as many folders as so many children need, and returns how many there are, the first one included.
-    fn take_folders(&mut self, asks: usize) -> usize {
-        let most = self.at_once.min(asks).saturating_sub(1);
-        let folder = self.folder.as_str().trim_end_matches('/');
+    fn take_folders(&mut self, asks: usize, tree: &Tree) -> FolderCount {
+        let most = most_further(self.at_once, asks, tree, self.apart.is_some());
+        let folder = self.apart.as_ref().unwrap_or(&self.folder);
+        let folder = folder.as_str().trim_end_matches('/');
         let (further, known) = (&mut self.further, &mut self.known);
         if let Some(first) = &self.scratch {
             take_further(&self.runtime, first, folder, further, known, most);
         }
-        most.min(self.further.len()).saturating_add(1)
+        FolderCount {
+            folders: most.min(self.further.len()).saturating_add(1),
+            keeps_first: self.apart.is_some(),
+        }
     }
 
     // The answer to what was asked ahead of this turn on this tree. If a call was recorded since, there is none,
     // nor to anything else that was asked then.
     fn answer_ahead(&mut self, words: &[Text], tree: &Tree, seen: &Tree) -> Option<Answer> {
+        if let Some(asked) = self.asked.take() {
+            if asked.tree == *tree {
+                self.begin_ahead(asked);
+            }
+        }
         if !self.ahead.as_ref()?.are_of(tree) {
             self.end_ahead();
             return None;
@@ -326,6 +364,7 @@ impl<R: Files<File = File> + Processes<Started = SystemProcess> + AllocGlobal + 
             further: self.further.as_slice(),
             links: self.links.as_slice(),
             state: self.state.as_ref(),
+            records_calls: self.apart.is_some(),
         };
         let (known, piece) = (&mut self.known, piece.as_mut_slice());
         let ahead = self.ahead.as_mut()?;
@@ -352,6 +391,7 @@ impl<R: Files<File = File> + Processes<Started = SystemProcess> + AllocGlobal + 
             further: self.further.as_slice(),
             links: self.links.as_slice(),
             state: self.state.as_ref(),
+            records_calls: self.apart.is_some(),
         };
         let (known, piece) = (&mut self.known, piece.as_mut_slice());
         let ahead = self.ahead.as_mut()?;
@@ -391,6 +431,29 @@ impl<R: Files<File = File> + Processes<Started = SystemProcess> + AllocGlobal + 
             None => Ok(0),
         }
     }
+}
+
+// How many further folders so many children of a tree need, of whom so many run at once.
+fn most_further(at_once: usize, asks: usize, tree: &Tree, keeps_first: bool) -> usize {
+    let others = asks.saturating_sub(1);
+    let most = if keeps_first {
+        at_once.min(others)
+    } else {
+        at_once.saturating_sub(1).min(others)
+    };
+    match MOST_BYTES_APART.checked_div(bytes_of(tree)) {
+        Some(room) => most.min(room),
+        None => most,
+    }
+}
+
+fn bytes_of(tree: &Tree) -> usize {
+    let mut bytes = 0usize;
+    for index in 0..tree.len() {
+        let file = tree.entry(index);
+        bytes = bytes.saturating_add(file.entry.bytes.len());
+    }
+    bytes
 }
 
 // The length of the file at a place, 0 if none is there.

@@ -21,7 +21,8 @@
 //! scratch folder of its own (`run_folders`), of whose files other things are known (`known_in_folders`). Those of
 //! a large tree first share one (`together`): their answers are kept only if none of them changed anything
 //! there, which another may have found (`last_change`). An answer is given in its turn, if the tree is still the
-//! same then.
+//! same then. A program that children call may work in the folder of the turns alone, as Git's does. Then that
+//! is only for the child of the turn, and what calls the program elsewhere runs again in its turn.
 //!
 //! Before the first call a folder is taken that no other run uses (`scratch_folder`). The file of `run_mark`
 //! says so. `removal` removes what a run left that a signal ended, and `input` shows whether a child of such

@@ -107,6 +107,9 @@ impl<
     /// own, next to that of the turns. Those of a tree of over 400 files first share one; once one of them changed
     /// anything there, for however short a time, they run again apart, since another may have found it. Nothing
     /// is kept of a child that gave no answer, or that names its own folder. These run in their turns.
+    ///
+    /// If calls are watched ([`watching`](ProcessChildren::watching)), each runs in its turn, unless
+    /// [`run_apart`](ProcessChildren::run_apart) says where they run ahead of it.
     pub fn run_at_once(&mut self, most: usize)
         ensures calls { ⟦<ProcessChildren<R> as Children>⟧.call_count self.new
             ≡ ⟦<ProcessChildren<R> as Children>⟧.call_count self.old }
@@ -114,6 +117,19 @@ impl<
             ≡ ⟦<ProcessChildren<R> as Children>⟧.fault_count self.old }
     {
         self.runner.set_at_once(most);
+    }
+
+    /// From now on children ahead of their turns run in further folders next to this one, and the folder of the
+    /// turns is for the child of the turn alone. A program that works there alone records next to a further folder
+    /// that a child has called it: in a file with the name of the folder and `.calls`. What that child answered
+    /// isn't kept, nor what names the parent of its folder: it runs again in its turn.
+    pub fn run_apart(&mut self, folder: String)
+        ensures calls { ⟦<ProcessChildren<R> as Children>⟧.call_count self.new
+            ≡ ⟦<ProcessChildren<R> as Children>⟧.call_count self.old }
+        ensures faults { ⟦<ProcessChildren<R> as Children>⟧.fault_count self.new
+            ≡ ⟦<ProcessChildren<R> as Children>⟧.fault_count self.old }
+    {
+        self.runner.run_apart(folder);
     }
 
     /// What kept the files of a child from being laid or read back, the first time that this was a fault.

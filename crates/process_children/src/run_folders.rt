@@ -1,11 +1,15 @@
 //! The scratch folders of a run: that of the turns, and further ones for children ahead of their turns.
 
 use crate::known_in_folders::KnownInFolders;
+use crate::links::last_name;
 use crate::scratch_folder::{AtEnd, ScratchFolder};
 use crate::start::start;
-use child_port::ChildAsk;
+use child_port::{Answer, ChildAsk};
 use hook_base::{RepoPath, Tree};
+use memchr::memmem;
+use std::fs;
 use std::fs::{File, Files};
+use std::io::ErrorKind;
 use std::process::{Child, Processes};
 
 /// The folders of a run, and what children find besides the files of their tree.
@@ -21,6 +25,9 @@ pub(crate) struct FoldersAhead<'a, R> {
     pub links: &'a [String],
     /// The file that represents Git's state, if children learn whether they have seen it.
     pub state: Option<&'a RepoPath>,
+    /// Whether a program that children call works in the first folder alone, and otherwise records the call next
+    /// to the folder.
+    pub records_calls: bool,
 }
 
 impl<'a, R> FoldersAhead<'a, R> {
@@ -47,6 +54,59 @@ impl<'a, R: Files<File = File> + Processes + AllocGlobal> FoldersAhead<'a, R> {
         let (words, state) = (ask.words.as_slice(), sees_state(self.state, &ask.seen));
         start(self.runtime, alloc, inside, byte, words, state).ok()
     }
+}
+
+impl<'a, R: Files<File = File> + AllocGlobal> FoldersAhead<'a, R> {
+    /// Whether a child that ran in the folder with this number answered what it does in its turn: it has called
+    /// nothing that works in the first folder alone, and hasn't written where it ran.
+    pub(crate) fn is_of_turn(&self, at: usize, scratch: &ScratchFolder, answer: &Answer) -> bool {
+        if at == 0 {
+            return true;
+        }
+        let place = scratch.place();
+        let has_called = self.records_calls && self.take_call(place);
+        let is_elsewhere = self.records_calls && names(answer, last_name(parent_of(place)));
+        !has_called && !is_elsewhere && !names(answer, last_name(place))
+    }
+
+    // Whether a call was recorded next to a folder. The record is removed.
+    fn take_call(&self, place: &str) -> bool {
+        let Ok(record) = format!(in self.runtime.alloc(); "{place}.calls") else {
+            return true;
+        };
+        match fs::metadata(self.runtime, record.as_str()) {
+            Err(e) if e.kind() == ErrorKind::NotFound => false,
+            _ => {
+                let _removed = fs::remove_file(self.runtime, record.as_str());
+                true
+            }
+        }
+    }
+}
+
+// The place of the folder in which a place is.
+fn parent_of(place: &str) -> &str {
+    match place.rsplit_once('/') {
+        Some((parent, _)) => parent,
+        None => "",
+    }
+}
+
+// Whether a child may have written this name.
+fn names(answer: &Answer, name: &str) -> bool {
+    has_name(answer.output.as_slice(), name)
+        || answer
+            .changes
+            .as_slice()
+            .iter()
+            .any(|change| match &change.now {
+                Some(now) => has_name(now.as_slice(), name),
+                None => false,
+            })
+}
+
+fn has_name(bytes: &[u8], name: &str) -> bool {
+    memmem::find(bytes, name.as_bytes()).is_some()
 }
 
 /// Whether a child that has seen these files has seen that of Git's state, or `None` if no path was given.
