@@ -33,7 +33,7 @@ def count_longer(width, found):
 def kit_imports():
     """The imports of lemmas of the kit's crates outside of proofs/Kit.antt. Those of its standard library are made to be used."""
     ours = {*os.listdir(CRATES), "std", "core", "std_alloc"}
-    for path in glob.glob(os.path.join(CRATES, "*", "*", "**", "*.antt"), recursive=True):
+    for path in glob.glob(os.path.join(CRATES, "*", "[ps]*", "**", "*.antt"), recursive=True):
         if os.path.basename(path) != "Kit.antt":
             with open(path, encoding="utf-8") as file:
                 yield from (crate for crate in KIT.findall(file.read()) if crate not in ours)

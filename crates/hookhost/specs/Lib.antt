@@ -1,5 +1,15 @@
 pub mod BuildStamps
+pub mod ColoredTexts
 pub mod FileTrees
+pub mod LinkedPlaces
+pub mod Names
+pub mod ObstacleLines
+pub mod Remedies
+pub mod StagedWords
 pub mod Stops
 pub mod StoreCalls
 pub mod StoreNeeds
+pub mod TrackedStores
+pub mod UndoneFixes
+pub mod UnshownTexts
+pub mod UnstagedWords

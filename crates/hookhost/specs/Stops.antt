@@ -19,6 +19,7 @@ use Rattle.command_line.specs.declared.line.Update.{Update}
 use Rattle.command_line.specs.declared.line.Update.TheVariants.{Add, Remove, Run, Accept, Commit, Forget, Limit}
 use Rattle.hook_base.specs.declared.file.File.{File}
 use Rattle.repository_files.specs.RepositoryFaults.{IsFaultOfOpening}
+use Rattle.text_output.specs.QuotedPaths.{told_path}
 use Rattle.hookhost.specs.FileTrees.{AreFilesOf}
 use Rattle.hookhost.specs.declared.stop.CommandStop.{CommandStop}
 use Rattle.hookhost.specs.declared.stop.CommandStop.TheVariants.{Usage, NotText, CannotUse, Refused, NoConfiguration, NoRepository, NoNewRepository, RefusedCommand}
@@ -33,6 +34,10 @@ status_of_stop (NoConfiguration fault) = 3
 status_of_stop (NoRepository fault) = 3
 status_of_stop (NoNewRepository fault) = 3
 status_of_stop (RefusedCommand refusal) = 3
+
+-- the line that says that a file or a folder can't be used
+abbrev pub unusable_line : List ℕ → List ℕ
+unusable_line name = codes "hookhost: cannot use " ++ told_path name ++ codes "\n"
 
 -- 0 if every hook passed, and 1 if one failed
 abbrev pub status_of_run : Bool → ℕ

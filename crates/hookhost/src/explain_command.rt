@@ -1,6 +1,9 @@
 //! `explain`: why a configuration is refused, or what its hooks will do.
 
-use crate::files::{STANDARD_INPUT, read_word};
+ghost use Rattle.std.specs.Prelude.{◌≡◌};
+ghost use Rattle.hookhost.specs.Names.{shown_name};
+
+use crate::files::{is_standard_input, read_word};
 use crate::folder_files::readable_files;
 use crate::stop::CommandStop;
 use configuration_explain::{Explanation, explain};
@@ -30,9 +33,12 @@ pub(crate) fn explain_file(rt: &HostRuntime, word: Text) -> Result<Explanation, 
 }
 
 // How messages show a file: by its name, or `<stdin>` for standard input.
-fn shown(name: &str) -> &str {
-    match name {
-        STANDARD_INPUT => "<stdin>",
-        name => name,
+fn shown(name: &str) -> &str
+    ensures { result.now ≡ shown_name name.now }
+{
+    if is_standard_input(name) {
+        "<stdin>"
+    } else {
+        name
     }
 }

@@ -1,6 +1,7 @@
 //! What the program reads from the working folder.
 
-ghost use Rattle.std.specs.Prelude.{IfErr, IfOk};
+ghost use Rattle.std.specs.Prelude.{◌≡◌, IfErr, IfOk};
+ghost use Rattle.hookhost.specs.Names.{is_standard_input};
 ghost use Rattle.hookhost.specs.FileTrees.{AreFilesOf, IsFileOf, IsTreeOf};
 ghost use Rattle.hookhost.specs.Stops.{IsStopOfFile, IsStopOfFiles};
 
@@ -59,7 +60,9 @@ fn read_plain_file<R: Files + AllocGlobal>(rt: &R, word: Text) -> Result<File, C
 pub(crate) fn read_configuration<R: Files + AllocGlobal>(
     rt: &R,
     word: Text,
-) -> Result<Vec<u8>, CommandStop> {
+) -> Result<Vec<u8>, CommandStop>
+    ensures { IfErr result (IsStopOfFile word) }
+{
     match read_up_to(rt, word.as_str(), MOST_CONFIGURATION_BYTES + 1) {
         Ok(bytes) => Ok(bytes),
         Err(error) => Err(CommandStop::of_file(&error, word)),
@@ -83,12 +86,16 @@ pub(crate) fn read_staged<R: Files + AllocGlobal>(
     }
 }
 
-/// The word that means standard input (POSIX.1-2017, XBD section 12.2, Guideline 13).
-pub(crate) const STANDARD_INPUT: &str = "-";
+/// Whether a word means standard input (POSIX.1-2017, XBD section 12.2, Guideline 13).
+pub(crate) fn is_standard_input(word: &str) -> bool
+    ensures { result ≡ is_standard_input word.now }
+{
+    word == "-"
+}
 
 /// The bytes of a word's file, or of standard input, at most so many. A file is read as by `read_up_to`.
 pub(crate) fn read_word(rt: &HostRuntime, word: &str, most: usize) -> io::Result<Vec<u8>> {
-    if word == STANDARD_INPUT {
+    if is_standard_input(word) {
         let mut bytes = Vec::new(rt.alloc());
         rt.reader().take(most as u64).read_to_end(&mut bytes)?;
         Ok(bytes)

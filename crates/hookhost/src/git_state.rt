@@ -3,10 +3,10 @@
 ghost use Rattle.std.specs.Prelude.{IfErr, codes};
 ghost use Rattle.hookhost.specs.Stops.{IsStopOfVariable};
 
+use crate::names::path_named;
 use crate::runs::named_by;
 use crate::stop::CommandStop;
-use hook_base::{PathFault, RepoPath, Text};
-use hook_cli::TryFault;
+use hook_base::{RepoPath, Text};
 use std::env;
 
 // The variable by which Git's hook names it. A child that has seen it finds a variable that says so: the key
@@ -21,9 +21,8 @@ pub(crate) fn git_state(rt: &HostRuntime) -> Result<Option<RepoPath>, CommandSto
     let Some(name) = named_by(rt.alloc(), GIT_STATE, env::var(rt, GIT_STATE))? else {
         return Ok(None);
     };
-    match RepoPath::read(rt.alloc(), name.as_str()) {
-        Ok(path) => Ok(Some(path)),
-        Err(PathFault::OutOfMemory) => Err(CommandStop::Refused(TryFault::OutOfMemory)),
-        Err(_fault) => Err(CommandStop::CannotUse(Text::copy_of(rt.alloc(), GIT_STATE)?)),
+    match path_named(rt.alloc(), name.as_str())? {
+        Some(path) => Ok(Some(path)),
+        None => Err(CommandStop::CannotUse(Text::copy_of(rt.alloc(), GIT_STATE)?)),
     }
 }

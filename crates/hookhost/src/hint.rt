@@ -1,7 +1,7 @@
 //! Hints at the next step, for a user at a terminal.
 
 use hook_base::RepoPath;
-use next_steps::{NextStep, word_or};
+use next_steps::{NextStep, undone_hint};
 use std::env::{self, VarError};
 use std::io::IsTerminal;
 
@@ -33,11 +33,7 @@ fn is_within_git_hook(rt: &HostRuntime) -> bool {
 /// Says that the fix of this path is undone, and how to get its bytes nevertheless: the fix is dropped by
 /// now.
 pub(crate) fn hint_undone(rt: &HostRuntime, path: &RepoPath) {
-    let path = path.as_str();
-    let word = word_or(path, "PATH");
-    if let Ok(text) = format!(in rt.alloc();
-        "hint: this undoes the fix of {path}: to take it over, hookhost run, then hookhost cat --fixed {word} > {word}"
-    ) {
+    if let Ok(text) = undone_hint(rt.alloc(), path.as_str()) {
         hint(rt, text.as_str());
     }
 }

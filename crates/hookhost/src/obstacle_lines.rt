@@ -1,9 +1,15 @@
 //! Reports what was in the way of children: of their files, and of a start.
+//!
+//! The contracts cite `specs/ObstacleLines.antt`.
+
+ghost use Rattle.std.specs.Prelude.{OnOk};
+ghost use Rattle.text_output.specs.Outputs.{Has, output_of};
+ghost use Rattle.hookhost.specs.ObstacleLines.{error_after, obstacle_line};
 
 use crate::runs::RealChildren;
 use process_children::Obstacle;
 use std::io::Write;
-use text_output::{Unwritten, write_path, write_pieces};
+use text_output::{Unwritten, write_out, write_path};
 
 // What comes before the place that was in the way of files, and before the word that could not be started.
 const AT: &str = "hookhost: ";
@@ -31,8 +37,19 @@ fn tell(rt: &HostRuntime, before: &str, trouble: Option<&Obstacle>) {
     }
 }
 
-fn say<W: Write>(writer: &mut W, before: &str, place: &str, error: &str) -> Result<(), Unwritten> {
-    write_pieces(writer, &[before])?;
+fn say<W: Write>(writer: &mut W, before: &str, place: &str, error: &str) -> Result<(), Unwritten>
+    ensures { OnOk result (Has (output_of (W.contents writer.old) (W.contents writer.new))
+        (obstacle_line before.now place.now error.now)) }
+{
+    write_out(writer, before.as_bytes())?;
     write_path(writer, place)?;
-    write_pieces(writer, &[": ", error, "\n"])
+    say_error(writer, error)
+}
+
+fn say_error<W: Write>(writer: &mut W, error: &str) -> Result<(), Unwritten>
+    ensures { OnOk result (Has (output_of (W.contents writer.old) (W.contents writer.new)) (error_after error.now)) }
+{
+    write_out(writer, b": ")?;
+    write_out(writer, error.as_bytes())?;
+    write_out(writer, b"\n")
 }

@@ -40,6 +40,7 @@ fn need_of_command(command: &Command) -> Requirement
         | Command::Remove { .. }
         | Command::Stage { .. }
         | Command::Run { .. }
+        | Command::Message { .. }
         | Command::Commit { .. }
         | Command::Forget
         | Command::Limit { .. } => Requirement::Nothing,

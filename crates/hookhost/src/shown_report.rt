@@ -1,6 +1,11 @@
 //! The report of a run as it is shown at a terminal, each hook's part once that hook has ended.
+//!
+//! The contracts cite `specs/UnshownTexts.antt`.
 
-use crate::colored_report::colored;
+ghost use Rattle.std.specs.Prelude.{◌≡◌, drop};
+ghost use Rattle.hookhost.specs.UnshownTexts.{is_all_shown, is_output, rest_of_report, unshown};
+
+use crate::colored_report::colored_text;
 use std::alloc::{AllocError, Global};
 use std::env;
 use std::fs::{File, OpenOptions};
@@ -56,7 +61,7 @@ impl ShownReport {
 
     fn show_part(&mut self, part: &[u8]) -> io::Result<()> {
         let part = if self.is_colored {
-            colored(self.alloc, part)?
+            colored_text(self.alloc, part)?
         } else {
             part.to_vec(self.alloc)?
         };
@@ -68,22 +73,43 @@ impl ShownReport {
 
     /// What isn't on standard output yet of the text that the report goes on with. Once a text isn't what is
     /// shown there, that is all of it and of what follows.
-    pub(crate) fn rest<'t>(&mut self, text: &'t [u8]) -> &'t [u8] {
-        let Screen::Output(_) = &self.screen else {
+    pub(crate) fn rest<'t>(&mut self, text: &'t [u8]) -> &'t [u8]
+        ensures { result.now ≡ rest_of_report self.old text.entry.now }
+    {
+        if !self.screen.is_output() {
             return text;
-        };
-        let left = self.shown.as_slice().get(self.written..).unwrap_or(&[]);
-        if left.starts_with(text) {
-            self.written = self.written.saturating_add(text.len());
-            return &[];
         }
-        let rest = text.strip_prefix(left).unwrap_or(text);
-        self.written = self.shown.len();
+        let rest = unshown(self.left(), text);
+        if is_all_shown(self.left(), text) {
+            self.written = self.written.saturating_add(text.len());
+        } else {
+            self.written = self.shown.len();
+        }
         rest
+    }
+
+    // What is shown beyond what the writer of the report has reached.
+    fn left(&self) -> &[u8]
+        ensures { result.now ≡ drop self.now.written self.now.shown.items }
+    {
+        if self.written < self.shown.len() {
+            &self.shown[self.written..]
+        } else {
+            &[]
+        }
     }
 }
 
 impl Screen {
+    fn is_output(&self) -> bool
+        ensures { result ≡ is_output self.now }
+    {
+        match self {
+            Screen::Output(_) => true,
+            Screen::Error(_, _) => false,
+        }
+    }
+
     fn write(&mut self, part: &[u8]) -> io::Result<()> {
         match self {
             Screen::Output(output) => {
@@ -114,5 +140,26 @@ fn screen_of(rt: &HostRuntime) -> Option<Screen> {
     match OpenOptions::new().append(true).open(rt, place.as_str()) {
         Ok(noted) => Some(Screen::Error(error, noted)),
         Err(_error) => None,
+    }
+}
+
+// Whether all of a text is shown, if this is shown from its begin on.
+fn is_all_shown(shown: &[u8], text: &[u8]) -> bool
+    ensures { result ≡ is_all_shown shown.now text.now }
+{
+    shown.starts_with(text)
+}
+
+// What isn't shown of a text, if this is shown. It is all of the text if that doesn't go on with it.
+fn unshown<'t>(shown: &[u8], text: &'t [u8]) -> &'t [u8]
+    ensures { result.now ≡ unshown shown.now text.entry.now }
+{
+    if is_all_shown(shown, text) {
+        return &[];
+    }
+    if text.starts_with(shown) {
+        &text[shown.len()..]
+    } else {
+        text
     }
 }

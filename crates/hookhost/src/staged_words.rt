@@ -1,14 +1,19 @@
 //! The files that the words of `add` name, each read once.
+//!
+//! The contracts cite `specs/StagedWords.antt`.
 
-ghost use Rattle.std.specs.Prelude.{IfErr};
+ghost use Rattle.std.specs.BTreeSet.{contains_text};
+ghost use Rattle.std.specs.Prelude.{◌≡◌, ◌||◌, false, true, string_bytes, IfErr, IfOk, MatchOption, OnOk};
+ghost use Rattle.named_files.specs.Words.{is_working_folder};
+ghost use Rattle.hookhost.specs.StagedWords.{IsStagedOnce, are_too_many, folder_path, is_folder_path};
 ghost use Rattle.hookhost.specs.Stops.{IsStopOfReading};
 
 use crate::files::read_staged;
 use crate::folder_files::files_below;
+use crate::names::path_named;
 use crate::stop::CommandStop;
 use commit_flow::StagingEdit;
-use hook_base::{Bytes, Mode, PathFault, RepoPath, Text};
-use hook_cli::TryFault;
+use hook_base::{Bytes, Mode, Text};
 use named_files::{is_working_folder, without_slashes};
 use repo_store::MOST_FILES;
 use std::collections::BTreeSet;
@@ -52,7 +57,9 @@ pub(crate) fn folder_of<R: Files + AllocGlobal>(
     rt: &R,
     word: &str,
 ) -> Result<Option<String>, CommandStop>
-    ensures { IfErr result IsStopOfReading }
+    ensures stopped { IfErr result IsStopOfReading }
+    ensures named { IfOk result (λ folder. MatchOption folder (is_working_folder word.now ≡ false)
+        (λ path. (string_bytes path ≡ folder_path word.now) × (is_folder_path word.now ≡ true))) }
 {
     if is_working_folder(word) {
         return Ok(Some(String::new(rt.alloc())));
@@ -62,10 +69,9 @@ pub(crate) fn folder_of<R: Files + AllocGlobal>(
         Ok(found) if found.is_dir() => {}
         _ => return Ok(None),
     }
-    match RepoPath::read(rt.alloc(), path) {
-        Ok(_) => Ok(Some(String::from_str(rt.alloc(), path)?)),
-        Err(PathFault::OutOfMemory) => Err(CommandStop::Refused(TryFault::OutOfMemory)),
-        Err(_) => Ok(None),
+    match path_named(rt.alloc(), path)? {
+        Some(_path) => Ok(Some(String::from_str(rt.alloc(), path)?)),
+        None => Ok(None),
     }
 }
 
@@ -100,18 +106,22 @@ fn gather_file<R: Files + AllocGlobal>(
     path: String,
     gathered: &mut Gathered,
 ) -> Result<(), CommandStop>
-    ensures { IfErr result IsStopOfReading }
+    ensures stopped { IfErr result IsStopOfReading }
+    ensures gathered { OnOk result (IsStagedOnce
+        (are_too_many gathered.old.edits.items || contains_text gathered.old.paths (string_bytes path))
+        gathered.old.mode (string_bytes path) gathered.old.edits.items gathered.new.edits.items) }
 {
-    if gathered.edits.len() > MOST_FILES || !gathered.paths.insert(path.clone()?)? {
+    if gathered.edits.len() > MOST_FILES {
+        return Ok(());
+    }
+    let is_new = gathered.paths.insert(path.clone()?)?;
+    if !is_new {
         return Ok(());
     }
     let path = Text::from(path);
-    let bytes = bytes_of(rt, &path)?;
-    gathered.edits.push(StagingEdit::Add {
-        path,
-        bytes: Bytes::from(bytes),
-        mode: gathered.mode,
-    })?;
+    let bytes = Bytes::from(bytes_of(rt, &path)?);
+    let mode = gathered.mode;
+    gathered.edits.push(StagingEdit::Add { path, bytes, mode })?;
     Ok(())
 }
 

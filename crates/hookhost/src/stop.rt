@@ -1,7 +1,8 @@
 //! Why the program ends without having done what its words ask for, and how it says so.
 
-ghost use Rattle.std.specs.Prelude.{◌≡◌, ◌↔◌, IsTrue};
-ghost use Rattle.hookhost.specs.Stops.{IsNoMemory, IsStopOfFile, StopsFor, of_check, of_command, status_of_stop};
+ghost use Rattle.std.specs.Prelude.{◌≡◌, ◌↔◌, IsTrue, OnOk};
+ghost use Rattle.text_output.specs.Outputs.{Has, output_of};
+ghost use Rattle.hookhost.specs.Stops.{IsNoMemory, IsStopOfFile, StopsFor, of_check, of_command, status_of_stop, unusable_line};
 
 use commit_flow::HostRefusal;
 use hook_base::{OutOfMemory, Text};
@@ -9,8 +10,8 @@ use hook_cli::TryFault;
 use hook_config::ConfigFault;
 use repository_files::{LOCK, RepositoryFault, STORE};
 use std::alloc::{AllocError, AllocFailed};
-use std::io;
-use text_output::{Unwritten, write_path, write_pieces};
+use std::io::{self, Write};
+use text_output::{Unwritten, write_out, write_path};
 
 // The exit status if the words name no command.
 const USAGE: u8 = 2;
@@ -189,7 +190,10 @@ pub(crate) fn tell(rt: &HostRuntime, stop: &CommandStop) -> u8
     let (is_said, status) = match stop {
         CommandStop::Usage(error) => (rt.eprint(error).is_ok(), USAGE),
         CommandStop::NotText => (rt.eprintln("error: a word is not UTF-8").is_ok(), USAGE),
-        CommandStop::CannotUse(word) => (say_unusable(rt, word.as_str()).is_ok(), REFUSED),
+        CommandStop::CannotUse(word) => (
+            say_unusable(&mut rt.stderr(), word.as_str()).is_ok(),
+            REFUSED,
+        ),
         CommandStop::Refused(fault) => (say_refused(rt, fault.number(), fault.name()), REFUSED),
         CommandStop::NoConfiguration(fault) => (
             say_refused(rt, fault.number(), fault.name()),
@@ -210,18 +214,19 @@ pub(crate) fn tell(rt: &HostRuntime, stop: &CommandStop) -> u8
 
 fn say_unused(rt: &HostRuntime, fault: &RepositoryFault) -> bool {
     match fault {
-        RepositoryFault::CannotUseStore => say_unusable(rt, STORE).is_ok(),
-        RepositoryFault::CannotUseLock => say_unusable(rt, LOCK).is_ok(),
+        RepositoryFault::CannotUseStore => say_unusable(&mut rt.stderr(), STORE).is_ok(),
+        RepositoryFault::CannotUseLock => say_unusable(&mut rt.stderr(), LOCK).is_ok(),
         RepositoryFault::NoStore(fault) => say_refused(rt, fault.number(), fault.name()),
     }
 }
 
 // A name whose bytes would end the line is in double quotes.
-fn say_unusable(rt: &HostRuntime, name: &str) -> Result<(), Unwritten> {
-    let mut err = rt.stderr();
-    write_pieces(&mut err, &["hookhost: cannot use "])?;
-    write_path(&mut err, name)?;
-    write_pieces(&mut err, &["\n"])
+fn say_unusable<W: Write>(writer: &mut W, name: &str) -> Result<(), Unwritten>
+    ensures { OnOk result (Has (output_of (W.contents writer.old) (W.contents writer.new)) (unusable_line name.now)) }
+{
+    write_out(writer, b"hookhost: cannot use ")?;
+    write_path(writer, name)?;
+    write_out(writer, b"\n")
 }
 
 fn say_refused(rt: &HostRuntime, number: u8, name: &str) -> bool {

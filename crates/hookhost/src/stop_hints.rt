@@ -1,10 +1,14 @@
 //! The next step after a stop.
+//!
+//! The contracts cite `specs/Remedies.antt`.
+
+ghost use Rattle.std.specs.Prelude.{◌≡◌};
+ghost use Rattle.hookhost.specs.Remedies.{if_store, remedy_for, remedy_for_kind, remedy_for_word};
 
 use crate::hint::{hint, hint_step};
 use crate::stop::CommandStop;
-use hook_base::Text;
 use hook_config::ConfigKind;
-use next_steps::{NextStep, word_or};
+use next_steps::{NextStep, explain_hint, folder_hint};
 use repository_files::{RepositoryFault, STORE};
 use std::fs;
 use std::io::ErrorKind;
@@ -17,27 +21,95 @@ pub(crate) const CONFIGURATION: &str = ".pre-commit-config.yaml";
 // The most folders above the working folder in which a repository is looked for.
 const MOST_FOLDERS: usize = 40;
 
+// What helps after a stop.
+#[derive(Clone, Copy, Debug)]
+enum Remedy {
+    // To find the repository or to make one, if there is no store.
+    FindRepository,
+    // To go on with the repository, if there is a store.
+    UseRepository,
+    // To learn what is wrong with the configuration.
+    ExplainConfiguration,
+    // To write the configuration, if there is none.
+    WriteConfiguration,
+    Nothing,
+}
+
 /// Says the remedy for a stop, if there is one.
 pub(crate) fn hint_at(rt: &HostRuntime, stop: &CommandStop) {
-    match stop {
-        CommandStop::NoRepository(RepositoryFault::CannotUseStore) if is_missing(rt, STORE) => {
-            hint_repository(rt);
+    match remedy_for(stop) {
+        Remedy::FindRepository => {
+            if is_missing(rt, STORE) {
+                hint_repository(rt);
+            }
         }
-        CommandStop::NoNewRepository(RepositoryFault::CannotUseStore) if is_file(rt, STORE) => {
-            hint_step(rt, NextStep::UseRepository);
+        Remedy::UseRepository => {
+            if is_file(rt, STORE) {
+                hint_step(rt, NextStep::UseRepository);
+            }
         }
-        CommandStop::NoConfiguration(fault) if fault.kind != ConfigKind::OutOfMemory => {
-            hint_step(rt, NextStep::ExplainConfiguration);
+        Remedy::ExplainConfiguration => hint_step(rt, NextStep::ExplainConfiguration),
+        Remedy::WriteConfiguration => {
+            if is_missing(rt, CONFIGURATION) {
+                hint_step(rt, NextStep::WriteConfiguration);
+            }
         }
-        CommandStop::CannotUse(word) if is_missing_configuration(rt, word) => {
-            hint_step(rt, NextStep::WriteConfiguration);
-        }
-        _ => {}
+        Remedy::Nothing => {}
     }
 }
 
-fn is_missing_configuration<R: Files>(rt: &R, word: &Text) -> bool {
-    word.as_str() == CONFIGURATION && is_missing(rt, CONFIGURATION)
+fn remedy_for(stop: &CommandStop) -> Remedy
+    ensures { result ≡ remedy_for stop.now }
+{
+    match stop {
+        CommandStop::NoRepository(fault) => if_store(fault, Remedy::FindRepository),
+        CommandStop::NoNewRepository(fault) => if_store(fault, Remedy::UseRepository),
+        CommandStop::NoConfiguration(fault) => remedy_for_kind(&fault.kind),
+        CommandStop::CannotUse(word) => remedy_for_word(word.as_str()),
+        CommandStop::Usage(_)
+        | CommandStop::NotText
+        | CommandStop::Refused(_)
+        | CommandStop::RefusedCommand(_) => Remedy::Nothing,
+    }
+}
+
+// The remedy, if the fault is that the store can't be used.
+fn if_store(fault: &RepositoryFault, remedy: Remedy) -> Remedy
+    ensures { result ≡ if_store fault.now remedy }
+{
+    match fault {
+        RepositoryFault::CannotUseStore => remedy,
+        RepositoryFault::CannotUseLock | RepositoryFault::NoStore(_) => Remedy::Nothing,
+    }
+}
+
+fn remedy_for_kind(kind: &ConfigKind) -> Remedy
+    ensures { result ≡ remedy_for_kind kind.now }
+{
+    match kind {
+        ConfigKind::OutOfMemory => Remedy::Nothing,
+        ConfigKind::Yaml(_)
+        | ConfigKind::Shape
+        | ConfigKind::MissingKey
+        | ConfigKind::BadStage
+        | ConfigKind::BadLanguage
+        | ConfigKind::RemoteRepo
+        | ConfigKind::BadPattern
+        | ConfigKind::BadEntry
+        | ConfigKind::BadArgs
+        | ConfigKind::Unsupported
+        | ConfigKind::TooMany => Remedy::ExplainConfiguration,
+    }
+}
+
+fn remedy_for_word(word: &str) -> Remedy
+    ensures { result ≡ remedy_for_word word.now }
+{
+    if word == CONFIGURATION {
+        Remedy::WriteConfiguration
+    } else {
+        Remedy::Nothing
+    }
 }
 
 // Says where the repository is, if it is in a folder above, and otherwise how one is made.
@@ -59,7 +131,7 @@ fn hint_repository(rt: &HostRuntime) {
 }
 
 fn hint_folder(rt: &HostRuntime, folder: &str) {
-    if let Ok(text) = format!(in rt.alloc(); "hint: the repository is in {folder}: cd {folder}") {
+    if let Ok(text) = folder_hint(rt.alloc(), folder) {
         hint(rt, text.as_str());
     }
 }
@@ -74,10 +146,7 @@ pub(crate) fn hint_refused_file(rt: &HostRuntime, file: &str) {
     if !is_file(rt, file) {
         return;
     }
-    let word = word_or(file, "CONFIG");
-    if let Ok(text) = format!(in rt.alloc();
-        "hint: hookhost explain {word} says what is wrong and where"
-    ) {
+    if let Ok(text) = explain_hint(rt.alloc(), file) {
         hint(rt, text.as_str());
     }
 }

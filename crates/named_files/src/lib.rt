@@ -8,7 +8,9 @@
 #![tactic(auto)]
 
 mod folders;
+mod named_paths;
 mod words;
 
 pub use folders::{is_left_out, is_of_repository, path_in};
+pub use named_paths::NamedPaths;
 pub use words::{beginning_below, begins_with, is_working_folder, without_slashes};

@@ -1,2 +1,3 @@
 pub mod CommandWords
+pub mod NamedHints
 pub mod NextSteps
