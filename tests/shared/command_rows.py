@@ -63,6 +63,10 @@ def run(files="changed", only="", skip="", stage="pre-commit", how="remembering"
     return line("run", stage, files, only, how, skip, out=out, err=err)
 
 
+def message(text, stage="commit-msg", skip="", out="all", err="all"):
+    return line("message", stage, text, skip, out=out, err=err)
+
+
 def commit(how="unverified", out="all", err="all"):
     return line("commit", "m", how, "", out=out, err=err)
 

@@ -348,6 +348,19 @@ class Ran(NamedTuple):
         return head + told_changes("change", self.changes) + with_length("report", self.report)
 
 
+class MessageRan(NamedTuple):
+    """The hooks about a message were run, and leave this message."""
+    passed: bool
+    report: bytes
+    message: bytes
+
+    def printed(self):
+        return ended(0 if self.passed else 1, self.report)
+
+    def told(self):
+        return f"message ran, {'passed' if self.passed else 'failed'}\n".encode() + with_length("message", self.message) + with_length("report", self.report)
+
+
 class Committed(NamedTuple):
     """A commit that is made. If its last hooks were stopped, `post` is a text that says why."""
     number: int
@@ -544,6 +557,12 @@ class Machine:
         self.fixes = self.fixes_to(run.tree)
         return Ran(run.passed, run.report, self.fixes, run.unsteady)
 
+    def message(self, stage, message, skip):
+        """The hooks of a stage about a message, which change nothing here but what is cached."""
+        run = run_stage(self.configuration(), stage, [MESSAGE], "", skip, self.staged | {MESSAGE: File(False, message)}, self.memory)
+        self.refuse_command()
+        return MessageRan(run.passed, run.report, run.tree[MESSAGE].contents if MESSAGE in run.tree else b"")
+
     def commit(self, message, how, skip):
         if self.staged == self.head():
             raise Refused("10 NothingStaged")
@@ -613,6 +632,9 @@ def call_of(command):
     if word == "run":
         stage, files, only, how, skip = given
         return lambda host: host.run(stage, files, only, how == "fresh", [name for name in skip.split(",") if name])
+    if word == "message":
+        stage, message, skip = given
+        return lambda host: host.message(stage, message, [name for name in skip.split(",") if name])
     if word == "commit":
         message, how, skip = given
         return lambda host: host.commit(message, how, [name for name in skip.split(",") if name])

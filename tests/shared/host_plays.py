@@ -21,8 +21,9 @@ def plain(path, contents):
     return {path: File(False, contents)}
 
 
-UNTRIMMED, TRIMMED = plain("a.txt", b"x \n"), plain("a.txt", b"x\n")
 BEGUN, MARKED, SIGNED = b"m\n", b"m\nmarked\n", b"m\nmarked\nsigned\n"
+PREPARE, CHECK = ("message", "prepare-commit-msg", BEGUN, ""), ("message", "commit-msg", MARKED, "")
+UNTRIMMED, TRIMMED = plain("a.txt", b"x \n"), plain("a.txt", b"x\n")
 TABLE = FixedTable([
     (["trim", "a.txt"], UNTRIMMED, Answer(0, b"", {"a.txt": b"x\n"})),
     (["trim", "a.txt"], TRIMMED, Answer(0, b"", {})),
@@ -40,6 +41,8 @@ PLAYS = [
     ([TRIM, LOOK], [add("a.txt", b"x\n"), RUN, FRESH_RUN, RUN]),
     # A commit refused and made, with a hook in each stage, and one more, of whose hooks each is cached.
     (STAGED, [add("a.txt", b"x \n"), COMMIT, ACCEPT, COMMIT, add("b.md", b"1\n"), COMMIT, FORGET]),
+    # Both stages about a message, each by itself, and a commit for which their results are cached.
+    (STAGED, [add("a.txt", b"x\n"), PREPARE, CHECK, COMMIT]),
 ]
 
 

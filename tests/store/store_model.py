@@ -322,6 +322,19 @@ class Model:
     def accept_fixes(self):
         return self.accept() if self.store["fixes"] else NO_FIXES
 
+    def prepare_message(self, message):
+        return self.run_on_message("prepare-commit-msg", message)
+
+    def check_message(self, message):
+        return self.run_on_message("commit-msg", message)
+
+    def run_on_message(self, stage, message):
+        """Whether the hooks of a stage pass that get a message, and the message that they leave. All else stays."""
+        if CONFIG_PATH not in self.store["staged"]:
+            return NO_CONFIG
+        tree, is_passed = self.run_stage(stage, [MESSAGE], self.store["staged"] | {MESSAGE: ("plain", message)})
+        return ("ok\tpassed\t" if is_passed else "ok\tfailed\t") + tree.get(MESSAGE, ("plain", ""))[1]
+
     def commit_verified(self, message):
         return self.uncommittable() or self.commit_behind_hooks(message, ["pre-commit", "prepare-commit-msg", "commit-msg"])
 
@@ -529,7 +542,7 @@ def random_play(seed, length):
     lines = ["create", *CHILDREN, f"stage plain {CONFIG}"]
     while len(lines) < length:
         path, content = chance.choice(paths), chance.choice(contents)
-        kind = chance.randrange(26)
+        kind = chance.randrange(28)
         if kind < 4:
             lines.append(f"stage {chance.choice(['plain', 'executable'])} {path} {content}")
         elif kind == 4:
@@ -562,6 +575,9 @@ def random_play(seed, length):
             lines.append(chance.choice(["limit", "answer-limit", f"set-limit {limit}", f"limit-answers {limit}"]))
         elif kind == 23:
             lines += ["close", *[f"execute {AT_ONCE_TO_VERSION_1}"][chance.randrange(2):], "open"]
-        else:
+        elif kind < 26:
             lines.append(f"{chance.choice(['commit-verified', 'commit-unverified'])} {chance.choice(['m', 'm', content])}")
+        else:
+            message = chance.choice(["m", "m\\n", content])
+            lines.append(f"{chance.choice(['prepare-message', 'check-message'])} {message}")
     return lines

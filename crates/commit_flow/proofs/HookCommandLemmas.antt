@@ -23,6 +23,7 @@ use Rattle.commit_flow.specs.declared.host_refusal.HostRefusal.{HostRefusal}
 use Rattle.commit_flow.specs.declared.reply.Reply.{Reply}
 use Rattle.commit_flow.specs.declared.reply.Reply.TheVariants.{Refused}
 use Rattle.commit_flow.specs.CommitCalls.{IsOneChange}
+use Rattle.commit_flow.specs.Commands.{IsDone}
 use Rattle.commit_flow.specs.Preparations.{LeavesTold}
 use Rattle.commit_flow.specs.Stops.{IsCrashSafe, LeavesStopped, Reaches}
 use Rattle.commit_flow.proofs.LeftLemmas.{left_then}
@@ -93,13 +94,17 @@ module _ {S : Type 0} (g : Ghosts S) (tells : List (List ℕ) → List File → 
   }
 
   -- hooks were run, and no change of the store was asked for
-  pub hooks_alone : (new : Shown S) (refusal : HostRefusal) → IsAtRest g old new → LeavesTold tells (remembered_by old.kept) (MayRemember g old) (MayRemember g new)
-      → IsCrashSafe g tells old new command (Refused refusal) parts
-  hooks_alone new refusal rest left = record {
+  pub hooks_unmade : (new : Shown S) (reply : Reply) → (¬ IsDone reply) → IsAtRest g old new → LeavesTold tells (remembered_by old.kept) (MayRemember g old) (MayRemember g new)
+      → IsCrashSafe g tells old new command reply parts
+  hooks_unmade new reply never rest left = record {
     stands = rest.stands;
     crash = stopped_so new (survives_weaker (state g old.conn) (state g new.conn) (LeavesRepository old.kept.repo) LeavesEither (λ _ trees leaves. inl leaves) rest.survives) left;
-    durable = λ done. absurd done;
+    durable = λ done. absurd (never done);
   }
+
+  pub hooks_alone : (new : Shown S) (refusal : HostRefusal) → IsAtRest g old new → LeavesTold tells (remembered_by old.kept) (MayRemember g old) (MayRemember g new)
+      → IsCrashSafe g tells old new command (Refused refusal) parts
+  hooks_alone new refusal rest left = hooks_unmade new (Refused refusal) (λ done. done) rest left
 
   -- and then this change was
   module _ (between new : Shown S) (after : Kept) (rest : IsAtRest g old between) (reached : (trees : Trees) → Leaves after trees → Reaches old.kept.repo command parts after.repo) where

@@ -1,4 +1,5 @@
 pub mod CandidateLemmas
+pub mod CheckedLawLemmas
 pub mod CommandLemmas
 pub mod CommitAnswerLemmas
 pub mod CommitEnds
@@ -11,7 +12,10 @@ pub mod FixLemmas
 pub mod HookCommandLemmas
 pub mod Kit
 pub mod LeftLemmas
+pub mod MessageAnswerLemmas
+pub mod MessageLawLemmas
 pub mod MessageLemmas
+pub mod MessageRunLemmas
 pub mod PathLemmas
 pub mod PlayAnswerLemmas
 pub mod PlayLawLemmas
@@ -26,3 +30,4 @@ pub mod StageAnswerLemmas
 pub mod StagesLemmas
 pub mod StepLemmas
 pub mod StopLawLemmas
+pub mod TrackedLemmas

@@ -16,7 +16,7 @@ use Rattle.hook_run.specs.OneAnswerLemmas.{none-unsteady}
 use Rattle.hook_run.specs.Parts.{Part}
 use Rattle.repo_store.specs.Repository.{Repository}
 use Rattle.commit_flow.specs.declared.command.Command.{Command}
-use Rattle.commit_flow.specs.declared.command.Command.TheVariants.{Run, Commit, Forget, Limit}
+use Rattle.commit_flow.specs.declared.command.Command.TheVariants.{Run, Message, Commit, Forget, Limit}
 use Rattle.commit_flow.specs.declared.host_refusal.HostRefusal.{HostRefusal}
 use Rattle.commit_flow.specs.declared.host_refusal.HostRefusal.TheVariants.{OutOfMemory, Store, Collision}
 use Rattle.commit_flow.specs.declared.reply.Reply.{Reply}
@@ -28,6 +28,7 @@ use Rattle.commit_flow.specs.StepLaws.{IsDecided, IsDecidedRefusal}
 use Rattle.commit_flow.specs.Steps.{Step}
 use Rattle.commit_flow.specs.TwoHosts.{IsSteady, IsUnhindered, IsUnhinderedPlay, IsUnhinderedRefusal, IsUnhinderedRun, without_memory, without_number}
 use Rattle.commit_flow.proofs.CommitAnswerLemmas.{same_commit}
+use Rattle.commit_flow.proofs.MessageAnswerLemmas.{same_message_run}
 use Rattle.commit_flow.proofs.PlayLawLemmas.{faults_at_least}
 use Rattle.commit_flow.proofs.PlayLemmas.{one_adds}
 use Rattle.commit_flow.proofs.RunAnswerLemmas.{AreAlike, same_run}
@@ -77,6 +78,8 @@ module _ (tells : List (List ℕ) → List File → Outcome → Type 0) (alone :
       → AreClear tells parts → AreClear tells more → AreAlike reply second after other
   same_step before after other (Run ask) reply second parts more step then unhindered both clear also =
       same_run before ask tells alone reply second parts more after other step then unhindered both clear also
+  same_step before after other (Message stage message skip) reply second parts more step then unhindered both clear also =
+      same_message_run tells before stage message skip alone reply second parts more after other step then unhindered both clear also
   same_step before after other (Commit message no_verify skip) reply second parts more step then unhindered both clear also =
       same_commit tells before message no_verify skip alone reply second parts more after other step then unhindered both clear also
   same_step before after other Forget reply second parts more step then unhindered both clear also = same_forget before after other reply second parts more step then unhindered both

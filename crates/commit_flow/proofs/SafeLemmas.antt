@@ -17,13 +17,16 @@ use Rattle.result_book.specs.Contents.{Contents}
 use Rattle.result_book.specs.Told.{AddsTold}
 use Rattle.repo_store.specs.StoreBooks.{IsAtRest, MayRemember, remembered_by}
 use Rattle.commit_flow.specs.declared.command.Command.{Command}
-use Rattle.commit_flow.specs.declared.command.Command.TheVariants.{Run, Commit, Forget, Limit}
+use Rattle.commit_flow.specs.declared.command.Command.TheVariants.{Run, Message, Commit, Forget, Limit}
 use Rattle.commit_flow.specs.declared.host_ask.HostAsk.{HostAsk}
 use Rattle.commit_flow.specs.declared.host_refusal.HostRefusal.{HostRefusal}
+use Rattle.commit_flow.specs.declared.message_stage.MessageStage.{MessageStage}
 use Rattle.commit_flow.specs.declared.reply.Reply.{Reply}
 use Rattle.commit_flow.specs.declared.reply.Reply.TheVariants.{Refused}
 use Rattle.commit_flow.specs.declared.staged_run.StagedRun.{StagedRun}
+use Rattle.commit_flow.specs.Commands.{IsDone}
 use Rattle.commit_flow.specs.CommitSteps.{IsCommitStep}
+use Rattle.commit_flow.specs.MessageSteps.{IsMessageStep}
 use Rattle.commit_flow.specs.Plays.{ArePlayed, IsPlay, Makes, RunsHooks}
 use Rattle.commit_flow.specs.Preparations.{LeavesTold}
 use Rattle.commit_flow.specs.RunSteps.{IsRunStep, IsStoppedStep, reply_of_run}
@@ -31,8 +34,8 @@ use Rattle.commit_flow.specs.Steps.{Step}
 use Rattle.commit_flow.specs.StoppedPlays.{ArePlayedSafely, ArePlayedSafelyFrom, IsSafePlay}
 use Rattle.commit_flow.specs.Stops.{IsCrashSafe, IsOneCommand, IsPlayedSafely, IsRememberedAfter, LeavesDone, LeavesStopped}
 use Rattle.commit_flow.proofs.CommitEnds.{IsEnded}
-use Rattle.commit_flow.proofs.HookCommandLemmas.{hooks_alone}
-use Rattle.commit_flow.proofs.PlayLemmas.{commit_played, limited_adds, play_of, played_back, run_played, runless_played, stopped_played}
+use Rattle.commit_flow.proofs.HookCommandLemmas.{hooks_alone, hooks_unmade}
+use Rattle.commit_flow.proofs.PlayLemmas.{commit_played, limited_adds, message_played, play_of, played_back, run_played, runless_played, stopped_played}
 
 -- ---- one command
 
@@ -61,6 +64,19 @@ module _ {S : Type 0} (g : Ghosts S) (tells : List (List ℕ) → List File → 
       → LeavesTold tells (remembered_by old.kept) (MayRemember g old) (MayRemember g new)
       → IsPlayedSafely g tells from to old new (Run ask) (Refused refusal)
   halted_safely ask refusal over rest left = stopped_safely ask refusal over (hooks_alone g tells (Run ask) old over.parts new refusal rest left)
+
+  -- hooks about a message, which change nothing of the repository
+  module _ (stage : MessageStage) (message : List ℕ) (skip : List (List ℕ)) (reply : Reply) (never : ¬ IsDone reply) where
+    pub message_safely : IsMessageStep tells from to old.kept.repo stage message skip reply new.kept.repo → IsAtRest g old new
+        → LeavesTold tells (remembered_by old.kept) (MayRemember g old) (MayRemember g new)
+        → IsPlayedSafely g tells from to old new (Message stage message skip) reply
+    unfolding message_played
+    message_safely over rest left = record {
+      entry = entry;
+      exit = exit;
+      played = message_played tells from to old.kept.repo stage message skip reply new.kept.repo over;
+      safe = hooks_unmade g tells (Message stage message skip) old (over.parts ++ over.left_out) new reply never rest left;
+    }
 
   module _ (message : List ℕ) (no_verify : Bool) (skip : List (List ℕ)) where
     -- a commit

@@ -10,7 +10,7 @@ use Rattle.repo_store.specs.Clashes.{Clashes}
 use Rattle.store_faults.specs.Limits.{Fits, IsSmall}
 use Rattle.repo_store.specs.Repository.{Repository}
 use Rattle.commit_flow.specs.declared.command.Command.{Command}
-use Rattle.commit_flow.specs.declared.command.Command.TheVariants.{Add, Remove, Stage, Accept, Run, Commit, Forget, Limit}
+use Rattle.commit_flow.specs.declared.command.Command.TheVariants.{Add, Remove, Stage, Accept, Run, Message, Commit, Forget, Limit}
 use Rattle.commit_flow.specs.declared.host_refusal.HostRefusal.{HostRefusal}
 use Rattle.commit_flow.specs.declared.host_refusal.HostRefusal.TheVariants.{OutOfMemory, Store, BadPath, NotStaged, TooLarge, TooMany, NoFixes, Collision, Clash}
 use Rattle.commit_flow.specs.declared.reply.Reply.{Reply}
@@ -227,6 +227,7 @@ one_answer before after other Accept (Refused r) (Refused s) parts more p q runl
 one_answer before after other Accept (Refused r) second parts more p q runless own also = absurd q
 one_answer before after other Accept reply second parts more p q runless own also = absurd p
 one_answer before after other (Run ask) reply second parts more p q runless own also = absurd runless
+one_answer before after other (Message stage message skip) reply second parts more p q runless own also = absurd runless
 one_answer before after other (Commit message no_verify skip) reply second parts more p q runless own also = absurd runless
 one_answer before after other Forget reply second parts more p q runless own also = absurd runless
 one_answer before after other (Limit most) reply second parts more p q runless own also = absurd runless

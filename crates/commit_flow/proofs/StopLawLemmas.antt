@@ -19,7 +19,7 @@ use Rattle.result_book.specs.Told.{IsTold}
 use Rattle.result_book.specs.ToldLemmas.{told-adds}
 use Rattle.commit_flow.specs.declared.command.Command.{Command}
 use Rattle.commit_flow.specs.declared.reply.Reply.{Reply}
-use Rattle.commit_flow.specs.declared.reply.Reply.TheVariants.{Added, Removed, Staged, Accepted, Ran, Committed, HooksFailed, Forgot, Limited, EditRefused, Refused}
+use Rattle.commit_flow.specs.declared.reply.Reply.TheVariants.{Added, Removed, Staged, Accepted, Ran, MessageRan, Committed, HooksFailed, Forgot, Limited, EditRefused, Refused}
 use Rattle.commit_flow.specs.Commands.{IsDone}
 use Rattle.commit_flow.specs.StoppedPlays.{ArePlayedSafely, AreRefused, AreSessions, IsLeftOf, IsReachedNext, IsSession, IsStepOver, LeavesSessions, Session}
 use Rattle.commit_flow.specs.Stops.{IsPlayedSafely, LeavesStopped, Reaches}
@@ -40,6 +40,7 @@ done_or_not Removed = inl tt
 done_or_not Staged = inl tt
 done_or_not (Accepted number) = inl tt
 done_or_not (Ran passed report changes unsteady) = inl tt
+done_or_not (MessageRan passed report left) = inr (λ done. done)
 done_or_not (Committed number reports post) = inl tt
 done_or_not (HooksFailed stage reports) = inl tt
 done_or_not (Forgot number) = inl tt

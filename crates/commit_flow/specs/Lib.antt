@@ -8,6 +8,10 @@ pub mod Configured
 pub mod EditSteps
 pub mod KeptByHooks
 pub mod MachineRuns
+pub mod MessageCalls
+pub mod MessageLaws
+pub mod MessageRuns
+pub mod MessageSteps
 pub mod Messages
 pub mod PlayLaws
 pub mod Plays

@@ -13,12 +13,13 @@ use Rattle.hook_run.specs.Moments.{Moment}
 use Rattle.hook_run.specs.Parts.{AllTold, Part}
 use Rattle.repo_store.specs.Repository.{Repository}
 use Rattle.commit_flow.specs.declared.command.Command.{Command}
-use Rattle.commit_flow.specs.declared.command.Command.TheVariants.{Run, Commit, Forget, Limit}
+use Rattle.commit_flow.specs.declared.command.Command.TheVariants.{Run, Message, Commit, Forget, Limit}
 use Rattle.commit_flow.specs.declared.reply.PostCommit.TheVariants.{Stopped}
 use Rattle.commit_flow.specs.declared.reply.Reply.{Reply}
 use Rattle.commit_flow.specs.declared.reply.Reply.TheVariants.{Committed, Forgot, Limited, Refused}
 use Rattle.commit_flow.specs.AnswerLimits.{IsLimitedTo}
 use Rattle.commit_flow.specs.CommitSteps.{HasBegunBefore, HasBegunBehind, HasFurtherBefore, HasFurtherBehind, SaysSpent, StandsOnAll}
+use Rattle.commit_flow.specs.MessageSteps.{HasMessageBegun, HasMessageFurther}
 use Rattle.commit_flow.specs.RunSteps.{HasRunBegun, HasFurther, IsUnrun}
 use Rattle.commit_flow.specs.Runs.{reuse_of}
 use Rattle.commit_flow.specs.Steps.{Step}
@@ -26,19 +27,22 @@ use Rattle.commit_flow.specs.Steps.{Step}
 -- the command runs hooks
 abbrev pub RunsHooks : Command → Type 0
 RunsHooks (Run ask) = Unit {0}
+RunsHooks (Message stage message skip) = Unit {0}
 RunsHooks (Commit message no_verify skip) = Unit {0}
 RunsHooks command = ⊥
 
--- which cached results the hooks of the command may use: a run may ask for fewer, a commit uses all
+-- which cached results the hooks of the command may use: a run may ask for fewer, the others use all
 abbrev pub reuse_in : Command → Reuse
 reuse_in (Run ask) = reuse_of ask
 reuse_in command = reuse.All
 
--- The hooks that the command runs begin with these parts. They are the hooks of a refused run, those before a
--- refused commit, or those after a commit that was made if they were stopped. The parts may be all that they
--- have, if memory or the store refuses after them.
+-- The hooks that the command runs begin with these parts. They are the hooks of a refused run, those about a
+-- message that are refused, those before a refused commit, or those after a commit that was made if they were
+-- stopped. The parts may be all that they have, if memory or the store refuses after them.
 abbrev pub HooksBegin : Repository → Command → Reply → List Part → Type 0
 HooksBegin before (Run ask) (Refused refusal) parts = HasRunBegun before ask parts
+HooksBegin before (Message stage message skip) (Refused refusal) parts =
+    HasMessageBegun before stage message skip parts
 HooksBegin before (Commit message no_verify skip) (Refused refusal) parts =
     HasBegunBefore before message no_verify skip parts
 HooksBegin before (Commit message no_verify skip) (Committed number reports (Stopped refusal)) parts =
@@ -48,6 +52,8 @@ HooksBegin before command reply parts = ⊥
 -- these hooks, which the reply picks in the same way, need a child for a further part after these
 abbrev pub HooksNeedChild : Repository → Command → Reply → Contents → List Part → Type 0
 HooksNeedChild before (Run ask) (Refused refusal) remembered parts = HasFurther before ask remembered parts
+HooksNeedChild before (Message stage message skip) (Refused refusal) remembered parts =
+    HasMessageFurther before stage message skip remembered parts
 HooksNeedChild before (Commit message no_verify skip) (Refused refusal) remembered parts =
     HasFurtherBefore before message no_verify skip remembered parts
 HooksNeedChild before (Commit message no_verify skip) (Committed number reports (Stopped refusal)) remembered parts =

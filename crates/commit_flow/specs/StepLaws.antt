@@ -1,6 +1,6 @@
 -- The replies that neither memory nor the database decides, and the commands that no child decides.
 use Rattle.commit_flow.specs.declared.command.Command.{Command}
-use Rattle.commit_flow.specs.declared.command.Command.TheVariants.{Run, Commit, Forget, Limit}
+use Rattle.commit_flow.specs.declared.command.Command.TheVariants.{Run, Message, Commit, Forget, Limit}
 use Rattle.commit_flow.specs.declared.host_refusal.HostRefusal.{HostRefusal}
 use Rattle.commit_flow.specs.declared.host_refusal.HostRefusal.TheVariants.{OutOfMemory, Store, Collision}
 use Rattle.commit_flow.specs.declared.reply.Reply.{Reply}
@@ -22,6 +22,7 @@ IsDecided reply = Unit {0}
 -- the command neither runs hooks nor depends on what is cached
 abbrev pub IsRunless : Command → Type 0
 IsRunless (Run ask) = ⊥
+IsRunless (Message stage message skip) = ⊥
 IsRunless (Commit message no_verify skip) = ⊥
 IsRunless Forget = ⊥
 IsRunless (Limit most) = ⊥

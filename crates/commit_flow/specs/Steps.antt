@@ -16,13 +16,14 @@ use Rattle.repo_store.specs.Clashes.{Clashes}
 use Rattle.store_faults.specs.Limits.{Fits, IsSmall}
 use Rattle.repo_store.specs.Repository.{Repository, accepted, with_staged_file, without_staged_file}
 use Rattle.commit_flow.specs.declared.command.Command.{Command}
-use Rattle.commit_flow.specs.declared.command.Command.TheVariants.{Add, Remove, Stage, Accept, Run, Commit, Forget, Limit}
+use Rattle.commit_flow.specs.declared.command.Command.TheVariants.{Add, Remove, Stage, Accept, Run, Message, Commit, Forget, Limit}
 use Rattle.commit_flow.specs.declared.host_refusal.HostRefusal.{HostRefusal}
 use Rattle.commit_flow.specs.declared.host_refusal.HostRefusal.TheVariants.{OutOfMemory, Store, BadPath, NotStaged, TooLarge, TooMany, NoFixes, Collision, Clash}
 use Rattle.commit_flow.specs.declared.reply.Reply.{Reply}
-use Rattle.commit_flow.specs.declared.reply.Reply.TheVariants.{Added, Removed, Staged, Accepted, Ran, Committed, HooksFailed, Forgot, Limited, EditRefused, Refused}
+use Rattle.commit_flow.specs.declared.reply.Reply.TheVariants.{Added, Removed, Staged, Accepted, Ran, MessageRan, Committed, HooksFailed, Forgot, Limited, EditRefused, Refused}
 use Rattle.hook_run.specs.Parts.{Part}
 use Rattle.commit_flow.specs.Commits.{HaveHooksFailed, IsCommitted, IsCommitRefusal}
+use Rattle.commit_flow.specs.MessageRuns.{IsMessageRan, IsMessageRefusal}
 use Rattle.commit_flow.specs.RunRefusals.{IsRunRefusal}
 use Rattle.commit_flow.specs.Runs.{IsRan}
 pub use Rattle.commit_flow.specs.StagedPaths.{IsLegal, IsStaged}
@@ -167,6 +168,7 @@ IsRefused before (Remove path) parts refusal = IsRemoveRefusal before path refus
 IsRefused before (Stage edits) parts refusal = ⊥
 IsRefused before Accept parts refusal = IsAcceptRefusal before refusal × (parts ≡ [])
 IsRefused before (Run ask) parts refusal = IsRunRefusal before ask refusal × (parts ≡ [])
+IsRefused before (Message stage message skip) parts refusal = IsMessageRefusal before message refusal × (parts ≡ [])
 IsRefused before (Commit message no_verify skip) parts refusal =
     IsCommitRefusal before message no_verify skip parts refusal
 IsRefused before Forget parts refusal = IsForgetRefusal refusal × (parts ≡ [])
@@ -186,6 +188,8 @@ Step before (Stage edits) (EditRefused stop) parts after =
 Step before Accept (Accepted number) parts after = IsAccepted before number after × (parts ≡ [])
 Step before (Run ask) (Ran passed report changes unsteady) parts after =
     IsRan before ask passed report changes unsteady parts after
+Step before (Message stage message skip) (MessageRan passed report left) parts after =
+    IsMessageRan before stage message skip passed report left parts after
 Step before (Commit message no_verify skip) (Committed number reports post) parts after =
     IsCommitted before message no_verify skip number reports post parts after
 Step before (Commit message no_verify skip) (HooksFailed stage reports) parts after =

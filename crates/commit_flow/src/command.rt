@@ -1,6 +1,6 @@
 //! The commands of a host, as values.
 
-use crate::{HostAsk, StagingEdits};
+use crate::{HostAsk, MessageStage, StagingEdits};
 use hook_base::{Bytes, Items, Mode, Text};
 use store_faults::AnswerLimit;
 
@@ -32,6 +32,15 @@ pub enum Command {
     Run {
         /// What is asked of it.
         ask: HostAsk,
+    },
+    /// [`Host::message`](crate::Host::message): the hooks of a stage about a message, without a commit.
+    Message {
+        /// The stage.
+        stage: MessageStage,
+        /// The message that the hooks get.
+        message: Bytes,
+        /// The ids and aliases of hooks that are skipped.
+        skip: Items<Text>,
     },
     /// [`Host::commit`](crate::Host::commit).
     Commit {

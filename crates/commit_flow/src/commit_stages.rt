@@ -120,8 +120,8 @@ fn add_report(reports: &mut Vec<Bytes>, report: Bytes) -> Result<(), OutOfMemory
     Ok(())
 }
 
-// Runs the hooks of a stage on what it gets.
-fn run_stage<C: Children, B: Book>(
+/// Runs the hooks of a stage on what it gets.
+pub(crate) fn run_stage<C: Children, B: Book>(
     alloc: Global,
     children: &mut C,
     book: &mut B,

@@ -1,24 +1,29 @@
 //! Laws of the definitions that the contracts cite. Each is a function that returns nothing: what it ensures
 //! is a theorem about the definitions alone.
 
-ghost use Rattle.std.specs.Prelude.{◌≡◌, ◌+◌, ◌-◌, ◌^◌, ◌≤◌, ℕ, All, Any, List, length, map};
+ghost use Rattle.std.specs.Prelude.{◌≡◌, ◌+◌, ◌-◌, ◌^◌, ◌≤◌, ℕ, true, false, All, Any, List, length, map};
 ghost use Rattle.child_port.specs.Telling.{SameTells};
 ghost use Rattle.result_book.specs.Told.{IsTold};
+ghost use Rattle.hook_config.specs.declared.stage.Stage.{Stage};
 ghost use Rattle.hook_run.specs.Answers.{IsCounted};
 ghost use Rattle.hook_run.specs.Moments.{Moment};
 ghost use Rattle.hook_run.specs.OneAnswer.{OneAnswer};
 ghost use Rattle.hook_run.specs.Parts.{Part, faults_of};
+ghost use Rattle.store_faults.specs.Limits.{IsSmall};
 ghost use Rattle.repo_store.specs.Kept.{Kept};
 ghost use Rattle.repo_store.specs.Repository.{Repository};
 ghost use Rattle.repo_store.specs.Shown.{Leaves};
 ghost use Rattle.repo_store.specs.StoreBooks.{remembered_by};
 ghost use Rattle.sqlite_trees.specs.Tree.{Trees};
 ghost use Rattle.commit_flow.specs.declared.command.Command.{Command};
+ghost use Rattle.commit_flow.specs.declared.command.Command.TheVariants.{Commit};
 ghost use Rattle.commit_flow.specs.declared.host_refusal.HostRefusal.{HostRefusal};
 ghost use Rattle.commit_flow.specs.declared.reply.PostCommit.{PostCommit};
 ghost use Rattle.commit_flow.specs.declared.reply.Reply.{Reply};
-ghost use Rattle.commit_flow.specs.declared.reply.Reply.TheVariants.{Committed, Refused};
+ghost use Rattle.commit_flow.specs.declared.reply.Reply.TheVariants.{Committed, HooksFailed, Refused};
 ghost use Rattle.commit_flow.specs.CommitSteps.{SaysSpent, StandsOnAll};
+ghost use Rattle.commit_flow.specs.MessageLaws.{HasNoEarlierHook, IsCheckedThenMade, IsNotPrepared, IsPreparedThenMade};
+ghost use Rattle.commit_flow.specs.Messages.{begun_message};
 ghost use Rattle.commit_flow.specs.PlayLaws.{HasCommitted, PlayStarts, SaysCommitted};
 ghost use Rattle.commit_flow.specs.Plays.{ArePlayed, IsPlay, RunsHooks};
 ghost use Rattle.commit_flow.specs.StepLaws.{IsDecided, IsRunless};
@@ -50,6 +55,42 @@ pub fn the_history_grows_by_commits_alone()
     ensures committed { (before after : Repository) (command : Command) (number : ℕ) (reports : List (List ℕ))
         (post : PostCommit) (parts : List Part) → Step before command (Committed number reports post) parts after
         → HasCommitted before command after }
+{}
+
+/// A commit that bypasses hooks is [`Host::message`](crate::Host::message) for `prepare-commit-msg`, on its message
+/// ended by a line feed, and then a commit of the message that is left. It is made just if that call passes and
+/// the message may be committed, and its reports and parts are those of the call, and of the hooks after it. If
+/// a hook fails before it, that call fails with the same report. The begun message must be of at most 16 MiB.
+pub fn a_bypassing_commit_is_of_the_message_that_is_left()
+    ensures made { (before : Repository) (message : List ℕ) (skip : List (List ℕ)) (after : Repository) (number : ℕ)
+        (reports : List (List ℕ)) (post : PostCommit) (parts : List Part) → IsSmall (begun_message message)
+        → Step before (Commit message true skip) (Committed number reports post) parts after
+        → IsPreparedThenMade before message skip number reports post parts after }
+    ensures possible { (before : Repository) (message : List ℕ) (skip : List (List ℕ)) (after : Repository) (number : ℕ)
+        (reports : List (List ℕ)) (post : PostCommit) (parts : List Part)
+        → IsPreparedThenMade before message skip number reports post parts after
+        → Step before (Commit message true skip) (Committed number reports post) parts after }
+    ensures failed { (before : Repository) (message : List ℕ) (skip : List (List ℕ)) (after : Repository)
+        (stage : Stage) (reports : List (List ℕ)) (parts : List Part) → IsSmall (begun_message message)
+        → Step before (Commit message true skip) (HooksFailed stage reports) parts after
+        → IsNotPrepared before message skip reports parts }
+{}
+
+/// A commit whose configuration has no hook of `pre-commit` is two calls of [`Host::message`](crate::Host::message),
+/// and then a commit of the message that is left. The first is for `prepare-commit-msg`, on the commit's message
+/// ended by a line feed, and the second for `commit-msg`, on what the first leaves. It is made just if both pass
+/// and the message may be committed. Its reports and parts are those of the calls, and of the hooks after it. No
+/// message on the way may have more than 16 MiB, since a call refuses it.
+pub fn a_commit_without_earlier_hooks_is_of_the_message_that_is_left()
+    ensures made { (before : Repository) (message : List ℕ) (skip : List (List ℕ)) (after : Repository) (number : ℕ)
+        (reports : List (List ℕ)) (post : PostCommit) (parts : List Part) → HasNoEarlierHook before
+        → IsSmall (begun_message message)
+        → Step before (Commit message false skip) (Committed number reports post) parts after
+        → IsCheckedThenMade before message skip number reports post parts after }
+    ensures possible { (before : Repository) (message : List ℕ) (skip : List (List ℕ)) (after : Repository) (number : ℕ)
+        (reports : List (List ℕ)) (post : PostCommit) (parts : List Part) → HasNoEarlierHook before
+        → (checked : IsCheckedThenMade before message skip number reports post parts after) → IsSmall checked.between
+        → Step before (Commit message false skip) (Committed number reports post) parts after }
 {}
 
 /// A list of commands adds to the history only if a reply says that a commit was made.

@@ -5,14 +5,16 @@ ghost use Rattle.child_port.specs.Telling.{SameTells};
 ghost use Rattle.hook_run.specs.Moments.{moment};
 ghost use Rattle.repo_store.specs.Shown.{Stands};
 ghost use Rattle.repo_store.specs.StoreBooks.{remembered_by};
-ghost use Rattle.commit_flow.specs.declared.command.Command.TheVariants.{Add, Remove, Stage, Accept, Run, Commit, Forget, Limit};
+ghost use Rattle.commit_flow.specs.declared.command.Command.TheVariants.{Add, Remove, Stage, Accept, Run, Message, Commit, Forget, Limit};
 ghost use Rattle.commit_flow.specs.Commands.{reply_of_ending};
 ghost use Rattle.commit_flow.specs.Plays.{HasForgotten, HasLimited, IsPlay};
 ghost use Rattle.commit_flow.specs.StoppedPlays.{IsSafePlay};
 ghost use Rattle.commit_flow.specs.Stops.{IsOneCommand, IsPlayedSafely};
 ghost use Rattle.commit_flow.specs.Steps.{Step};
 
-use crate::{Command, CommitEnding, Host, HostAsk, Reply, StagedRun, StagingEdits};
+use crate::{
+    Command, CommitEnding, Host, HostAsk, MessageRun, MessageStage, Reply, StagedRun, StagingEdits,
+};
 use child_port::Children;
 use hook_base::{Bytes, Items, Mode, OutOfMemory, Text};
 use sqlite::Alter;
@@ -66,6 +68,11 @@ impl<S: Alter> Host<S> {
             Command::Stage { edits } => self.play_stage(edits),
             Command::Accept => self.play_accept(),
             Command::Run { ask } => self.play_run(alloc, children, ask),
+            Command::Message {
+                stage,
+                message,
+                skip,
+            } => self.play_message(alloc, children, *stage, message, skip),
             Command::Commit {
                 message,
                 no_verify,
@@ -144,6 +151,36 @@ impl<S: Alter> Host<S> {
                 report,
                 changes,
                 unsteady,
+            },
+            Err(refusal) => Reply::Refused(refusal),
+        }
+    }
+
+    fn play_message<C: Children>(
+        &mut self,
+        alloc: Global,
+        children: &mut C,
+        stage: MessageStage,
+        message: &Bytes,
+        skip: &Items<Text>,
+    ) -> Reply
+        ensures played { IsPlayedSafely S.Store (C.tells children.old)
+            (moment (C.call_count children.old) (C.fault_count children.old) (remembered_by self.old.store.kept))
+            (moment (C.call_count children.new) (C.fault_count children.new) (remembered_by self.new.store.kept))
+            self.old.store self.new.store (Message stage message.now skip.now) result }
+        ensures same { SameTells (C.tells children.old) (C.tells children.new) }
+    {
+        match self.message(alloc, children, stage, message.as_slice(), skip.as_slice()) {
+            Ok(
+                MessageRun {
+                    passed,
+                    report,
+                    message,
+                },
+            ) => Reply::MessageRan {
+                passed,
+                report,
+                message,
             },
             Err(refusal) => Reply::Refused(refusal),
         }

@@ -1,7 +1,7 @@
 //! What the commands of a host answer, as values.
 
 use crate::{HostRefusal, StagingStop};
-use hook_base::{Bytes, Changes, Items, Text};
+use hook_base::{Bytes, Changes, Content, Items, Text};
 use hook_config::Stage;
 use hook_run::RunRefusal;
 
@@ -26,6 +26,15 @@ pub enum Reply {
         changes: Changes,
         /// The ids of the unsteady hooks: their answer was another than the cached one.
         unsteady: Items<Text>,
+    },
+    /// The hooks about a message were run. The repository is as it was.
+    MessageRan {
+        /// Whether no hook failed.
+        passed: bool,
+        /// The report on the hooks.
+        report: Bytes,
+        /// The message that they leave.
+        message: Content,
     },
     /// The commit was made.
     Committed {

@@ -1,14 +1,18 @@
 -- How a run of hooks over a repository ends.
-use Rattle.std.proofs.Common.{ℕ, Bool, Result, List, Ok, Err}
+use Rattle.std.proofs.Common.{◌≡◌, ℕ, Bool, Option, Result, List, Ok, Err}
 use Rattle.sqlite_trees.specs.declared.store.Store.{Ghosts}
 use Rattle.hook_base.specs.declared.file.File.{File}
 use Rattle.child_port.specs.declared.answer.Outcome.{Outcome}
+use Rattle.repo_store.specs.StoreBooks.{IsAtRest}
 use Rattle.commit_flow.specs.declared.command.Command.TheVariants as command
 use Rattle.commit_flow.specs.declared.commit_ending.CommitEnding.{CommitEnding}
 use Rattle.commit_flow.specs.declared.staged_run.StagedRun.{StagedRun}
 use Rattle.commit_flow.specs.declared.host_ask.HostAsk.{HostAsk}
 use Rattle.commit_flow.specs.declared.host_refusal.HostRefusal.{HostRefusal}
-use Rattle.commit_flow.specs.Commands.{reply_of, reply_of_ending}
+use Rattle.commit_flow.specs.declared.message_run.MessageRun.{MessageRun}
+use Rattle.commit_flow.specs.declared.message_stage.MessageStage.{MessageStage}
+use Rattle.commit_flow.specs.Commands.{reply_of, reply_of_ending, reply_of_message}
+use Rattle.commit_flow.specs.MessageSteps.{IsMessageStep}
 use Rattle.commit_flow.specs.Stops.{IsPlayedSafely}
 use Rattle.commit_flow.specs.KeptByHooks.{KeepsForCommit, KeepsForRun}
 use Rattle.commit_flow.specs.declared.host.Host.{Host}
@@ -17,7 +21,7 @@ use Rattle.commit_flow.specs.RunSteps.{IsRunStep, IsStoppedStep, reply_of_run}
 use Rattle.commit_flow.specs.CommitSteps.{IsCommitStep}
 use Rattle.hook_cli.specs.declared.command_ending.CommandEnding.{CommandEnding}
 use Rattle.hook_cli.specs.declared.command_ending.CommandEnding.TheVariants as ends
-use Rattle.hook_cli.specs.CommandOver.{Counts, IsCommitOverHost, IsReplied, IsRunOverHost, moment_after, moment_before}
+use Rattle.hook_cli.specs.CommandOver.{Counts, IsCommitOverHost, IsMessageOverHost, IsReplied, IsRunOverHost, message_left, moment_after, moment_before}
 use Rattle.text_output.specs.Outputs.{IsSilent, Output}
 use Rattle.hook_cli.specs.Printing.{IsSaid, IsPrintedOnStandardError, ending_of, untaken_line}
 use Rattle.hook_cli.specs.RefusalText.{refusal_text}
@@ -65,3 +69,15 @@ pub commit-answered : {S : Type 0} (g : Ghosts S) (tells : List (List ℕ) → L
     → IsCommitOverHost g tells counts old new message no_verify skip out err ending
 commit-answered g tells counts old new message no_verify skip out err ending answer step change safe replied =
     record { answer = answer; step = step; change = change; safe = safe; replied = replied }
+
+-- hooks about a message whose answer is printed
+pub message-answered : {S : Type 0} (g : Ghosts S) (tells : List (List ℕ) → List File → Outcome → Type 0) (counts : Counts) (old new : Host S) (stage : MessageStage) (message : List ℕ)
+    (skip : List (List ℕ)) (out err : Output) (left : Option (List ℕ)) (ending : CommandEnding)
+    (answer : Result MessageRun HostRefusal)
+    → IsMessageStep tells (moment_before counts old) (moment_after counts new) old.store.kept.repo stage message skip (reply_of reply_of_message answer) new.store.kept.repo
+    → IsAtRest g old.store new.store
+    → IsPlayedSafely g tells (moment_before counts old) (moment_after counts new) old.store new.store (command.Message stage message skip) (reply_of reply_of_message answer)
+    → IsReplied out err (reply_of reply_of_message answer) ending → left ≡ message_left answer ending
+    → IsMessageOverHost g tells counts old new stage message skip out err left ending
+message-answered g tells counts old new stage message skip out err left ending answer step rest safe replied given =
+    record { answer = answer; step = step; rest = rest; safe = safe; replied = replied; given = given }

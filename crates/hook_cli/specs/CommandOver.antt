@@ -15,7 +15,7 @@ use Rattle.repo_store.specs.Kept.{Kept, accepting, forgetting, limiting, staging
 use Rattle.repo_store.specs.Repository.{Repository, commit_at, fixed_bytes, last_tree, tree_at}
 use Rattle.repo_store.specs.Shown.{IsOneTransaction}
 use Rattle.result_book.specs.Contents.{count_of}
-use Rattle.repo_store.specs.StoreBooks.{remembered_by}
+use Rattle.repo_store.specs.StoreBooks.{IsAtRest, remembered_by}
 use Rattle.repo_store.specs.declared.staging_edit.StagingEdit.{StagingEdit}
 use Rattle.commit_flow.specs.declared.command.Command.{Command}
 use Rattle.commit_flow.specs.declared.command.Command.TheVariants as command
@@ -23,14 +23,17 @@ use Rattle.commit_flow.specs.declared.commit_ending.CommitEnding.{CommitEnding}
 use Rattle.commit_flow.specs.declared.host_ask.HostAsk.{HostAsk}
 use Rattle.commit_flow.specs.declared.host_refusal.HostRefusal.{HostRefusal}
 use Rattle.commit_flow.specs.declared.host_refusal.HostRefusal.TheVariants.{OutOfMemory, BadPath, NotStaged, Collision}
+use Rattle.commit_flow.specs.declared.message_run.MessageRun.{MessageRun}
+use Rattle.commit_flow.specs.declared.message_stage.MessageStage.{MessageStage}
 use Rattle.commit_flow.specs.declared.reply.Reply.{Reply}
-use Rattle.commit_flow.specs.declared.reply.Reply.TheVariants.{Added, Removed, Staged, Accepted, Ran, Committed, HooksFailed, Forgot, Limited, EditRefused, Refused}
+use Rattle.commit_flow.specs.declared.reply.Reply.TheVariants.{Added, Removed, Staged, Accepted, Ran, MessageRan, Committed, HooksFailed, Forgot, Limited, EditRefused, Refused}
 use Rattle.commit_flow.specs.declared.staged_run.StagedRun.{StagedRun}
 use Rattle.commit_flow.specs.AnswerLimits.{IsLimitRefusal}
-use Rattle.commit_flow.specs.Commands.{reply_of, reply_of_ending}
+use Rattle.commit_flow.specs.Commands.{reply_of, reply_of_ending, reply_of_message}
 use Rattle.commit_flow.specs.Stops.{IsOneCommand, IsPlayedSafely}
 use Rattle.commit_flow.specs.KeptByHooks.{KeepsForCommit, KeepsForRun}
 use Rattle.commit_flow.specs.declared.host.Host.{Host}
+use Rattle.commit_flow.specs.MessageSteps.{IsMessageStep}
 use Rattle.commit_flow.specs.Plays.{HasForgotten}
 use Rattle.commit_flow.specs.RunSteps.{IsRunStep, IsStoppedStep, reply_of_run}
 use Rattle.commit_flow.specs.StagedPaths.{IsLegal}
@@ -58,15 +61,17 @@ use Rattle.configuration_run.specs.TryOver.{NoneCalled}
 -- ---- the commands that change the repository
 
 -- What each reply prints. A file that was added or removed prints nothing. Accepted fixes and removed cached
--- results print how many there were. A commit prints what is reported of its hooks, and its number if it was
--- made. A refusal prints why. If standard output doesn't take the text, standard error says so, and that a
--- commit was made. A run prints more than its reply has: `IsRunSaid`.
+-- results print how many there were. Hooks about a message print what is reported of them. A commit prints
+-- what is reported of its hooks, and its number if it was made. A refusal prints why. If standard output
+-- doesn't take the text, standard error says so, and that a commit was made. A run prints more than its reply
+-- has: `IsRunSaid`.
 abbrev pub IsReplied : Output → Output → Reply → CommandEnding → Type 0
 IsReplied out err Added ending = IsSilent out × IsSilent err × (ending ≡ ends.Done)
 IsReplied out err Removed ending = IsSilent out × IsSilent err × (ending ≡ ends.Done)
 IsReplied out err Staged ending = IsSilent out × IsSilent err × (ending ≡ ends.Done)
 IsReplied out err (Accepted number) ending = IsSaid ends.Done out (accepted_text number) err untaken_line ending
 IsReplied out err (Ran passed report changes unsteady) ending = ⊥
+IsReplied out err (MessageRan passed report left) ending = IsSaid (ending_of passed) out report err untaken_line ending
 IsReplied out err (Committed number reports post) ending = IsCommitSaid number reports post out err ending
 IsReplied out err (HooksFailed stage reports) ending =
     IsSaid ends.Failed out (failure_text reports) err untaken_line ending
@@ -186,6 +191,31 @@ pub record IsRunOverHost {S : Type 0} (g : Ghosts S) (tells : List (List ℕ) �
       (command.Run ask) (reply_of reply_of_run answer)
   pub said : IsRunSaid out err ask.options.verbose answer ending
 
+-- the message is given if the hooks passed and their report is out
+abbrev pub message_given : List ℕ → CommandEnding → Option (List ℕ)
+message_given message ends.Done = Some message
+message_given message ending = None
+
+-- the message that hooks leave, if it is given; a refusal leaves none
+abbrev pub message_left : Result MessageRun HostRefusal → CommandEnding → Option (List ℕ)
+message_left (Ok ran) ending = message_given ran.message ending
+message_left (Err refusal) ending = None
+
+-- One call of the host runs the hooks of a stage about a message, and its answer is printed. It is a step of
+-- the host's machine over the children, and the repository stays as it was. The message is given that the hooks
+-- leave, if it may be used.
+pub record IsMessageOverHost {S : Type 0} (g : Ghosts S) (tells : List (List ℕ) → List File → Outcome → Type 0)
+    (counts : Counts) (old new : Host S) (stage : MessageStage) (message : List ℕ) (skip : List (List ℕ))
+    (out err : Output) (left : Option (List ℕ)) (ending : CommandEnding) : Type 0 where
+  pub answer : Result MessageRun HostRefusal
+  pub step : IsMessageStep tells (moment_before counts old) (moment_after counts new) old.store.kept.repo stage message
+      skip (reply_of reply_of_message answer) new.store.kept.repo
+  pub rest : IsAtRest g old.store new.store
+  pub safe : IsPlayedSafely g tells (moment_before counts old) (moment_after counts new) old.store new.store
+      (command.Message stage message skip) (reply_of reply_of_message answer)
+  pub replied : IsReplied out err (reply_of reply_of_message answer) ending
+  pub given : left ≡ message_left answer ending
+
 -- One call of the host commits the staged files through their hooks, and its answer is printed. The
 -- repository takes a step of the host's machine over the children, or stays as it was. A writer's error
 -- undoes none of it.
@@ -285,6 +315,8 @@ IsDoneOver g tells counts old new (command.Stage edits) out err ending = AreStag
 IsDoneOver g tells counts old new command.Accept out err ending = IsAcceptOver g old new out err ending
 IsDoneOver g tells counts old new (command.Run ask) out err ending =
     IsRunOverHost g tells counts old new ask out err ending
+IsDoneOver g tells counts old new (command.Message stage message skip) out err ending =
+    (left : Option (List ℕ)) × IsMessageOverHost g tells counts old new stage message skip out err left ending
 IsDoneOver g tells counts old new (command.Commit message no_verify skip) out err ending =
     IsCommitOverHost g tells counts old new message no_verify skip out err ending
 IsDoneOver g tells counts old new command.Forget out err ending = IsForgetOver g old new out err ending
@@ -293,6 +325,7 @@ IsDoneOver g tells counts old new (command.Limit most) out err ending = IsLimitO
 -- the command runs no hooks
 abbrev pub IsHookless : Command → Type 0
 IsHookless (command.Run ask) = ⊥
+IsHookless (command.Message stage message skip) = ⊥
 IsHookless (command.Commit message no_verify skip) = ⊥
 IsHookless done = Unit {0}
 
@@ -300,6 +333,14 @@ IsHookless done = Unit {0}
 abbrev pub IsCalledBy : Command → Counts → Type 0
 IsCalledBy done counts =
     IsHookless done → NoneCalled counts.calls counts.calls_after counts.faults counts.faults_after
+
+-- the hooks about a message end in one of these ways, and have the exit status of that ending
+pub record IsMessageOver {S : Type 0} (g : Ghosts S) (tells : List (List ℕ) → List File → Outcome → Type 0)
+    (counts : Counts) (old new : Host S) (stage : MessageStage) (message : List ℕ) (skip : List (List ℕ))
+    (out err : Output) (left : Option (List ℕ)) (status : ℕ) : Type 0 where
+  pub ending : CommandEnding
+  pub over : IsMessageOverHost g tells counts old new stage message skip out err left ending
+  pub exits : status ≡ status_of ending
 
 -- the command ends in one of these ways, and has the exit status of that ending
 pub record IsCommandOver {S : Type 0} (g : Ghosts S) (tells : List (List ℕ) → List File → Outcome → Type 0)

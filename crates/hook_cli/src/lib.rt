@@ -1,5 +1,5 @@
 //! The commands of `hookhost` over a repository (`command_over`) and its look-ups (`look_up_over`), with what
-//! they print and their exit statuses.
+//! they print and their exit statuses. `message_over` also gives the message that hooks leave.
 //!
 //! What a program needs besides these is in other crates. `command_line` reads the command line (`line_of`),
 //! and `configuration_run` runs and checks a configuration without a repository (`try_over`, `check_text`).
@@ -15,6 +15,7 @@ mod command_ending;
 mod look_up;
 mod over_answers;
 mod over_host;
+mod over_messages;
 mod over_runs;
 mod over_staging;
 mod printing;
@@ -30,3 +31,4 @@ pub use configuration_run::{
 };
 pub use look_up::look_up_over;
 pub use over_host::command_over;
+pub use over_messages::{MessageOver, message_over};

@@ -10,6 +10,7 @@ ghost use Rattle.text_output.specs.Outputs.{IsSilent, Output, output_of};
 use crate::CommandEnding;
 use crate::command_ending::status_of;
 use crate::over_answers::{forget, set_limit};
+use crate::over_messages::run_message_hooks;
 use crate::over_runs::{commit, run};
 use crate::over_staging::staged;
 use crate::printing::{say_accepted, tell};
@@ -29,10 +30,11 @@ use std::io::Write;
 /// - `Limit` prints how many results are left in the cache;
 /// - a run prints the report of its hooks, a line for each unsteady one, and if it is verbose how many
 ///   commands were answered from the cache;
+/// - hooks about a message print what is reported of them;
 /// - a commit prints the reports of its stages and its number. If the post-commit hooks are stopped, `err`
 ///   says why, and the status is 0 all the same.
 ///
-/// It is 1 if a hook failed in a run or before a commit; `out` has what is reported.
+/// It is 1 if a hook failed in a run, about a message or before a commit; `out` has what is reported.
 ///
 /// It is 3 if the command is refused. `err` then has `hookhost: refused: NUMBER NAME`, with the inner number
 /// if the refusal has one, and `out` nothing. If one of several changes is refused alone, the next line of
@@ -44,7 +46,8 @@ use std::io::Write;
 /// `hookhost: commit N was made` follows, and then why the post-commit hooks were stopped.
 ///
 /// A refusal leaves the repository as it was. `Forget` and `Limit` change the cached results alone, and
-/// nothing if they are refused. Only runs and commits start children, and cache what these answered.
+/// nothing if they are refused. Only runs, hooks about a message and commits start children, and cache what
+/// these answered.
 pub fn command_over<S: Alter, C: Children, O: Write, E: Write>(
     alloc: Global,
     command: &Command,
@@ -104,6 +107,20 @@ fn end_of<S: Alter, C: Children, O: Write, E: Write>(
         Command::Stage { edits } => stage(edits, host, err),
         Command::Accept => accept(host, out, err),
         Command::Run { ask } => run(alloc, ask, host, children, out, err),
+        Command::Message {
+            stage,
+            message,
+            skip,
+        } => run_message_hooks(
+            alloc,
+            *stage,
+            message.as_slice(),
+            skip.as_slice(),
+            host,
+            children,
+            out,
+            err,
+        ),
         Command::Commit {
             message,
             no_verify,

@@ -46,6 +46,20 @@ fn ending_of_run(passed: bool) -> CommandEnding
     }
 }
 
+/// Prints what is reported of hooks about a message.
+pub(crate) fn say_message<O: Write, E: Write>(
+    out: &mut O,
+    err: &mut E,
+    report: &[u8],
+    passed: bool,
+) -> CommandEnding
+    ensures { IsSaid (ending_of passed) (output_of (O.contents out.old) (O.contents out.new)) report.now
+        (output_of (E.contents err.old) (E.contents err.new)) untaken_line result }
+{
+    let ending = ending_of_run(passed);
+    ending_of(write_out(out, report), ending, err)
+}
+
 /// Prints the reports of a commit that hooks refused.
 pub(crate) fn say_failure<O: Write, E: Write>(
     out: &mut O,

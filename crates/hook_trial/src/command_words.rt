@@ -1,11 +1,11 @@
 //! Commands of a host, from the words of a row: `add MODE PATH CONTENTS`, `add_zeros MODE PATH COUNT`,
 //! `rm PATH`, `stage COUNT EDIT..` (`host_edits.rt`), `accept`, `run STAGE FILES ONLY HOW SKIP`,
-//! `commit MESSAGE HOW SKIP`, `forget` and `limit NUMBER`.
+//! `message STAGE MESSAGE SKIP`, `commit MESSAGE HOW SKIP`, `forget` and `limit NUMBER`.
 //!
 //! MODE is `plain`, `executable` or `none`. SKIP is a list of the hooks to skip, separated by commas. The
 //! other words are those of `host_asks.rt`.
 
-use crate::host_asks::{asked_name, files_of, how_of, is_unverified, stage_of};
+use crate::host_asks::{asked_name, files_of, how_of, is_unverified, message_stage_of, stage_of};
 use crate::host_edits::edits_of;
 use commit_flow::{Command, HostAsk, StagingEdits};
 use hook_base::{Bytes, Text};
@@ -35,6 +35,11 @@ pub(crate) fn command_of(
         "accept" => Ok(Command::Accept),
         "run" => Ok(Command::Run {
             ask: ask_of(alloc, words)?,
+        }),
+        "message" => Ok(Command::Message {
+            stage: message_stage_of(words)?,
+            message: Bytes::copy_of(alloc, words.bytes()?)?,
+            skip: skip_list_of(alloc, words.text()?)?,
         }),
         "commit" => Ok(Command::Commit {
             message: Bytes::copy_of(alloc, words.bytes()?)?,

@@ -1,12 +1,12 @@
-//! The words by which a row asks for runs and commits:
+//! The words by which a row asks for runs, for hooks about a message and for commits:
 //!
-//! - STAGE is `pre-commit` or `manual`;
+//! - STAGE of a run is `pre-commit` or `manual`, and about a message `prepare-commit-msg` or `commit-msg`;
 //! - FILES is `changed`, `all` or the path of the one file that is named;
 //! - ONLY is the hooks to run, or is empty;
 //! - HOW of a run is `remembering`, or one or two of the words `fresh`, `cautious` and `verbose`;
 //! - HOW of a commit is `verified` or `unverified`.
 
-use commit_flow::{AskStage, Which};
+use commit_flow::{AskStage, MessageStage, Which};
 use hook_base::{Items, Text};
 use std::alloc::Global;
 use trial_rows::{Stop, Words};
@@ -15,6 +15,14 @@ pub(crate) fn stage_of(words: &mut Words<'_>) -> Result<AskStage, Stop> {
     match words.text()? {
         "pre-commit" => Ok(AskStage::PreCommit),
         "manual" => Ok(AskStage::Manual),
+        _ => Err(Stop::BadLine),
+    }
+}
+
+pub(crate) fn message_stage_of(words: &mut Words<'_>) -> Result<MessageStage, Stop> {
+    match words.text()? {
+        "prepare-commit-msg" => Ok(MessageStage::PrepareCommitMsg),
+        "commit-msg" => Ok(MessageStage::CommitMsg),
         _ => Err(Stop::BadLine),
     }
 }

@@ -1,7 +1,7 @@
 //! What the rows show of a host's replies: a line, and then the reports, each after a line with its length.
 
 use commit_flow::{HostRefusal, PostCommit, Reply, StagingStop};
-use hook_base::{Bytes, Change, Items, Text};
+use hook_base::{Bytes, Change, Content, Items, Text};
 use std::fmt::Display;
 use trial_rows::{AnswerBytes, verdict_of};
 
@@ -17,6 +17,11 @@ pub(crate) fn with_reply(answer: AnswerBytes, reply: &Reply) -> AnswerBytes {
             changes,
             unsteady,
         } => with_run(answer, *passed, report, changes.as_slice(), unsteady),
+        Reply::MessageRan {
+            passed,
+            report,
+            message,
+        } => with_message_run(answer, *passed, report, message),
         Reply::Committed {
             number,
             reports,
@@ -50,6 +55,18 @@ fn with_run(
     let answer = answer.texts(&["ran, ", verdict_of(passed), ", "]);
     let answer = answer.shown(unsteady.len()).text(" unsteady\n");
     with_report(with_changes(answer, "change", changes), "report", report)
+}
+
+// Adds the message that hooks leave, and their report.
+fn with_message_run(
+    answer: AnswerBytes,
+    passed: bool,
+    report: &Bytes,
+    message: &Content,
+) -> AnswerBytes {
+    let answer = answer.texts(&["message ran, ", verdict_of(passed), "\n"]);
+    let answer = with_length(answer.text("message"), message.as_slice());
+    with_report(answer, "report", report)
 }
 
 /// Adds the path of each change and its bytes, or that the file is gone.

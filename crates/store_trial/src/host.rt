@@ -7,7 +7,8 @@ use crate::edits::{edit_all, read_asked_mode};
 use crate::stop::Stop;
 use crate::text::read_text;
 use commit_flow::{
-    AskStage, CommitEnding, Host, HostAsk, HostRefusal, PostCommit, StagedRun, Which,
+    AskStage, CommitEnding, Host, HostAsk, HostRefusal, MessageRun, MessageStage, PostCommit,
+    StagedRun, Which,
 };
 use hook_base::{Items, Text};
 use hook_config::Stage;
@@ -26,6 +27,8 @@ pub(crate) const COMMANDS_OF: &[&str] = &[
     "edit-all",
     "limit-answers",
     "run-hooks",
+    "prepare-message",
+    "check-message",
     "commit-verified",
     "commit-unverified",
 ];
@@ -51,6 +54,8 @@ pub(crate) fn play_command<S: Alter>(
             Ok(())
         }
         "run-hooks" => run(host, rows, rest, answer),
+        "prepare-message" => message(host, rows, rest, MessageStage::PrepareCommitMsg, answer),
+        "check-message" => message(host, rows, rest, MessageStage::CommitMsg, answer),
         "commit-verified" => commit(host, rows, rest, false, answer),
         "commit-unverified" => commit(host, rows, rest, true, answer),
         _ => play_answers(host, word, rest, answer),
@@ -147,6 +152,36 @@ fn add_run(ran: &StagedRun, answer: &mut Answer) {
     answer.begin("ok");
     answer.add(if ran.passed { b"passed" } else { b"failed" });
     answer.add_fixes(ran.changes.as_slice())
+}
+
+// Runs the hooks of a stage about a message.
+fn message<S: Alter>(
+    host: &mut Host<S>,
+    rows: &[Text],
+    text: &str,
+    stage: MessageStage,
+    answer: &mut Answer,
+) -> Result<(), Stop> {
+    let message = read_text(answer.alloc(), text)?;
+    let mut children = children_of(answer.alloc(), rows)?;
+    match host.message(
+        answer.alloc(),
+        &mut children,
+        stage,
+        message.as_slice(),
+        &[],
+    ) {
+        Ok(ran) => add_message(&ran, answer),
+        Err(refusal) => answer.refused_command(&refusal),
+    }
+    Ok(())
+}
+
+// Adds whether no hook failed, and the message that they leave.
+fn add_message(ran: &MessageRun, answer: &mut Answer) {
+    answer.begin("ok");
+    answer.add(if ran.passed { b"passed" } else { b"failed" });
+    answer.add(ran.message.as_slice())
 }
 
 fn commit<S: Alter>(

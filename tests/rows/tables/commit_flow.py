@@ -87,8 +87,9 @@ PLAYS = [
     # No command, and each kind of command on a repository with nothing in it.
     (ended(),),
     (
-        "rm", "a", "accept", "run", "manual", "all", "", "remembering", "", "commit", "m", "verified", "", "forget", "add", "none", "a/../b", "x",
-        "refused 4 NotStaged\nrefused 11 NoFixes\nrefused 7 NoConfig\nrefused 10 NothingStaged\nforgot 0\nrefused 3 BadPath 3\n" + ended(),
+        "rm", "a", "accept", "run", "manual", "all", "", "remembering", "", "message", "commit-msg", "m", "", "commit", "m", "verified", "", "forget",
+        "add", "none", "a/../b", "x",
+        "refused 4 NotStaged\nrefused 11 NoFixes\nrefused 7 NoConfig\nrefused 7 NoConfig\nrefused 10 NothingStaged\nforgot 0\nrefused 3 BadPath 3\n" + ended(),
     ),
     # What is staged is reported, and a command that is refused stops none of those after it.
     (
@@ -127,6 +128,23 @@ PLAYS = [
         + files("staged", CONFIGURATION_FILE) + files("head", CONFIGURATION_FILE)
         + told("commit 1", "T1 first\n") + files("committed", CONFIGURATION_FILE, A) + told("commit 2", "T1 first\n") + files("committed", CONFIGURATION_FILE),
     ),
+    # Hooks about a message get its bytes as they are, and the fixes of a run stay. They may change the message and delete it. What they do to
+    # another file makes them fail, and is dropped.
+    (
+        *TRIM, *NO_TICKET, *TICKET, *child(0, f"ticket\t{MESSAGE}", f"{MESSAGE}=a", f"{MESSAGE}=T2 a"), *child(0, f"ticket\t{MESSAGE}", f"{MESSAGE}=b", MESSAGE),
+        *child(0, f"ticket\t{MESSAGE}", f"{MESSAGE}=c", "a.txt=y"), *CONFIGURED, "add", "none", "a.txt", "x \n", *RUN,
+        *(word for text in ["first\n", "T1 first\n", "T1 first\n", "a\n", "b\n", "c\n"] for word in ("message", "commit-msg", text, "")),
+        "message", "prepare-commit-msg", "no line end", "", "message", "commit-msg", "", "ticket",
+        "added\nadded\nran, failed, 0 unsteady\n" + told("change a.txt", "x\n") + told("report", TRIM_FAILED)
+        + "message ran, failed\n" + told("message", "first\n") + told("report", TICKET_FAILED)
+        + ("message ran, passed\n" + told("message", "T1 first\n") + told("report", TICKET_PASSED)) * 2
+        + "message ran, passed\n" + told("message", "T2 a\n") + told("report", TICKET_PASSED)
+        + "message ran, passed\n" + told("message", "") + told("report", TICKET_PASSED)
+        + "message ran, failed\n" + told("message", "c\n") + told("report", line("Ticket", "Failed") + "- hook id: ticket\n- files were modified by this hook\n")
+        + "message ran, passed\n" + told("message", "no line end") + told("report", "")
+        + "message ran, passed\n" + told("message", "") + told("report", line("Ticket", "Skipped"))
+        + ended(6, remembered=5) + files("staged", CONFIGURATION_FILE, ("plain", "a.txt", "x \n")) + told("fix a.txt", "x\n"),
+    ),
     # A run again starts no child, and reports the same. A fresh one starts it, and says that a hook is unsteady.
     (
         *TRIMMED, *TRIM_NO_MORE, *CONFIGURED, "add", "none", "a.txt", "x\n", *RUN, *RUN, "run", "pre-commit", "a.txt", "", "fresh", "", *RUN, "forget", *RUN,
@@ -151,8 +169,8 @@ PLAYS = [
     # If no more children can be counted, what needs one is refused, and a commit that is kept says that its last hooks were stopped.
     (
         "spent", *CONFIGURED, "add", "none", "a.txt", "x\n", "run", "pre-commit", "named.txt", "", "remembering", "", "run", "pre-commit", "a.txt", "", "remembering", "",
-        "commit", "first", "verified", "", "commit", "first", "unverified", "",
-        "added\nadded\nrefused 4 NotStaged\nrefused 14 Spent\nrefused 14 Spent\ncommitted 1\n" + told("report", "") + "post stopped 4 Spent\n"
+        "message", "commit-msg", "first\n", "", "commit", "first", "verified", "", "commit", "first", "unverified", "",
+        "added\nadded\nrefused 4 NotStaged\nrefused 14 Spent\nrefused 14 Spent\nrefused 14 Spent\ncommitted 1\n" + told("report", "") + "post stopped 4 Spent\n"
         + ended(2**64 - 1) + files("staged", CONFIGURATION_FILE, A) + files("head", CONFIGURATION_FILE, A)
         + told("commit 1", "first\n") + files("committed", CONFIGURATION_FILE, A),
     ),

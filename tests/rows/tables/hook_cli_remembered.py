@@ -1,7 +1,7 @@
 """Commands over a repository in memory whose hooks start children: what is started, what is cached of it, and which hooks are unsteady.
 Then what becomes of that by `memory`, `forget`, limits, and the options of a run. The call, its steps and its answers are those of
 hook_cli.py."""
-from command_rows import HABITS, PATIENT, add, commit, cut_off, done, ended, line, refused, run, stage
+from command_rows import HABITS, PATIENT, add, commit, cut_off, done, ended, line, message, refused, run, stage
 
 PROGRAM = "hook_trial"
 
@@ -222,6 +222,22 @@ COMMITTED = [
         done() * 2 + done(GOOD_T + passed("Note") + "commit 1\n") + counted(2, 0, 2, 0, 2)
         + done() + done(GOOD_T + passed("Note") + "commit 2\n") + counted(3, 0, 3, 1) + done("2 n\n1 n\n"),
     ),
+]
+
+# Hooks about a message print what is reported of them, and their results are those of a commit.
+MESSAGES = [
+    (
+        *GOOD, *NOTED, *child("tell"), *WITH_STAGES, *message("m\n", skip="note"), *message("m\n", "prepare-commit-msg"), *message("m\n"), *message("m\n"), *COUNTS,
+        *commit("verified"), *COUNTS,
+        done() * 2 + done(f"Note{'.' * 68}Skipped\n") + done() + done(passed("Note")) * 2 + counted(1, 0, 1, 1)
+        + done(GOOD_T + passed("Note") + passed("Tell") + "commit 1\n") + counted(3, 0, 3, 0, 2),
+    ),
+    (
+        *child("note\t.git/COMMIT_EDITMSG", ".git/COMMIT_EDITMSG=m", status=1), *WITH_STAGES, *message("m\n"), *message("m\n", out="0"), *message("n\n"), *COUNTS,
+        done() * 2 + ended(1, out=failed("Note", "exit code: 1")) + cut_off() + ended(1, out=failed("Note", NO_START_LINE)) + counted(2, 1, 1, 0, "-"),
+    ),
+    (*message("m\n"), refused("7 NoConfig")),
+    *((*NOTED, *WITH_STAGES, *message("m\n", out=habit), done() * 2 + done(passed("Note"))) for habit in PATIENT),
 ]
 
 # What `memory` and `forget` say.
@@ -461,4 +477,4 @@ CHOSEN = [
     *((*GOOD, *ONE_HOOK, *run(how="verbose", out=habit), ADDED_THREE + done(GOOD_T + DETAILS + from_cache(0))) for habit in PATIENT),
 ]
 
-ROWS = [("command_over", *row) for row in [*LIMITED, *REMEMBERED, *STEADY, *CHOSEN, *COMMITTED, *MEMORY]]
+ROWS = [("command_over", *row) for row in [*LIMITED, *REMEMBERED, *STEADY, *CHOSEN, *COMMITTED, *MESSAGES, *MEMORY]]
