@@ -41,8 +41,8 @@ PLAYS = [
     ([TRIM, LOOK], [add("a.txt", b"x\n"), RUN, FRESH_RUN, RUN]),
     # A commit refused and made, with a hook in each stage, and one more, of whose hooks each is cached.
     (STAGED, [add("a.txt", b"x \n"), COMMIT, ACCEPT, COMMIT, add("b.md", b"1\n"), COMMIT, FORGET]),
-    # Both stages about a message, each by itself, and a commit for which their results are cached.
-    (STAGED, [add("a.txt", b"x\n"), PREPARE, CHECK, COMMIT]),
+    # A run and both stages about a message, each by itself, and a commit for which their results are cached.
+    (STAGED, [add("a.txt", b"x\n"), RUN, PREPARE, CHECK, COMMIT]),
 ]
 
 
