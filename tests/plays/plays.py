@@ -139,12 +139,12 @@ def random_command(rng, machine, kind=None):
         path = rng.choice([*PATHS * 4, CONFIGURATION])
         return ("rm", path), lambda host: host.rm(path)
     if kind == "run":
-        stage, files, only = rng.choice(["pre-commit", "pre-commit", "manual"]), rng.choice(["changed", "all"] * 4 + PATHS), rng.choice([""] * 7 + ["h0", "other", "nope"])
+        stage, files, only = rng.choice(["pre-commit", "pre-commit", "manual", "post-commit"]), rng.choice(["changed", "all"] * 4 + PATHS), rng.choice([""] * 7 + ["h0", "other", "nope"])
         how = rng.choice(["remembering", "remembering", "fresh"])
         return ("run", stage, files, only, how, ",".join(skip)), lambda host: host.run(stage, files, only, how == "fresh", skip)
     if kind == "message":
-        stage, message = rng.choice(["prepare-commit-msg", "commit-msg"]), rng.choice(MESSAGES)
-        return ("message", stage, message, ",".join(skip)), lambda host: host.message(stage, message, skip)
+        stage, message, how = rng.choice(["prepare-commit-msg", "commit-msg"]), rng.choice(MESSAGES), rng.choice(["remembering", "remembering", "fresh"])
+        return ("message", stage, message, how, ",".join(skip)), lambda host: host.message(stage, message, how == "fresh", skip)
     if kind == "commit":
         message, how = rng.choice(MESSAGES), rng.choice(["verified", "verified", "verified", "unverified"])
         return ("commit", message, how, ",".join(skip)), lambda host: host.commit(message, how, skip)

@@ -63,8 +63,8 @@ def run(files="changed", only="", skip="", stage="pre-commit", how="remembering"
     return line("run", stage, files, only, how, skip, out=out, err=err)
 
 
-def message(text, stage="commit-msg", skip="", out="all", err="all"):
-    return line("message", stage, text, skip, out=out, err=err)
+def message(text, stage="commit-msg", skip="", how="remembering", out="all", err="all"):
+    return line("message", stage, text, how, skip, out=out, err=err)
 
 
 def commit(how="unverified", out="all", err="all"):

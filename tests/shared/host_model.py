@@ -557,9 +557,10 @@ class Machine:
         self.fixes = self.fixes_to(run.tree)
         return Ran(run.passed, run.report, self.fixes, run.unsteady)
 
-    def message(self, stage, message, skip):
+    def message(self, stage, message, is_fresh, skip):
         """The hooks of a stage about a message, which change nothing here but what is cached."""
-        run = run_stage(self.configuration(), stage, [MESSAGE], "", skip, self.staged | {MESSAGE: File(False, message)}, self.memory)
+        tree = self.staged | {MESSAGE: File(False, message)}
+        run = run_stage(self.configuration(), stage, [MESSAGE], "", skip, tree, self.memory, is_fresh)
         self.refuse_command()
         return MessageRan(run.passed, run.report, run.tree[MESSAGE].contents if MESSAGE in run.tree else b"")
 
@@ -633,8 +634,8 @@ def call_of(command):
         stage, files, only, how, skip = given
         return lambda host: host.run(stage, files, only, how == "fresh", [name for name in skip.split(",") if name])
     if word == "message":
-        stage, message, skip = given
-        return lambda host: host.message(stage, message, [name for name in skip.split(",") if name])
+        stage, message, how, skip = given
+        return lambda host: host.message(stage, message, how == "fresh", [name for name in skip.split(",") if name])
     if word == "commit":
         message, how, skip = given
         return lambda host: host.commit(message, how, [name for name in skip.split(",") if name])

@@ -22,7 +22,7 @@ def plain(path, contents):
 
 
 BEGUN, MARKED, SIGNED = b"m\n", b"m\nmarked\n", b"m\nmarked\nsigned\n"
-PREPARE, CHECK = ("message", "prepare-commit-msg", BEGUN, ""), ("message", "commit-msg", MARKED, "")
+PREPARE, CHECK = ("message", "prepare-commit-msg", BEGUN, "remembering", ""), ("message", "commit-msg", MARKED, "remembering", "")
 UNTRIMMED, TRIMMED = plain("a.txt", b"x \n"), plain("a.txt", b"x\n")
 TABLE = FixedTable([
     (["trim", "a.txt"], UNTRIMMED, Answer(0, b"", {"a.txt": b"x\n"})),

@@ -27,12 +27,13 @@ use Rattle.commit_flow.specs.CommitStages.{HavePassed, IsStageTold, StageTold, a
 use Rattle.commit_flow.specs.CommitStages.{parts_of_stages, reports_of, stages_before_commit, without_message_file}
 use Rattle.commit_flow.specs.Commits.{IsPost}
 use Rattle.commit_flow.specs.Configured.{IsConfigured}
-use Rattle.commit_flow.specs.MessageLaws.{HasNoEarlierHook, IsCheckedThenMade}
+use Rattle.commit_flow.specs.MessageLaws.{HasNoEarlierHook, IsCheckedThenMade, plain_ask}
 use Rattle.commit_flow.specs.MessageRuns.{IsMessageRan, course_of_message}
 use Rattle.commit_flow.specs.Messages.{begun_message}
 use Rattle.commit_flow.specs.Runs.{changed_paths}
 use Rattle.commit_flow.specs.Steps.{Step}
 use Rattle.commit_flow.proofs.MessageLawLemmas.{small_begun}
+use Rattle.commit_flow.proofs.PlainAskLemmas.{config_of_plain, plain_config}
 use Rattle.commit_flow.proofs.StageAnswerLemmas.{same_config}
 use Rattle.commit_flow.proofs.TrackedLemmas.{passed_leaves, put_removed, put_rising}
 
@@ -122,8 +123,8 @@ module _ (before : Repository) (message : List ℕ) (skip : List (List ℕ)) (no
     checked_report : List ℕ
     own : List Part
     checked_parts : List Part
-    prepared : IsMessageRan before PrepareCommitMsg (begun_message message) skip true report between own before
-    checked : IsSmall between → IsMessageRan before CommitMsg between skip true checked_report left.message checked_parts before
+    prepared : IsMessageRan before (plain_ask PrepareCommitMsg skip) (begun_message message) true report between own before
+    checked : IsSmall between → IsMessageRan before (plain_ask CommitMsg skip) between true checked_report left.message checked_parts before
     reported : reports_of told ≡ [] ∷ report ∷ checked_report ∷ []
     joined : parts_of_stages told ≡ own ++ (checked_parts ++ [])
 
@@ -151,7 +152,7 @@ module _ (before : Repository) (message : List ℕ) (skip : List (List ℕ)) (no
             config = config;
             told = one;
             small = small;
-            configured = configured;
+            configured = plain_config before config configured;
             run = run;
             verdict = sym second.passed;
             reported = refl;
@@ -163,7 +164,7 @@ module _ (before : Repository) (message : List ℕ) (skip : List (List ℕ)) (no
             config = config;
             told = two;
             small = small_then;
-            configured = configured;
+            configured = plain_config before config configured;
             run = run_then;
             verdict = sym third.passed;
             reported = refl;
@@ -208,8 +209,8 @@ checked_into before message skip after number reports post parts none small step
       checked_parts = all.checked_parts;
       further = step.post_parts;
       prepared = all.prepared;
-      checked = λ small_then. subst (λ (last : List ℕ). IsMessageRan before CommitMsg all.between skip true all.checked_report last all.checked_parts before) (sym step.verified.message_left)
-          (all.checked small_then);
+      checked = λ small_then. subst (λ (last : List ℕ). IsMessageRan before (plain_ask CommitMsg skip) all.between true all.checked_report last all.checked_parts before)
+          (sym step.verified.message_left) (all.checked small_then);
       made = record {
         config = step.config;
         configured = step.verified.configured;
@@ -234,9 +235,11 @@ checked_of before message skip after number reports post parts none it small =
     let second = it.checked small in
     let made = it.made in
     let config = first.config in
+    let configured = config_of_plain before config first.configured in
+    let configured_then = config_of_plain before second.config second.configured in
     let changed = changed_paths before in
     let ask = ask_in changed skip stage.PreCommit in
-    let nothing = no_hook before message skip none config first.configured in
+    let nothing = no_hook before message skip none config configured in
     let passed = sym first.verdict in
     let on = passes_on before message skip none config first.told first.run passed in
     let zero : StageTold = record { trace = []; out = empty_out config ask before.staged } in
@@ -244,7 +247,7 @@ checked_of before message skip after number reports post parts none it small =
     let course : course_of_message before it.between ≡ without_message_file first.told.out.tree = ap (course_of_message before) first.message_left ∙ sym on in
     let run_then : IsStageTold config changed skip stage.CommitMsg (without_message_file first.told.out.tree) second.told =
     subst (λ (c : Config). IsStageTold c changed skip stage.CommitMsg (without_message_file first.told.out.tree) second.told)
-    (same_config before second.config config second.configured first.configured)
+    (same_config before second.config config configured_then configured)
     (subst (λ (state : CommitState). IsStageTold second.config changed skip stage.CommitMsg state second.told) course second.run) in
     let third = join config changed skip stage.CommitMsg [] (without_message_file first.told.out.tree) second.told [] left
     (record { ran = run_then; passed = sym second.verdict; rest = refl }) in
@@ -257,7 +260,7 @@ checked_of before message skip after number reports post parts none it small =
       post_parts = it.further;
       verified = record {
         committable = record { small = small_begun message first.small; new = made.new };
-        configured = first.configured;
+        configured = configured;
         left = left;
         passed = join config changed skip stage.PreCommit (stage.PrepareCommitMsg ∷ stage.CommitMsg ∷ []) (course_of before message) zero (first.told ∷ second.told ∷ []) left
             (record { ran = empty_run config ask before.staged nothing; passed = refl; rest = rest });
@@ -269,7 +272,7 @@ checked_of before message skip after number reports post parts none it small =
       counted = made.counted;
       reported = it.reported ∙ same_three [] it.report it.checked_report zero.out.report first.told.out.report second.told.out.report
           (sym (reports_none config ask before.staged nothing)) first.reported second.reported;
-      behind = subst (λ (c : Config). IsPost c before skip post it.further) (same_config before made.config config made.configured first.configured) made.behind;
+      behind = subst (λ (c : Config). IsPost c before skip post it.further) (same_config before made.config config made.configured configured) made.behind;
       traced = it.joined
           ∙ ap₂ (λ (own checked : List Part). own ++ (checked ++ it.further)) first.traced second.traced
           ∙ sym (parts_then (all_parts first.told.trace) (all_parts second.told.trace) it.further);

@@ -206,7 +206,7 @@ module _ (tells : List (List ℕ) → List File → Outcome → Type 0) (before 
         subst (λ (at : Moment). IsCommitStep tells from at before message no_verify skip (Refused refusal) after) (sym why.unmade) (step_unbegun from refusal after left why.unbegun)
 
     step_halted : (refusal : HostRefusal) (after : Kept) → after.repo ≡ before → IsCommittable before message → (config : Config) → IsConfigured before config
-        → IsHalted RefusesAnswers tells from to (HaveBegun config (changed_paths before) skip (stages_before_commit no_verify) (course_of before message))
+        → IsHalted RefusesAnswers tells reuse.All from to (HaveBegun config (changed_paths before) skip (stages_before_commit no_verify) (course_of before message))
         (HaveFurther to.remembered config (changed_paths before) skip (stages_before_commit no_verify) (course_of before message)) refusal
         → IsCommitStep tells from to before message no_verify skip (Refused refusal) after
     step_halted refusal after left committable config configured halted =
@@ -230,7 +230,7 @@ module _ (tells : List (List ℕ) → List File → Outcome → Type 0) (before 
           → AreAnswered tells reuse.All from to parts
           → IsCommitStep tells from to before message no_verify skip (Refused OutOfMemory) after
       step_lost after left parts begun answered = step_halted OutOfMemory after left committable config configured
-          (halted_for_memory RefusesAnswers tells from to (HaveBegun config (changed_paths before) skip (stages_before_commit no_verify) (course_of before message))
+          (halted_for_memory RefusesAnswers tells from to reuse.All (HaveBegun config (changed_paths before) skip (stages_before_commit no_verify) (course_of before message))
           (HaveFurther to.remembered config (changed_paths before) skip (stages_before_commit no_verify) (course_of before message)) parts begun answered)
 
       module _ (reports : List (List ℕ)) where

@@ -17,6 +17,7 @@ pub mod MessageLawLemmas
 pub mod MessageLemmas
 pub mod MessageRunLemmas
 pub mod PathLemmas
+pub mod PlainAskLemmas
 pub mod PlayAnswerLemmas
 pub mod PlayLawLemmas
 pub mod PlayLemmas

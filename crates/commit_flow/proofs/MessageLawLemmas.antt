@@ -15,11 +15,12 @@ use Rattle.commit_flow.specs.declared.reply.Reply.TheVariants.{Committed, HooksF
 use Rattle.commit_flow.specs.CommitStages.{FailedAt, HavePassed, StageTold, course_after, course_of, parts_of_stages, reports_of}
 use Rattle.commit_flow.specs.Commits.{IsPost}
 use Rattle.commit_flow.specs.Configured.{IsConfigured}
-use Rattle.commit_flow.specs.MessageLaws.{IsNotPrepared, IsPreparedThenMade}
+use Rattle.commit_flow.specs.MessageLaws.{IsNotPrepared, IsPreparedThenMade, plain_ask}
 use Rattle.commit_flow.specs.MessageRuns.{IsMessageRan}
 use Rattle.commit_flow.specs.Messages.{begun_message, lacks_line_end}
 use Rattle.commit_flow.specs.Runs.{changed_paths}
 use Rattle.commit_flow.specs.Steps.{Step}
+use Rattle.commit_flow.proofs.PlainAskLemmas.{config_of_plain, plain_config}
 use Rattle.commit_flow.proofs.StageAnswerLemmas.{same_config}
 
 -- the message is no longer than with a line feed after it
@@ -35,7 +36,7 @@ module _ (before : Repository) (message : List ℕ) (skip : List (List ℕ)) whe
   record IsPrepared (passed : Bool) (told : List StageTold) (left : CommitState) : Type 0 where
     report : List ℕ
     own : List Part
-    ran : IsMessageRan before PrepareCommitMsg (begun_message message) skip passed report left.message own before
+    ran : IsMessageRan before (plain_ask PrepareCommitMsg skip) (begun_message message) passed report left.message own before
     reported : reports_of told ≡ report ∷ []
     joined : parts_of_stages told ≡ own
 
@@ -50,7 +51,7 @@ module _ (before : Repository) (message : List ℕ) (skip : List (List ℕ)) whe
         config = config;
         told = told;
         small = small;
-        configured = configured;
+        configured = plain_config before config configured;
         run = passed.0;
         verdict = sym passed.1;
         reported = refl;
@@ -79,7 +80,7 @@ module _ (before : Repository) (message : List ℕ) (skip : List (List ℕ)) whe
                   config = config;
                   told = told;
                   small = small;
-                  configured = configured;
+                  configured = plain_config before config configured;
                   run = run.0;
                   verdict = sym passed;
                   reported = refl;
@@ -101,7 +102,7 @@ module _ (before : Repository) (message : List ℕ) (skip : List (List ℕ)) whe
         last = step.last;
         own = prepared.own;
         further = step.post_parts;
-        prepared = subst (λ (last : List ℕ). IsMessageRan before PrepareCommitMsg (begun_message message) skip true prepared.report last prepared.own before)
+        prepared = subst (λ (last : List ℕ). IsMessageRan before (plain_ask PrepareCommitMsg skip) (begun_message message) true prepared.report last prepared.own before)
             (sym step.verified.message_left) prepared.ran;
         made = record {
           config = step.config;
@@ -121,6 +122,7 @@ module _ (before : Repository) (message : List ℕ) (skip : List (List ℕ)) whe
   made_of after number reports post parts it =
       let ran = it.prepared in
       let made = it.made in
+      let configured = config_of_plain before ran.config ran.configured in
       record {
         config = ran.config;
         told = ran.told ∷ [];
@@ -128,7 +130,7 @@ module _ (before : Repository) (message : List ℕ) (skip : List (List ℕ)) whe
         post_parts = it.further;
         verified = record {
           committable = record { small = small_begun message ran.small; new = made.new };
-          configured = ran.configured;
+          configured = configured;
           left = course_after stage.PrepareCommitMsg (course_of before message) ran.told.out.tree;
           passed = (ran.run, sym ran.verdict, refl);
           message_left = ran.message_left;
@@ -138,7 +140,7 @@ module _ (before : Repository) (message : List ℕ) (skip : List (List ℕ)) whe
         room = made.may.room;
         counted = made.counted;
         reported = it.reported ∙ ap (λ (report : List ℕ). report ∷ []) ran.reported;
-        behind = subst (λ (config : Config). IsPost config before skip post it.further) (same_config before made.config ran.config made.configured ran.configured) made.behind;
+        behind = subst (λ (config : Config). IsPost config before skip post it.further) (same_config before made.config ran.config made.configured configured) made.behind;
         traced = it.joined ∙ ap (λ (front : List Part). front ++ it.further) (ran.traced ∙ sym (append-nil (all_parts ran.told.trace)));
         made = made.made;
       }
@@ -150,7 +152,7 @@ module _ (before : Repository) (message : List ℕ) (skip : List (List ℕ)) whe
       record {
         report = prepared.report;
         last = step.last.message;
-        prepared = subst (λ (own : List Part). IsMessageRan before PrepareCommitMsg (begun_message message) skip false prepared.report step.last.message own before)
+        prepared = subst (λ (own : List Part). IsMessageRan before (plain_ask PrepareCommitMsg skip) (begun_message message) false prepared.report step.last.message own before)
             (sym prepared.joined ∙ sym step.traced) prepared.ran;
         reported = step.reported ∙ prepared.reported;
       }

@@ -78,8 +78,8 @@ module _ (tells : List (List ℕ) → List File → Outcome → Type 0) (alone :
       → AreClear tells parts → AreClear tells more → AreAlike reply second after other
   same_step before after other (Run ask) reply second parts more step then unhindered both clear also =
       same_run before ask tells alone reply second parts more after other step then unhindered both clear also
-  same_step before after other (Message stage message skip) reply second parts more step then unhindered both clear also =
-      same_message_run tells before stage message skip alone reply second parts more after other step then unhindered both clear also
+  same_step before after other (Message ask message) reply second parts more step then unhindered both clear also =
+      same_message_run tells before ask message alone reply second parts more after other step then unhindered both clear also
   same_step before after other (Commit message no_verify skip) reply second parts more step then unhindered both clear also =
       same_commit tells before message no_verify skip alone reply second parts more after other step then unhindered both clear also
   same_step before after other Forget reply second parts more step then unhindered both clear also = same_forget before after other reply second parts more step then unhindered both

@@ -33,7 +33,7 @@ refused_leaves before after (Remove path) refusal parts step = step.1
 refused_leaves before after (Stage edits) refusal parts step = absurd step.0
 refused_leaves before after Accept refusal parts step = step.1
 refused_leaves before after (Run ask) refusal parts step = step.1
-refused_leaves before after (Message stage message skip) refusal parts step = step.1
+refused_leaves before after (Message ask message) refusal parts step = step.1
 refused_leaves before after (Commit message no_verify skip) refusal parts step = step.1
 refused_leaves before after Forget refusal parts step = step.1
 refused_leaves before after (Limit most) refusal parts step = step.1
@@ -56,7 +56,7 @@ history_kept before after (Stage edits) Staged parts step not = edits_history ed
 history_kept before after (Stage edits) (EditRefused stop) parts step not = same_history before after step.2
 history_kept before after Accept (Accepted number) parts step not = ap (λ (repo : Repository). repo.history) step.0.made
 history_kept before after (Run ask) (Ran passed report changes unsteady) parts step not = ap (λ (repo : Repository). repo.history) step.made
-history_kept before after (Message stage message skip) (MessageRan passed report left) parts step not = same_history before after step.same
+history_kept before after (Message ask message) (MessageRan passed report left) parts step not = same_history before after step.same
 history_kept before after (Commit message no_verify skip) (HooksFailed stage reports) parts step not = ap (λ (repo : Repository). repo.history) step.made
 history_kept before after Forget (Forgot number) parts step not = same_history before after step.0
 history_kept before after (Limit most) (Limited number) parts step not = same_history before after step.0
@@ -78,7 +78,7 @@ one_commit_more before after command number reports post parts step = absurd ste
 
 pub runless_parts : (before after : Repository) (command : Command) (reply : Reply) (parts : List Part) → Step before command reply parts after → (¬ RunsHooks command) → parts ≡ []
 runless_parts before after (Run ask) reply parts step runless = absurd (runless tt)
-runless_parts before after (Message stage message skip) reply parts step runless = absurd (runless tt)
+runless_parts before after (Message ask message) reply parts step runless = absurd (runless tt)
 runless_parts before after (Commit message no_verify skip) reply parts step runless = absurd (runless tt)
 runless_parts before after (Add path bytes asked) Added parts step runless = step.1
 runless_parts before after (Remove path) Removed parts step runless = step.1
@@ -97,7 +97,7 @@ runless_parts before after command reply parts step runless = absurd step
 
 no_hooks_begin : (before : Repository) (command : Command) (reply : Reply) (parts : List Part) → (¬ RunsHooks command) → HooksBegin before command reply parts → ⊥
 no_hooks_begin before (Run ask) reply parts runless begin = runless tt
-no_hooks_begin before (Message stage message skip) reply parts runless begin = runless tt
+no_hooks_begin before (Message ask message) reply parts runless begin = runless tt
 no_hooks_begin before (Commit message no_verify skip) reply parts runless begin = runless tt
 no_hooks_begin before command reply parts runless begin = begin
 

@@ -26,7 +26,7 @@ use Rattle.commit_flow.specs.declared.command.Command.TheVariants.{Add, Remove, 
 use Rattle.commit_flow.specs.declared.host_ask.HostAsk.{HostAsk}
 use Rattle.commit_flow.specs.declared.host_refusal.HostRefusal.{HostRefusal}
 use Rattle.commit_flow.specs.declared.host_refusal.HostRefusal.TheVariants.{OutOfMemory, Store, Collision, Spent}
-use Rattle.commit_flow.specs.declared.message_stage.MessageStage.{MessageStage}
+use Rattle.commit_flow.specs.declared.message_ask.MessageAsk.{MessageAsk}
 use Rattle.commit_flow.specs.declared.reply.PostCommit.TheVariants.{Stopped}
 use Rattle.commit_flow.specs.declared.reply.Reply.{Reply}
 use Rattle.commit_flow.specs.declared.reply.Reply.TheVariants.{Committed, Forgot, Limited, MessageRan, Refused}
@@ -36,7 +36,7 @@ use Rattle.commit_flow.specs.CommitSteps.{AreLeftOut, HasBegunBefore, HasBegunBe
 use Rattle.commit_flow.specs.CommitStages.{HaveBegun, ask_in, course_of, parts_of_stages, stages_before_commit, tree_in}
 use Rattle.commit_flow.specs.Commits.{IsVerifiedBut}
 use Rattle.commit_flow.specs.Configured.{IsConfigured}
-use Rattle.commit_flow.specs.MessageRuns.{course_of_message, stage_of_message}
+use Rattle.commit_flow.specs.MessageRuns.{ask_about, tree_about}
 use Rattle.commit_flow.specs.MessageSteps.{AreLeftOutOfMessage, HasMessageBegun, HasMessageFurther, IsMessageStep}
 use Rattle.commit_flow.specs.Plays.{ArePlayed, HasForgotten, HasLimited, HooksBegin, HooksNeedChild, IsPlay, IsPlayed, Makes, RunsHooks, reuse_in}
 use Rattle.commit_flow.specs.RunSteps.{HasRunBegun, HasFurther, HasRunBut, IsRunStep, IsStoppedAt, IsStoppedStep, IsUnrun, IsUnset, StoreStopsRun, reply_of_run}
@@ -87,7 +87,7 @@ module _ (tells next : List (List ℕ) → List File → Outcome → Type 0) (sa
 
 pub unspent : (before after : Repository) (command : Command) (reply : Reply) (parts : List Part) → Step before command reply parts after → (¬ RunsHooks command) → SaysSpent reply → ⊥
 unspent before after (Run ask) reply parts step runless says = runless tt
-unspent before after (Message stage message skip) reply parts step runless says = runless tt
+unspent before after (Message ask message) reply parts step runless says = runless tt
 unspent before after (Commit message no_verify skip) reply parts step runless says = runless tt
 unspent before after (Add path bytes asked) (Refused Spent) parts step runless says = step.0.0
 unspent before after (Remove path) (Refused Spent) parts step runless says = step.0.0
@@ -199,8 +199,8 @@ stopped_played tells from to before ask after refusal over = record {
 
 -- ---- hooks about a message
 
-module _ (from to : Moment) (before : Repository) (stage : MessageStage) (message : List ℕ) (skip : List (List ℕ)) (parts : List Part) where
-  pub none_left_of_message : (reply : Reply) → AreLeftOutOfMessage from to before stage message skip parts reply → StandsOnAll reply → IsUnrun from to parts
+module _ (from to : Moment) (before : Repository) (ask : MessageAsk) (message : List ℕ) (parts : List Part) where
+  pub none_left_of_message : (reply : Reply) → AreLeftOutOfMessage from to before ask message parts reply → StandsOnAll reply → IsUnrun from to parts
   none_left_of_message (Refused OutOfMemory) why stands = absurd stands
   none_left_of_message (Refused (Store fault)) why stands = absurd stands
   none_left_of_message (Refused Collision) why stands = absurd stands
@@ -209,22 +209,22 @@ module _ (from to : Moment) (before : Repository) (stage : MessageStage) (messag
   none_left_of_message (MessageRan passed report left) why stands = why
   none_left_of_message reply why stands = absurd why
 
-  pub message_needed : (reply : Reply) → AreLeftOutOfMessage from to before stage message skip parts reply → SaysSpent reply
-      → HooksNeedChild before (Message stage message skip) reply to.remembered parts
+  pub message_needed : (reply : Reply) → AreLeftOutOfMessage from to before ask message parts reply → SaysSpent reply
+      → HooksNeedChild before (Message ask message) reply to.remembered parts
   message_needed (Refused Spent) why says = why
   message_needed (Refused refusal) why says = absurd says
   message_needed (MessageRan passed report left) why says = absurd says
   message_needed reply why says = absurd why
 
-  message_further : HasMessageFurther before stage message skip to.remembered parts → HasMessageBegun before stage message skip parts
+  message_further : HasMessageFurther before ask message to.remembered parts → HasMessageBegun before ask message parts
   message_further it = record {
     config = it.config;
     configured = it.configured;
-    begun = begun_before it.config (ask_in [] skip (stage_of_message stage)) (tree_in (stage_of_message stage) (course_of_message before message)) to.remembered parts it.needs;
+    begun = begun_before it.config (ask_about ask) (tree_about before ask.stage message) to.remembered parts it.needs;
   }
 
-  pub message_begun : (reply : Reply) → AreLeftOutOfMessage from to before stage message skip parts reply
-      → IsUnrun from to parts ⊎ HooksBegin before (Message stage message skip) reply parts
+  pub message_begun : (reply : Reply) → AreLeftOutOfMessage from to before ask message parts reply
+      → IsUnrun from to parts ⊎ HooksBegin before (Message ask message) reply parts
   message_begun (Refused OutOfMemory) why = why
   message_begun (Refused Spent) why = inr (message_further why)
   message_begun (Refused (Store fault)) why = inr why
@@ -233,21 +233,21 @@ module _ (from to : Moment) (before : Repository) (stage : MessageStage) (messag
   message_begun (MessageRan passed report left) why = inl why
   message_begun reply why = absurd why
 
-unfoldable pub message_played : (tells : List (List ℕ) → List File → Outcome → Type 0) (from to : Moment) (before : Repository) (stage : MessageStage) (message : List ℕ) (skip : List (List ℕ))
+unfoldable pub message_played : (tells : List (List ℕ) → List File → Outcome → Type 0) (from to : Moment) (before : Repository) (ask : MessageAsk) (message : List ℕ)
     (reply : Reply) (after : Repository)
-    → IsMessageStep tells from to before stage message skip reply after → IsPlayed tells from to before (Message stage message skip) reply after
-message_played tells from to before stage message skip reply after over = record {
+    → IsMessageStep tells from to before ask message reply after → IsPlayed tells from to before (Message ask message) reply after
+message_played tells from to before ask message reply after over = record {
   parts = over.parts;
   left_out = over.left_out;
   between = over.between;
   step = over.step;
   makes = over.answered;
   answered_then = over.answered_then;
-  none = none_left_of_message over.between to before stage message skip over.left_out reply over.why;
-  begun = message_begun over.between to before stage message skip over.left_out reply over.why;
+  none = none_left_of_message over.between to before ask message over.left_out reply over.why;
+  begun = message_begun over.between to before ask message over.left_out reply over.why;
   put = over.put;
   spent = over.spent;
-  needed = message_needed over.between to before stage message skip over.left_out reply over.why;
+  needed = message_needed over.between to before ask message over.left_out reply over.why;
 }
 
 -- ---- a commit

@@ -27,7 +27,7 @@ same_moment calls others faults more book other called faulted same = cc
 
 runs_none : (command : Command) → IsRunless command → RunsHooks command → ⊥
 runs_none (Run ask) runless runs = runless
-runs_none (Message stage message skip) runless runs = runless
+runs_none (Message ask message) runless runs = runless
 runs_none (Commit message no_verify skip) runless runs = runless
 runs_none command runless runs = runs
 
@@ -45,7 +45,7 @@ module _ (tells : List (List ℕ) → List File → Outcome → Type 0) (from to
 
   made_unchanged : (command : Command) (reply : Reply) (parts : List Part) → Makes tells from to command reply parts → IsRunless command → parts ≡ [] → to ≡ from
   made_unchanged (Run ask) reply parts makes runless no_parts = absurd runless
-  made_unchanged (Message stage message skip) reply parts makes runless no_parts = absurd runless
+  made_unchanged (Message ask message) reply parts makes runless no_parts = absurd runless
   made_unchanged (Commit message no_verify skip) reply parts makes runless no_parts = absurd runless
   made_unchanged Forget reply parts makes runless no_parts = absurd runless
   made_unchanged (Limit most) reply parts makes runless no_parts = absurd runless

@@ -20,7 +20,7 @@ use Rattle.commit_flow.specs.declared.command.Command.{Command}
 use Rattle.commit_flow.specs.declared.command.Command.TheVariants.{Run, Message, Commit, Forget, Limit}
 use Rattle.commit_flow.specs.declared.host_ask.HostAsk.{HostAsk}
 use Rattle.commit_flow.specs.declared.host_refusal.HostRefusal.{HostRefusal}
-use Rattle.commit_flow.specs.declared.message_stage.MessageStage.{MessageStage}
+use Rattle.commit_flow.specs.declared.message_ask.MessageAsk.{MessageAsk}
 use Rattle.commit_flow.specs.declared.reply.Reply.{Reply}
 use Rattle.commit_flow.specs.declared.reply.Reply.TheVariants.{Refused}
 use Rattle.commit_flow.specs.declared.staged_run.StagedRun.{StagedRun}
@@ -66,16 +66,16 @@ module _ {S : Type 0} (g : Ghosts S) (tells : List (List ℕ) → List File → 
   halted_safely ask refusal over rest left = stopped_safely ask refusal over (hooks_alone g tells (Run ask) old over.parts new refusal rest left)
 
   -- hooks about a message, which change nothing of the repository
-  module _ (stage : MessageStage) (message : List ℕ) (skip : List (List ℕ)) (reply : Reply) (never : ¬ IsDone reply) where
-    pub message_safely : IsMessageStep tells from to old.kept.repo stage message skip reply new.kept.repo → IsAtRest g old new
+  module _ (ask : MessageAsk) (message : List ℕ) (reply : Reply) (never : ¬ IsDone reply) where
+    pub message_safely : IsMessageStep tells from to old.kept.repo ask message reply new.kept.repo → IsAtRest g old new
         → LeavesTold tells (remembered_by old.kept) (MayRemember g old) (MayRemember g new)
-        → IsPlayedSafely g tells from to old new (Message stage message skip) reply
+        → IsPlayedSafely g tells from to old new (Message ask message) reply
     unfolding message_played
     message_safely over rest left = record {
       entry = entry;
       exit = exit;
-      played = message_played tells from to old.kept.repo stage message skip reply new.kept.repo over;
-      safe = hooks_unmade g tells (Message stage message skip) old (over.parts ++ over.left_out) new reply never rest left;
+      played = message_played tells from to old.kept.repo ask message reply new.kept.repo over;
+      safe = hooks_unmade g tells (Message ask message) old (over.parts ++ over.left_out) new reply never rest left;
     }
 
   module _ (message : List ℕ) (no_verify : Bool) (skip : List (List ℕ)) where

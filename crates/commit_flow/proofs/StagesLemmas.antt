@@ -28,7 +28,7 @@ use Rattle.commit_flow.specs.declared.commit_state.CommitState.{CommitState}
 use Rattle.commit_flow.specs.declared.host_refusal.HostRefusal.{HostRefusal}
 use Rattle.commit_flow.specs.declared.host_refusal.HostRefusal.TheVariants.{OutOfMemory}
 use Rattle.commit_flow.specs.CommitCalls.{AreRunOver, IsHalted, IsRunStopped, IsStageOver}
-use Rattle.commit_flow.specs.CommitStages.{FailedAt, HaveBegun, HaveComeTo, HaveFurther, HavePassed, IsStageTold, StageTold, ask_in, course_after, parts_of_stages, reports_of, stages_before_commit, tree_in}
+use Rattle.commit_flow.specs.CommitStages.{FailedAt, HaveBegun, HaveComeTo, HaveFurther, HavePassed, IsStageTold, StageTold, ask_in, ask_with, course_after, parts_of_stages, reports_of, stages_before_commit, tree_in}
 use Rattle.commit_flow.specs.Preparations.{HaveRun, HaveStopped}
 use Rattle.commit_flow.specs.Refusals.{of_run}
 use Rattle.commit_flow.proofs.RefusalLemmas.{run_spent}
@@ -147,7 +147,7 @@ pub stopped_for_memory : (refuses : BookFault → Type 0) (tells : List (List �
     → IsRunStopped refuses tells at at config ask tree run.OutOfMemory
 stopped_for_memory refuses tells at config ask tree = record {
   parts = [];
-  answered = so-far tells reuse.All at at [] (answered-none tells reuse.All at);
+  answered = so-far tells ask.reuse at at [] (answered-none tells ask.reuse at);
   begun = begins-at-once config ask tree;
   not_named = λ is. cc;
   of_book = tt;
@@ -158,10 +158,10 @@ stopped_for_memory refuses tells at config ask tree = record {
 
 module _ (refuses : BookFault → Type 0) (tells : List (List ℕ) → List File → Outcome → Type 0) (from to : Moment) where
   -- a run of a stage was stopped
-  run_stopped : (config : Config) (changed skip : List (List ℕ)) (stage : Stage) (tree : List File) (refusal : RunRefusal)
-      → HaveStopped refuses tells from to config (ask_in changed skip stage) tree refusal → IsRunStopped refuses tells from to config (ask_in changed skip stage) tree refusal
-  run_stopped config changed skip stage tree refusal have =
-      let known : names_no_hook config (ask_in changed skip stage) ≡ false = refl in
+  run_stopped : (config : Config) (reused : Reuse) (changed skip : List (List ℕ)) (stage : Stage) (tree : List File) (refusal : RunRefusal)
+      → HaveStopped refuses tells from to config (ask_with reused changed skip stage) tree refusal → IsRunStopped refuses tells from to config (ask_with reused changed skip stage) tree refusal
+  run_stopped config reused changed skip stage tree refusal have =
+      let known : names_no_hook config (ask_with reused changed skip stage) ≡ false = refl in
       let named : refusal ≢ run.NoSuchHook = λ is. let unknown = have.unknown is in cc in
       record {
         parts = have.over.parts;
@@ -174,13 +174,14 @@ module _ (refuses : BookFault → Type 0) (tells : List (List ℕ) → List File
         spent = have.over.spent;
       }
 
-  pub run_stopped_if : (config : Config) (changed skip : List (List ℕ)) (stage : Stage) (tree : List File) (result : Result RunOut RunRefusal)
-      → IfErr result (HaveStopped refuses tells from to config (ask_in changed skip stage) tree) → IfErr result (IsRunStopped refuses tells from to config (ask_in changed skip stage) tree)
-  run_stopped_if config changed skip stage tree (Ok out) have = tt
-  run_stopped_if config changed skip stage tree (Err refusal) have = run_stopped config changed skip stage tree refusal have
+  pub run_stopped_if : (config : Config) (reused : Reuse) (changed skip : List (List ℕ)) (stage : Stage) (tree : List File) (result : Result RunOut RunRefusal)
+      → IfErr result (HaveStopped refuses tells from to config (ask_with reused changed skip stage) tree)
+      → IfErr result (IsRunStopped refuses tells from to config (ask_with reused changed skip stage) tree)
+  run_stopped_if config reused changed skip stage tree (Ok out) have = tt
+  run_stopped_if config reused changed skip stage tree (Err refusal) have = run_stopped config reused changed skip stage tree refusal have
 
   pub halted_run : (config : Config) (ask : RunAsk) (tree on : List File) (refusal : RunRefusal) → tree ≡ on
-      → IsRunStopped refuses tells from to config ask tree refusal → IsHalted refuses tells from to (IsBegun config ask on) (NeedsChild to.remembered config ask on) (of_run refusal)
+      → IsRunStopped refuses tells from to config ask tree refusal → IsHalted refuses tells ask.reuse from to (IsBegun config ask on) (NeedsChild to.remembered config ask on) (of_run refusal)
   halted_run config ask tree on refusal is stopped = record {
     parts = stopped.parts;
     answered = stopped.answered;
@@ -192,11 +193,11 @@ module _ (refuses : BookFault → Type 0) (tells : List (List ℕ) → List File
   }
 
   -- memory is refused after these parts
-  unfoldable pub halted_for_memory : (begins further : List Part → Type 0) (parts : List Part) → begins parts → AreAnswered tells reuse.All from to parts
-      → IsHalted refuses tells from to begins further OutOfMemory
-  halted_for_memory begins further parts begun answered = record {
+  unfoldable pub halted_for_memory : (reused : Reuse) (begins further : List Part → Type 0) (parts : List Part) → begins parts → AreAnswered tells reused from to parts
+      → IsHalted refuses tells reused from to begins further OutOfMemory
+  halted_for_memory reused begins further parts begun answered = record {
     parts = parts;
-    answered = so-far tells reuse.All from to parts answered;
+    answered = so-far tells reused from to parts answered;
     begun = begun;
     why = record { inner = run.OutOfMemory; not_named = λ is. cc; of_book = tt; is = refl };
     needs = λ is. absurd (cc);
@@ -206,13 +207,13 @@ module _ (refuses : BookFault → Type 0) (tells : List (List ℕ) → List File
 
 -- ---- one stage
 
-pub stage_over : (tells : List (List ℕ) → List File → Outcome → Type 0) (from to : Moment) (config : Config) (changed skip : List (List ℕ)) (stage : Stage) (course begun left : CommitState)
-    (out : RunOut)
+pub stage_over : (tells : List (List ℕ) → List File → Outcome → Type 0) (reused : Reuse) (from to : Moment) (config : Config) (changed skip : List (List ℕ)) (stage : Stage)
+    (course begun left : CommitState) (out : RunOut)
     → begun.tree ≡ tree_in stage course → ((tree : List File) → course_after stage begun tree ≡ course_after stage course tree)
-    → HaveRun tells from to config (ask_in changed skip stage) begun.tree out → left ≡ course_after stage begun out.tree
-    → IsStageOver tells from to config changed skip stage course (record { passed = out.passed; report = out.report; course = left })
-stage_over tells from to config changed skip stage course begun left out on same ran is =
-    let over = subst (λ (tree : List File). HaveRun tells from to config (ask_in changed skip stage) tree out) on ran in
+    → HaveRun tells from to config (ask_with reused changed skip stage) begun.tree out → left ≡ course_after stage begun out.tree
+    → IsStageOver tells reused from to config changed skip stage course (record { passed = out.passed; report = out.report; course = left })
+stage_over tells reused from to config changed skip stage course begun left out on same ran is =
+    let over = subst (λ (tree : List File). HaveRun tells from to config (ask_with reused changed skip stage) tree out) on ran in
     record {
       told = record { trace = over.over.trace; out = out };
       run = over.over.run;
@@ -280,7 +281,8 @@ module _ (tells next : List (List ℕ) → List File → Outcome → Type 0) (fr
   }
 
   -- the next stage was run
-  module _ (reports_after : List (List ℕ)) (end : StageEnd) (over : IsStageOver next between to config changed skip stage course end) (added : reports_after ≡ reports ++ end.report ∷ []) where
+  module _ (reports_after : List (List ℕ)) (end : StageEnd) (over : IsStageOver next reuse.All between to config changed skip stage course end)
+      (added : reports_after ≡ reports ++ end.report ∷ []) where
     abbrev all : List StageTold
     all = so_far.told ++ over.told ∷ []
 
@@ -328,15 +330,17 @@ module _ (tells next : List (List ℕ) → List File → Outcome → Type 0) (fr
         begun_so_far (parts_of_stages all) (all_parts over.told.trace) (begun_all config (ask_in changed skip stage) (tree_in stage course) over.told.trace over.told.out over.run)
         (parts_of-more so_far.told over.told)
 
-    pub one_lost : (refuses : BookFault → Type 0) → IsHalted refuses tells from to (HaveBegun config changed skip stages first) (HaveFurther to.remembered config changed skip stages first) OutOfMemory
+    pub one_lost : (refuses : BookFault → Type 0)
+        → IsHalted refuses tells reuse.All from to (HaveBegun config changed skip stages first) (HaveFurther to.remembered config changed skip stages first) OutOfMemory
     one_lost refuses =
-        halted_for_memory refuses tells from to (HaveBegun config changed skip stages first) (HaveFurther to.remembered config changed skip stages first) (parts_of_stages all) begun_now answered_now
+        halted_for_memory refuses tells from to reuse.All (HaveBegun config changed skip stages first) (HaveFurther to.remembered config changed skip stages first) (parts_of_stages all)
+        begun_now answered_now
 
   -- the next stage is stopped
   pub one_halted : (refuses : BookFault → Type 0) (refusal : HostRefusal)
-      → IsHalted refuses next between to (IsBegun config (ask_in changed skip stage) (tree_in stage course)) (NeedsChild to.remembered config (ask_in changed skip stage) (tree_in stage course))
-      refusal
-      → IsHalted refuses tells from to (HaveBegun config changed skip stages first) (HaveFurther to.remembered config changed skip stages first) refusal
+      → IsHalted refuses next reuse.All between to (IsBegun config (ask_in changed skip stage) (tree_in stage course))
+      (NeedsChild to.remembered config (ask_in changed skip stage) (tree_in stage course)) refusal
+      → IsHalted refuses tells reuse.All from to (HaveBegun config changed skip stages first) (HaveFurther to.remembered config changed skip stages first) refusal
   one_halted refuses refusal halted = record {
     parts = parts_of_stages so_far.told ++ halted.parts;
     answered = answered_up_to tells next from between to (parts_of_stages so_far.told) halted.parts same so_far.answered halted.answered;

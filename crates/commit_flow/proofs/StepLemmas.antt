@@ -227,7 +227,7 @@ one_answer before after other Accept (Refused r) (Refused s) parts more p q runl
 one_answer before after other Accept (Refused r) second parts more p q runless own also = absurd q
 one_answer before after other Accept reply second parts more p q runless own also = absurd p
 one_answer before after other (Run ask) reply second parts more p q runless own also = absurd runless
-one_answer before after other (Message stage message skip) reply second parts more p q runless own also = absurd runless
+one_answer before after other (Message ask message) reply second parts more p q runless own also = absurd runless
 one_answer before after other (Commit message no_verify skip) reply second parts more p q runless own also = absurd runless
 one_answer before after other Forget reply second parts more p q runless own also = absurd runless
 one_answer before after other (Limit most) reply second parts more p q runless own also = absurd runless

@@ -11,6 +11,7 @@ use Rattle.hook_config.specs.declared.stage.Stage.{Stage}
 use Rattle.hook_config.specs.declared.stage.Stage.TheVariants as stage
 use Rattle.result_book.specs.declared.book_fault.BookFault.{BookFault}
 use Rattle.repo_store.specs.StoreBooks.{RefusesAnswers}
+use Rattle.hook_run.specs.declared.reuse.Reuse.{Reuse}
 use Rattle.hook_run.specs.declared.reuse.Reuse.TheVariants as reuse
 use Rattle.hook_run.specs.declared.run_ask.RunAsk.{RunAsk}
 use Rattle.hook_run.specs.declared.run_refusal.RunRefusal.{RunRefusal}
@@ -19,7 +20,7 @@ use Rattle.hook_run.specs.Answers.{AreAnswered, AreAnsweredSoFar}
 use Rattle.hook_run.specs.Moments.{Moment}
 use Rattle.hook_run.specs.Parts.{Part, all_parts}
 use Rattle.hook_run.specs.Refusals.{IsOfBook}
-use Rattle.hook_run.specs.RunOuts.{IsBegun, NeedsChild}
+use Rattle.hook_run.specs.RunOuts.{IsBegun, IsRunOut, NeedsChild}
 use Rattle.repo_store.specs.Kept.{FixCollides, Kept}
 use Rattle.store_faults.specs.Limits.{IsSmall, most_commits}
 use Rattle.repo_store.specs.Repository.{Repository}
@@ -34,7 +35,7 @@ use Rattle.commit_flow.specs.declared.host_refusal.HostRefusal.{HostRefusal}
 use Rattle.commit_flow.specs.declared.host_refusal.HostRefusal.TheVariants.{OutOfMemory, Store, Spent, TooLarge, TooMany, NothingStaged, NoConfig, BadConfig, EmptyMessage, Collision}
 use Rattle.commit_flow.specs.declared.reply.PostCommit.{PostCommit}
 use Rattle.commit_flow.specs.declared.reply.PostCommit.TheVariants.{Told, Stopped}
-use Rattle.commit_flow.specs.CommitStages.{FailedAt, HaveBegun, HaveFurther, HavePassed, IsStageTold, StageTold, ask_in, course_after, course_of, parts_of_stages, reports_of, stages_before_commit}
+use Rattle.commit_flow.specs.CommitStages.{FailedAt, HaveBegun, HaveFurther, HavePassed, IsStageTold, StageTold, ask_in, ask_with, course_after, course_of, parts_of_stages, reports_of, stages_before_commit, tree_in}
 use Rattle.commit_flow.specs.Commits.{HasNothingNew, IsCommittable}
 use Rattle.commit_flow.specs.Configured.{IsConfigured, IsMisconfigured, LacksConfig}
 use Rattle.commit_flow.specs.Refusals.{of_run}
@@ -49,7 +50,7 @@ use Rattle.commit_flow.specs.CommitSteps.{IsUnkept}
 pub record IsRunStopped (refuses : BookFault → Type 0) (tells : List (List ℕ) → List File → Outcome → Type 0)
     (from to : Moment) (config : Config) (ask : RunAsk) (tree : List File) (refusal : RunRefusal) : Type 0 where
   pub parts : List Part
-  pub answered : AreAnsweredSoFar tells reuse.All from to parts
+  pub answered : AreAnsweredSoFar tells ask.reuse from to parts
   pub begun : IsBegun config ask tree parts
   pub not_named : refusal ≢ run.NoSuchHook
   pub of_book : IsOfBook refuses refusal
@@ -66,25 +67,25 @@ pub record IsHalt (refuses : BookFault → Type 0) (refusal : HostRefusal) : Typ
   pub of_book : IsOfBook refuses inner
   pub is : refusal ≡ of_run inner
 
--- The hooks were stopped, and begin with the parts that were answered by then. If the children are spent,
--- there is a further part.
+-- The hooks, which may use these cached results, were stopped. They begin with the parts that were answered by
+-- then. If the children are spent, there is a further part.
 pub record IsHalted (refuses : BookFault → Type 0) (tells : List (List ℕ) → List File → Outcome → Type 0)
-    (from to : Moment) (begins further : List Part → Type 0) (refusal : HostRefusal) : Type 0 where
+    (reused : Reuse) (from to : Moment) (begins further : List Part → Type 0) (refusal : HostRefusal) : Type 0 where
   pub parts : List Part
-  pub answered : AreAnsweredSoFar tells reuse.All from to parts
+  pub answered : AreAnsweredSoFar tells reused from to parts
   pub begun : begins parts
   pub why : IsHalt refuses refusal
   pub needs : refusal ≡ Spent → further parts
   pub put : refusal ≡ Spent → answered.last ≡ []
   pub spent : refusal ≡ Spent → to.calls ≡ 2 ^ 64 - 1
 
--- the hooks of a stage were run, and this is passed on
-pub record IsStageOver (tells : List (List ℕ) → List File → Outcome → Type 0) (from to : Moment)
+-- the hooks of a stage, which may use these cached results, were run, and this is passed on
+pub record IsStageOver (tells : List (List ℕ) → List File → Outcome → Type 0) (reused : Reuse) (from to : Moment)
     (config : Config) (changed skip : List (List ℕ)) (stage : Stage) (course : CommitState)
     (end : StageEnd) : Type 0 where
   pub told : StageTold
-  pub run : IsStageTold config changed skip stage course told
-  pub answered : AreAnswered tells reuse.All from to (all_parts told.trace)
+  pub run : IsRunOut config (ask_with reused changed skip stage) (tree_in stage course) told.trace told.out
+  pub answered : AreAnswered tells reused from to (all_parts told.trace)
   pub passed : end.passed ≡ told.out.passed
   pub reported : end.report ≡ told.out.report
   pub left : end.course ≡ course_after stage course told.out.tree
@@ -137,7 +138,7 @@ pub record IsStoppedIn (tells : List (List ℕ) → List File → Outcome → Ty
   pub committable : IsCommittable repo message
   pub config : Config
   pub configured : IsConfigured repo config
-  pub halted : IsHalted RefusesAnswers tells from to
+  pub halted : IsHalted RefusesAnswers tells reuse.All from to
       (HaveBegun config (changed_paths repo) skip (stages_before_commit no_verify) (course_of repo message))
       (HaveFurther to.remembered config (changed_paths repo) skip (stages_before_commit no_verify)
       (course_of repo message)) refusal

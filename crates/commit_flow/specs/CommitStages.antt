@@ -10,6 +10,7 @@ use Rattle.hook_config.specs.declared.configuration.Config.{Config}
 use Rattle.hook_config.specs.declared.stage.Stage.{Stage}
 use Rattle.hook_config.specs.declared.stage.Stage.TheVariants.{PreCommit, PrepareCommitMsg, CommitMsg}
 use Rattle.result_book.specs.Contents.{Contents}
+use Rattle.hook_run.specs.declared.reuse.Reuse.{Reuse}
 use Rattle.hook_run.specs.declared.reuse.Reuse.TheVariants as reuse
 use Rattle.hook_run.specs.declared.run_ask.RunAsk.{RunAsk}
 use Rattle.hook_run.specs.declared.run_out.RunOut.{RunOut}
@@ -61,9 +62,14 @@ course_after PrepareCommitMsg course tree = without_message_file tree
 course_after CommitMsg course tree = without_message_file tree
 course_after stage course tree = record { tree = tree; message = course.message }
 
+-- what is asked of the hooks of a stage, if they may use these cached results
+abbrev pub ask_with : Reuse → List (List ℕ) → List (List ℕ) → Stage → RunAsk
+ask_with reused changed skip stage =
+    record { stage = stage; candidates = candidates_in changed stage; only = None; skip = skip; reuse = reused }
+
+-- in a commit they may use all
 abbrev pub ask_in : List (List ℕ) → List (List ℕ) → Stage → RunAsk
-ask_in changed skip stage =
-    record { stage = stage; candidates = candidates_in changed stage; only = None; skip = skip; reuse = reuse.All }
+ask_in changed skip stage = ask_with reuse.All changed skip stage
 
 -- a run of a stage: the parts of each of its hooks, and what the run gave
 pub record StageTold : Type 0 where

@@ -2,16 +2,18 @@
 use Rattle.std.specs.Prelude.{◌≡◌, ℕ, List}
 use Rattle.store_faults.specs.Limits.{IsSmall}
 use Rattle.repo_store.specs.Repository.{Repository}
+use Rattle.run_options.specs.declared.options.RunOptions.{RunOptions}
 use Rattle.commit_flow.specs.declared.host_refusal.HostRefusal.{HostRefusal}
 use Rattle.commit_flow.specs.declared.host_refusal.HostRefusal.TheVariants.{OutOfMemory, TooLarge, NoConfig, BadConfig}
 use Rattle.commit_flow.specs.declared.message_begun.MessageBegun.{MessageBegun}
-use Rattle.commit_flow.specs.Configured.{IsConfigured, IsMisconfigured, LacksConfig}
+use Rattle.commit_flow.specs.Configured.{IsConfiguredFor, IsMisconfigured, LacksConfig}
 use Rattle.commit_flow.specs.MessageRuns.{course_of_message}
 
 -- this is what hooks about the message begin with
-pub record IsMessageBegun (repo : Repository) (message : List ℕ) (begun : MessageBegun) : Type 0 where
+pub record IsMessageBegun (repo : Repository) (options : RunOptions) (message : List ℕ)
+    (begun : MessageBegun) : Type 0 where
   pub small : IsSmall message
-  pub configured : IsConfigured repo begun.config
+  pub configured : IsConfiguredFor options repo begun.config
   pub passed : begun.course ≡ course_of_message repo message
 
 -- why they aren't begun

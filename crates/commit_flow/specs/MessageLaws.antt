@@ -10,6 +10,8 @@ use Rattle.hook_run.specs.Parts.{Part}
 use Rattle.store_faults.specs.Limits.{IsSmall}
 use Rattle.repo_store.specs.Repository.{Repository, with_new_commit}
 use Rattle.commit_flow.specs.declared.command.Command.TheVariants.{Message}
+use Rattle.commit_flow.specs.declared.message_ask.MessageAsk.{MessageAsk}
+use Rattle.commit_flow.specs.declared.message_stage.MessageStage.{MessageStage}
 use Rattle.commit_flow.specs.declared.message_stage.MessageStage.TheVariants.{PrepareCommitMsg, CommitMsg}
 use Rattle.commit_flow.specs.declared.reply.PostCommit.{PostCommit}
 use Rattle.commit_flow.specs.declared.reply.Reply.TheVariants.{MessageRan}
@@ -18,6 +20,15 @@ use Rattle.commit_flow.specs.Commits.{HasNothingNew, IsPost, MayCommit}
 use Rattle.commit_flow.specs.Configured.{IsConfigured}
 use Rattle.commit_flow.specs.Messages.{begun_message, cleaned_message}
 use Rattle.commit_flow.specs.Steps.{Step}
+
+-- what is asked of the hooks about a message in a commit: they may use all cached results, and no option is set
+abbrev pub plain_ask : MessageStage → List (List ℕ) → MessageAsk
+plain_ask stage skip = record {
+  stage = stage;
+  skip = skip;
+  fresh = false;
+  options = record { cautious = false; verbose = false };
+}
 
 -- The staged files, which aren't those of the last commit, are committed with this message, cleaned. Then the
 -- hooks after the commit were run, or stopped.
@@ -39,8 +50,8 @@ pub record IsPreparedThenMade (before : Repository) (message : List ℕ) (skip :
   pub last : List ℕ
   pub own : List Part
   pub further : List Part
-  pub prepared : Step before (Message PrepareCommitMsg (begun_message message) skip) (MessageRan true report last) own
-      before
+  pub prepared : Step before (Message (plain_ask PrepareCommitMsg skip) (begun_message message))
+      (MessageRan true report last) own before
   pub made : IsMadeOf before last skip number post further after
   pub reported : reports ≡ report ∷ []
   pub joined : parts ≡ own ++ further
@@ -50,8 +61,8 @@ pub record IsNotPrepared (before : Repository) (message : List ℕ) (skip : List
     (parts : List Part) : Type 0 where
   pub report : List ℕ
   pub last : List ℕ
-  pub prepared : Step before (Message PrepareCommitMsg (begun_message message) skip) (MessageRan false report last)
-      parts before
+  pub prepared : Step before (Message (plain_ask PrepareCommitMsg skip) (begun_message message))
+      (MessageRan false report last) parts before
   pub reported : reports ≡ report ∷ []
 
 -- The staged configuration has no hook of `pre-commit`, and the staged files are a tree without the message's file.
@@ -74,10 +85,10 @@ pub record IsCheckedThenMade (before : Repository) (message : List ℕ) (skip : 
   pub own : List Part
   pub checked_parts : List Part
   pub further : List Part
-  pub prepared : Step before (Message PrepareCommitMsg (begun_message message) skip) (MessageRan true report between)
-      own before
-  pub checked : IsSmall between → Step before (Message CommitMsg between skip) (MessageRan true checked_report last)
-      checked_parts before
+  pub prepared : Step before (Message (plain_ask PrepareCommitMsg skip) (begun_message message))
+      (MessageRan true report between) own before
+  pub checked : IsSmall between → Step before (Message (plain_ask CommitMsg skip) between)
+      (MessageRan true checked_report last) checked_parts before
   pub made : IsMadeOf before last skip number post further after
   pub reported : reports ≡ [] ∷ report ∷ checked_report ∷ []
   pub joined : parts ≡ own ++ (checked_parts ++ further)

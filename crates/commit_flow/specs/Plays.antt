@@ -19,6 +19,7 @@ use Rattle.commit_flow.specs.declared.reply.Reply.{Reply}
 use Rattle.commit_flow.specs.declared.reply.Reply.TheVariants.{Committed, Forgot, Limited, Refused}
 use Rattle.commit_flow.specs.AnswerLimits.{IsLimitedTo}
 use Rattle.commit_flow.specs.CommitSteps.{HasBegunBefore, HasBegunBehind, HasFurtherBefore, HasFurtherBehind, SaysSpent, StandsOnAll}
+use Rattle.commit_flow.specs.MessageRuns.{reuse_about}
 use Rattle.commit_flow.specs.MessageSteps.{HasMessageBegun, HasMessageFurther}
 use Rattle.commit_flow.specs.RunSteps.{HasRunBegun, HasFurther, IsUnrun}
 use Rattle.commit_flow.specs.Runs.{reuse_of}
@@ -27,13 +28,14 @@ use Rattle.commit_flow.specs.Steps.{Step}
 -- the command runs hooks
 abbrev pub RunsHooks : Command → Type 0
 RunsHooks (Run ask) = Unit {0}
-RunsHooks (Message stage message skip) = Unit {0}
+RunsHooks (Message ask message) = Unit {0}
 RunsHooks (Commit message no_verify skip) = Unit {0}
 RunsHooks command = ⊥
 
--- which cached results the hooks of the command may use: a run may ask for fewer, the others use all
+-- which cached results the hooks of the command may use: those of a commit all
 abbrev pub reuse_in : Command → Reuse
 reuse_in (Run ask) = reuse_of ask
+reuse_in (Message ask message) = reuse_about ask
 reuse_in command = reuse.All
 
 -- The hooks that the command runs begin with these parts. They are the hooks of a refused run, those about a
@@ -41,8 +43,8 @@ reuse_in command = reuse.All
 -- stopped. The parts may be all that they have, if memory or the store refuses after them.
 abbrev pub HooksBegin : Repository → Command → Reply → List Part → Type 0
 HooksBegin before (Run ask) (Refused refusal) parts = HasRunBegun before ask parts
-HooksBegin before (Message stage message skip) (Refused refusal) parts =
-    HasMessageBegun before stage message skip parts
+HooksBegin before (Message ask message) (Refused refusal) parts =
+    HasMessageBegun before ask message parts
 HooksBegin before (Commit message no_verify skip) (Refused refusal) parts =
     HasBegunBefore before message no_verify skip parts
 HooksBegin before (Commit message no_verify skip) (Committed number reports (Stopped refusal)) parts =
@@ -52,8 +54,8 @@ HooksBegin before command reply parts = ⊥
 -- these hooks, which the reply picks in the same way, need a child for a further part after these
 abbrev pub HooksNeedChild : Repository → Command → Reply → Contents → List Part → Type 0
 HooksNeedChild before (Run ask) (Refused refusal) remembered parts = HasFurther before ask remembered parts
-HooksNeedChild before (Message stage message skip) (Refused refusal) remembered parts =
-    HasMessageFurther before stage message skip remembered parts
+HooksNeedChild before (Message ask message) (Refused refusal) remembered parts =
+    HasMessageFurther before ask message remembered parts
 HooksNeedChild before (Commit message no_verify skip) (Refused refusal) remembered parts =
     HasFurtherBefore before message no_verify skip remembered parts
 HooksNeedChild before (Commit message no_verify skip) (Committed number reports (Stopped refusal)) remembered parts =

@@ -21,8 +21,9 @@ use Rattle.hook_run.specs.Asks.{names_no_hook}
 use Rattle.hook_run.specs.Parts.{Part, all_parts}
 use Rattle.hook_run.specs.RunOuts.{IsRunOut}
 use Rattle.repo_store.specs.Repository.{Repository, last_tree}
+use Rattle.run_options.specs.declared.options.RunOptions.{RunOptions}
 use Rattle.commit_flow.specs.declared.host_ask.AskStage.{AskStage}
-use Rattle.commit_flow.specs.declared.host_ask.AskStage.TheVariants.{PreCommit, Manual}
+use Rattle.commit_flow.specs.declared.host_ask.AskStage.TheVariants.{PreCommit, PostCommit, Manual}
 use Rattle.commit_flow.specs.declared.host_ask.HostAsk.{HostAsk}
 use Rattle.commit_flow.specs.declared.host_ask.Which.{Which}
 use Rattle.commit_flow.specs.declared.host_ask.Which.TheVariants.{Changed, All, Named}
@@ -57,11 +58,15 @@ candidates_of (Named names) repo = names
 
 abbrev pub stage_of_ask : AskStage → Stage
 stage_of_ask PreCommit = stage.PreCommit
+stage_of_ask PostCommit = stage.PostCommit
 stage_of_ask Manual = stage.Manual
 
--- which cached results the run may use: a fresh run none, and a cautious one those that passed
+-- which cached results hooks may use: afresh none, and with caution those that passed
+abbrev pub reuse_with : Bool → RunOptions → Reuse
+reuse_with fresh options = if fresh then reuse.Nothing else (if options.cautious then reuse.Passed else reuse.All)
+
 abbrev pub reuse_of : HostAsk → Reuse
-reuse_of ask = if ask.fresh then reuse.Nothing else (if ask.options.cautious then reuse.Passed else reuse.All)
+reuse_of ask = reuse_with ask.fresh ask.options
 
 abbrev pub run_ask_of : HostAsk → Repository → RunAsk
 run_ask_of ask repo = record {

@@ -22,7 +22,7 @@ IsDecided reply = Unit {0}
 -- the command neither runs hooks nor depends on what is cached
 abbrev pub IsRunless : Command → Type 0
 IsRunless (Run ask) = ⊥
-IsRunless (Message stage message skip) = ⊥
+IsRunless (Message ask message) = ⊥
 IsRunless (Commit message no_verify skip) = ⊥
 IsRunless Forget = ⊥
 IsRunless (Limit most) = ⊥

@@ -168,7 +168,7 @@ IsRefused before (Remove path) parts refusal = IsRemoveRefusal before path refus
 IsRefused before (Stage edits) parts refusal = ⊥
 IsRefused before Accept parts refusal = IsAcceptRefusal before refusal × (parts ≡ [])
 IsRefused before (Run ask) parts refusal = IsRunRefusal before ask refusal × (parts ≡ [])
-IsRefused before (Message stage message skip) parts refusal = IsMessageRefusal before message refusal × (parts ≡ [])
+IsRefused before (Message ask message) parts refusal = IsMessageRefusal before message refusal × (parts ≡ [])
 IsRefused before (Commit message no_verify skip) parts refusal =
     IsCommitRefusal before message no_verify skip parts refusal
 IsRefused before Forget parts refusal = IsForgetRefusal refusal × (parts ≡ [])
@@ -188,8 +188,8 @@ Step before (Stage edits) (EditRefused stop) parts after =
 Step before Accept (Accepted number) parts after = IsAccepted before number after × (parts ≡ [])
 Step before (Run ask) (Ran passed report changes unsteady) parts after =
     IsRan before ask passed report changes unsteady parts after
-Step before (Message stage message skip) (MessageRan passed report left) parts after =
-    IsMessageRan before stage message skip passed report left parts after
+Step before (Message ask message) (MessageRan passed report left) parts after =
+    IsMessageRan before ask message passed report left parts after
 Step before (Commit message no_verify skip) (Committed number reports post) parts after =
     IsCommitted before message no_verify skip number reports post parts after
 Step before (Commit message no_verify skip) (HooksFailed stage reports) parts after =

@@ -1,6 +1,6 @@
 //! The commands of a host, as values.
 
-use crate::{HostAsk, MessageStage, StagingEdits};
+use crate::{HostAsk, MessageAsk, StagingEdits};
 use hook_base::{Bytes, Items, Mode, Text};
 use store_faults::AnswerLimit;
 
@@ -35,12 +35,10 @@ pub enum Command {
     },
     /// [`Host::message`](crate::Host::message): the hooks of a stage about a message, without a commit.
     Message {
-        /// The stage.
-        stage: MessageStage,
+        /// What is asked of them.
+        ask: MessageAsk,
         /// The message that the hooks get.
         message: Bytes,
-        /// The ids and aliases of hooks that are skipped.
-        skip: Items<Text>,
     },
     /// [`Host::commit`](crate::Host::commit).
     Commit {

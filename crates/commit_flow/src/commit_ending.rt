@@ -16,7 +16,7 @@ use crate::{HostRefusal, PostCommit};
 use child_port::Children;
 use hook_base::{Bytes, Items, Text, Tree};
 use hook_config::{Config, Stage};
-use hook_run::{RunOut, RunRefusal};
+use hook_run::{Reuse, RunOut, RunRefusal};
 use repo_store::Store;
 use sqlite::Alter;
 use std::alloc::Global;
@@ -120,6 +120,7 @@ fn run_on_staged<C: Children, S: Alter>(
         &[],
         skip,
         Stage::PostCommit,
+        Reuse::All,
         &staged,
     )
 }

@@ -4,9 +4,10 @@ ghost use Rattle.std.specs.Prelude.{◌≡◌, [], ◌∷◌, ◌++◌, IfOk, If
 ghost use Rattle.child_port.specs.Telling.{SameTells};
 ghost use Rattle.hook_base.specs.Paths.{message_path};
 ghost use Rattle.hook_run.specs.RunOuts.{IsBegun, NeedsChild};
+ghost use Rattle.hook_run.specs.declared.reuse.Reuse.TheVariants.{All};
 ghost use Rattle.hook_run.specs.Moments.{moment};
 ghost use Rattle.commit_flow.specs.CommitCalls.{AreRunOver, IsHalted, IsRunStopped, IsStageOver};
-ghost use Rattle.commit_flow.specs.CommitStages.{HaveBegun, HaveFurther, ask_in, candidates_in, stages_before_commit, tree_in};
+ghost use Rattle.commit_flow.specs.CommitStages.{HaveBegun, HaveFurther, ask_with, candidates_in, stages_before_commit, tree_in};
 ghost use Rattle.commit_flow.specs.Preparations.{HaveRun, LeavesTold};
 
 use crate::HostRefusal;
@@ -79,7 +80,7 @@ pub(crate) fn run_stages<C: Children, B: Book>(
         (moment (C.call_count children.old) (C.fault_count children.old) (B.contents book.old))
         (moment (C.call_count children.new) (C.fault_count children.new) (B.contents book.new)) config.now changed.now
         skip.now stages.now course) }
-    ensures halted { IfErr result (IsHalted B.refuses (C.tells children.old)
+    ensures halted { IfErr result (IsHalted B.refuses (C.tells children.old) All
         (moment (C.call_count children.old) (C.fault_count children.old) (B.contents book.old))
         (moment (C.call_count children.new) (C.fault_count children.new) (B.contents book.new))
         (HaveBegun config.now changed.now skip.now stages.now course)
@@ -91,7 +92,17 @@ pub(crate) fn run_stages<C: Children, B: Book>(
     let mut reports = Vec::new(alloc);
     let mut course = course;
     'stages: for stage in stages {
-        let end = run_stage(alloc, children, book, config, changed, skip, *stage, course)?;
+        let end = run_stage(
+            alloc,
+            children,
+            book,
+            config,
+            changed,
+            skip,
+            *stage,
+            Reuse::All,
+            course,
+        )?;
         let StageEnd {
             passed,
             report,
@@ -120,7 +131,7 @@ fn add_report(reports: &mut Vec<Bytes>, report: Bytes) -> Result<(), OutOfMemory
     Ok(())
 }
 
-/// Runs the hooks of a stage on what it gets.
+/// Runs the hooks of a stage on what it gets. They may use these cached results.
 pub(crate) fn run_stage<C: Children, B: Book>(
     alloc: Global,
     children: &mut C,
@@ -129,17 +140,19 @@ pub(crate) fn run_stage<C: Children, B: Book>(
     changed: &[RepoPath],
     skip: &[Text],
     stage: Stage,
+    reuse: Reuse,
     course: CommitState,
 ) -> Result<StageEnd, HostRefusal>
-    ensures run { IfOk result (IsStageOver (C.tells children.old)
+    ensures run { IfOk result (IsStageOver (C.tells children.old) reuse
         (moment (C.call_count children.old) (C.fault_count children.old) (B.contents book.old))
         (moment (C.call_count children.new) (C.fault_count children.new) (B.contents book.new)) config.now changed.now
         skip.now stage course) }
-    ensures halted { IfErr result (IsHalted B.refuses (C.tells children.old)
+    ensures halted { IfErr result (IsHalted B.refuses (C.tells children.old) reuse
         (moment (C.call_count children.old) (C.fault_count children.old) (B.contents book.old))
         (moment (C.call_count children.new) (C.fault_count children.new) (B.contents book.new))
-        (IsBegun config.now (ask_in changed.now skip.now stage) (tree_in stage course))
-        (NeedsChild (B.contents book.new) config.now (ask_in changed.now skip.now stage) (tree_in stage course))) }
+        (IsBegun config.now (ask_with reuse changed.now skip.now stage) (tree_in stage course))
+        (NeedsChild (B.contents book.new) config.now (ask_with reuse changed.now skip.now stage)
+        (tree_in stage course))) }
     ensures left { LeavesTold (C.tells children.old) (B.contents book.old) (B.leaves book.old) (B.leaves book.new) }
     ensures rest { B.rests book.old book.new }
     ensures same { SameTells (C.tells children.old) (C.tells children.new) }
@@ -153,6 +166,7 @@ pub(crate) fn run_stage<C: Children, B: Book>(
         changed,
         skip,
         stage,
+        reuse,
         &begun.tree,
     )?;
     let RunOut {
@@ -170,7 +184,7 @@ pub(crate) fn run_stage<C: Children, B: Book>(
     })
 }
 
-/// Runs the hooks of a stage on the files of the tree.
+/// Runs the hooks of a stage on the files of the tree. They may use these cached results.
 pub(crate) fn run_hooks_of<C: Children, B: Book>(
     alloc: Global,
     children: &mut C,
@@ -179,31 +193,33 @@ pub(crate) fn run_hooks_of<C: Children, B: Book>(
     changed: &[RepoPath],
     skip: &[Text],
     stage: Stage,
+    reuse: Reuse,
     tree: &Tree,
 ) -> Result<RunOut, RunRefusal>
     ensures run { IfOk result (HaveRun (C.tells children.old)
         (moment (C.call_count children.old) (C.fault_count children.old) (B.contents book.old))
         (moment (C.call_count children.new) (C.fault_count children.new) (B.contents book.new)) config.now
-        (ask_in changed.now skip.now stage) tree.now) }
+        (ask_with reuse changed.now skip.now stage) tree.now) }
     ensures stopped { IfErr result (IsRunStopped B.refuses (C.tells children.old)
         (moment (C.call_count children.old) (C.fault_count children.old) (B.contents book.old))
         (moment (C.call_count children.new) (C.fault_count children.new) (B.contents book.new)) config.now
-        (ask_in changed.now skip.now stage) tree.now) }
+        (ask_with reuse changed.now skip.now stage) tree.now) }
     ensures left { LeavesTold (C.tells children.old) (B.contents book.old) (B.leaves book.old) (B.leaves book.new) }
     ensures rest { B.rests book.old book.new }
     ensures same { SameTells (C.tells children.old) (C.tells children.new) }
 {
-    let ask = ask_in(alloc, changed, skip, stage)?;
+    let ask = ask_with(alloc, reuse, changed, skip, stage)?;
     run_with_book(alloc, children, book, config, &ask, tree)
 }
 
-fn ask_in(
+fn ask_with(
     alloc: Global,
+    reuse: Reuse,
     changed: &[RepoPath],
     skip: &[Text],
     stage: Stage,
 ) -> Result<RunAsk, OutOfMemory>
-    ensures { IfOk result (λ ask. ask ≡ ask_in changed.now skip.now stage) }
+    ensures { IfOk result (λ ask. ask ≡ ask_with reuse changed.now skip.now stage) }
 {
     let candidates = candidates_in(alloc, changed, stage)?;
     let skip = copy_texts(alloc, skip)?;
@@ -212,7 +228,7 @@ fn ask_in(
         candidates,
         only: None,
         skip,
-        reuse: Reuse::All,
+        reuse,
     })
 }
 

@@ -37,6 +37,8 @@ pub enum Which {
 pub enum AskStage {
     /// The hooks that run before a commit.
     PreCommit,
+    /// The hooks that run after a commit.
+    PostCommit,
     /// The hooks that run only on request.
     Manual,
 }

@@ -3,10 +3,10 @@
 //! A [`Host`] works on a store, which keeps the repository and caches what children answered, up to a limit.
 //! Runs and commits use these cached results and add to them. A [`HostAsk`] says what is asked of a run of
 //! hooks on the staged files, and a [`StagedRun`] what it gave. A [`CommitEnding`] says how a commit through
-//! its hooks ended, and a [`MessageRun`] what the hooks of a [`MessageStage`] gave without a commit. A
-//! [`HostRefusal`] says why a command is refused. [`Command`] and [`Reply`] are the commands and their answers
-//! as values. A list of [`StagingEdit`]s makes several changes of the staged files at once, and a
-//! [`StagingStop`] says which of them is refused.
+//! its hooks ended. A [`MessageAsk`] says what is asked of the hooks of a [`MessageStage`] without a commit, and
+//! a [`MessageRun`] what they gave. A [`HostRefusal`] says why a command is refused. [`Command`] and [`Reply`]
+//! are the commands and their answers as values. A list of [`StagingEdit`]s makes several changes of the staged
+//! files at once, and a [`StagingStop`] says which of them is refused.
 //!
 //! The contracts cite `Step` of `specs/Steps.antt`: what each command may answer, and what it makes of the
 //! repository. The other specs that they cite are:
@@ -49,6 +49,7 @@ mod host_ask;
 mod host_refusal;
 pub mod laws;
 mod message;
+mod message_ask;
 mod message_begun;
 mod message_hooks;
 mod message_run;
@@ -68,6 +69,7 @@ pub use host::Host;
 pub use host_ask::{AskStage, HostAsk, Which};
 pub use host_refusal::HostRefusal;
 pub use message::{begun_message, cleaned_message};
+pub use message_ask::MessageAsk;
 pub use message_run::MessageRun;
 pub use message_stage::MessageStage;
 pub use reply::{PostCommit, Reply};

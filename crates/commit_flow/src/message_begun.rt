@@ -10,13 +10,14 @@ use crate::{HostRefusal, MessageStage};
 use hook_base::{Bytes, Content};
 use hook_config::{Config, Stage};
 use repo_store::{MOST_CONTENT_BYTES, Store};
+use run_options::{RunOptions, with_options};
 use sqlite::Alter;
 use std::alloc::Global;
 
 /// What the hooks of a stage about a message begin with.
 #[derive(Drop)]
 pub(crate) struct MessageBegun {
-    /// The staged configuration.
+    /// The staged configuration, changed by the options.
     pub(crate) config: Config,
     /// The staged files, and the message.
     pub(crate) course: CommitState,
@@ -28,15 +29,17 @@ pub(crate) struct MessageBegun {
 pub(crate) fn begin_message<S: Alter>(
     alloc: Global,
     store: &Store<S>,
+    options: RunOptions,
     message: &[u8],
 ) -> Result<MessageBegun, HostRefusal>
-    ensures begun { IfOk result (IsMessageBegun store.now.kept.repo message.now) }
+    ensures begun { IfOk result (IsMessageBegun store.now.kept.repo options message.now) }
     ensures refused { IfErr result (IsMessageUnbegun store.now.kept.repo message.now) }
 {
     if message.len() > MOST_CONTENT_BYTES {
         return Err(HostRefusal::TooLarge);
     }
-    let config = staged_config(alloc, store)?;
+    let staged = staged_config(alloc, store)?;
+    let config = with_options(alloc, staged, options)?;
     let tree = store.staged()?;
     let message = Bytes::copy_of(alloc, message)?;
     let course = CommitState {

@@ -13,7 +13,7 @@ ghost use Rattle.commit_flow.specs.Stops.{IsOneCommand, IsPlayedSafely};
 ghost use Rattle.commit_flow.specs.Steps.{Step};
 
 use crate::{
-    Command, CommitEnding, Host, HostAsk, MessageRun, MessageStage, Reply, StagedRun, StagingEdits,
+    Command, CommitEnding, Host, HostAsk, MessageAsk, MessageRun, Reply, StagedRun, StagingEdits,
 };
 use child_port::Children;
 use hook_base::{Bytes, Items, Mode, OutOfMemory, Text};
@@ -68,11 +68,7 @@ impl<S: Alter> Host<S> {
             Command::Stage { edits } => self.play_stage(edits),
             Command::Accept => self.play_accept(),
             Command::Run { ask } => self.play_run(alloc, children, ask),
-            Command::Message {
-                stage,
-                message,
-                skip,
-            } => self.play_message(alloc, children, *stage, message, skip),
+            Command::Message { ask, message } => self.play_message(alloc, children, ask, message),
             Command::Commit {
                 message,
                 no_verify,
@@ -160,17 +156,16 @@ impl<S: Alter> Host<S> {
         &mut self,
         alloc: Global,
         children: &mut C,
-        stage: MessageStage,
+        ask: &MessageAsk,
         message: &Bytes,
-        skip: &Items<Text>,
     ) -> Reply
         ensures played { IsPlayedSafely S.Store (C.tells children.old)
             (moment (C.call_count children.old) (C.fault_count children.old) (remembered_by self.old.store.kept))
             (moment (C.call_count children.new) (C.fault_count children.new) (remembered_by self.new.store.kept))
-            self.old.store self.new.store (Message stage message.now skip.now) result }
+            self.old.store self.new.store (Message ask.now message.now) result }
         ensures same { SameTells (C.tells children.old) (C.tells children.new) }
     {
-        match self.message(alloc, children, stage, message.as_slice(), skip.as_slice()) {
+        match self.message(alloc, children, ask, message.as_slice()) {
             Ok(
                 MessageRun {
                     passed,

@@ -2,7 +2,7 @@
 
 ghost use Rattle.std.specs.Prelude.{◌≡◌, IfOk, IfErr};
 ghost use Rattle.commit_flow.specs.Preparations.{IsPrepared, IsUnprepared, run_ask_with};
-ghost use Rattle.commit_flow.specs.Runs.{reuse_of, stage_of_ask};
+ghost use Rattle.commit_flow.specs.Runs.{reuse_with, stage_of_ask};
 
 use crate::candidates::candidates;
 use crate::staged_configuration::staged_config;
@@ -11,7 +11,7 @@ use hook_base::{Items, OutOfMemory, RepoPath, Text, Tree, copy_texts};
 use hook_config::{Config, Stage};
 use hook_run::{Reuse, RunAsk};
 use repo_store::Store;
-use run_options::with_options;
+use run_options::{RunOptions, with_options};
 use sqlite::Alter;
 use std::alloc::Global;
 
@@ -60,17 +60,17 @@ fn run_ask_with(
         candidates,
         only,
         skip,
-        reuse: reuse_of(ask),
+        reuse: reuse_with(ask.fresh, ask.options),
     })
 }
 
-// Which cached results the run may use: a fresh run none, and a cautious one those that passed.
-fn reuse_of(ask: &HostAsk) -> Reuse
-    ensures { result ≡ reuse_of ask.now }
+/// Which cached results hooks may use: afresh none, and with caution those that passed.
+pub(crate) fn reuse_with(fresh: bool, options: RunOptions) -> Reuse
+    ensures { result ≡ reuse_with fresh options }
 {
-    if ask.fresh {
+    if fresh {
         Reuse::Nothing
-    } else if ask.options.cautious {
+    } else if options.cautious {
         Reuse::Passed
     } else {
         Reuse::All
@@ -91,6 +91,7 @@ fn stage_of(stage: AskStage) -> Stage
 {
     match stage {
         AskStage::PreCommit => Stage::PreCommit,
+        AskStage::PostCommit => Stage::PostCommit,
         AskStage::Manual => Stage::Manual,
     }
 }

@@ -10,7 +10,7 @@ use Rattle.commit_flow.specs.declared.staged_run.StagedRun.{StagedRun}
 use Rattle.commit_flow.specs.declared.host_ask.HostAsk.{HostAsk}
 use Rattle.commit_flow.specs.declared.host_refusal.HostRefusal.{HostRefusal}
 use Rattle.commit_flow.specs.declared.message_run.MessageRun.{MessageRun}
-use Rattle.commit_flow.specs.declared.message_stage.MessageStage.{MessageStage}
+use Rattle.commit_flow.specs.declared.message_ask.MessageAsk.{MessageAsk}
 use Rattle.commit_flow.specs.Commands.{reply_of, reply_of_ending, reply_of_message}
 use Rattle.commit_flow.specs.MessageSteps.{IsMessageStep}
 use Rattle.commit_flow.specs.Stops.{IsPlayedSafely}
@@ -71,13 +71,13 @@ commit-answered g tells counts old new message no_verify skip out err ending ans
     record { answer = answer; step = step; change = change; safe = safe; replied = replied }
 
 -- hooks about a message whose answer is printed
-pub message-answered : {S : Type 0} (g : Ghosts S) (tells : List (List ℕ) → List File → Outcome → Type 0) (counts : Counts) (old new : Host S) (stage : MessageStage) (message : List ℕ)
-    (skip : List (List ℕ)) (out err : Output) (left : Option (List ℕ)) (ending : CommandEnding)
+pub message-answered : {S : Type 0} (g : Ghosts S) (tells : List (List ℕ) → List File → Outcome → Type 0) (counts : Counts) (old new : Host S) (ask : MessageAsk) (message : List ℕ)
+    (out err : Output) (left : Option (List ℕ)) (ending : CommandEnding)
     (answer : Result MessageRun HostRefusal)
-    → IsMessageStep tells (moment_before counts old) (moment_after counts new) old.store.kept.repo stage message skip (reply_of reply_of_message answer) new.store.kept.repo
+    → IsMessageStep tells (moment_before counts old) (moment_after counts new) old.store.kept.repo ask message (reply_of reply_of_message answer) new.store.kept.repo
     → IsAtRest g old.store new.store
-    → IsPlayedSafely g tells (moment_before counts old) (moment_after counts new) old.store new.store (command.Message stage message skip) (reply_of reply_of_message answer)
+    → IsPlayedSafely g tells (moment_before counts old) (moment_after counts new) old.store new.store (command.Message ask message) (reply_of reply_of_message answer)
     → IsReplied out err (reply_of reply_of_message answer) ending → left ≡ message_left answer ending
-    → IsMessageOverHost g tells counts old new stage message skip out err left ending
-message-answered g tells counts old new stage message skip out err left ending answer step rest safe replied given =
+    → IsMessageOverHost g tells counts old new ask message out err left ending
+message-answered g tells counts old new ask message out err left ending answer step rest safe replied given =
     record { answer = answer; step = step; rest = rest; safe = safe; replied = replied; given = given }

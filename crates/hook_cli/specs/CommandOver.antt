@@ -24,7 +24,7 @@ use Rattle.commit_flow.specs.declared.host_ask.HostAsk.{HostAsk}
 use Rattle.commit_flow.specs.declared.host_refusal.HostRefusal.{HostRefusal}
 use Rattle.commit_flow.specs.declared.host_refusal.HostRefusal.TheVariants.{OutOfMemory, BadPath, NotStaged, Collision}
 use Rattle.commit_flow.specs.declared.message_run.MessageRun.{MessageRun}
-use Rattle.commit_flow.specs.declared.message_stage.MessageStage.{MessageStage}
+use Rattle.commit_flow.specs.declared.message_ask.MessageAsk.{MessageAsk}
 use Rattle.commit_flow.specs.declared.reply.Reply.{Reply}
 use Rattle.commit_flow.specs.declared.reply.Reply.TheVariants.{Added, Removed, Staged, Accepted, Ran, MessageRan, Committed, HooksFailed, Forgot, Limited, EditRefused, Refused}
 use Rattle.commit_flow.specs.declared.staged_run.StagedRun.{StagedRun}
@@ -205,14 +205,14 @@ message_left (Err refusal) ending = None
 -- the host's machine over the children, and the repository stays as it was. The message is given that the hooks
 -- leave, if it may be used.
 pub record IsMessageOverHost {S : Type 0} (g : Ghosts S) (tells : List (List ℕ) → List File → Outcome → Type 0)
-    (counts : Counts) (old new : Host S) (stage : MessageStage) (message : List ℕ) (skip : List (List ℕ))
-    (out err : Output) (left : Option (List ℕ)) (ending : CommandEnding) : Type 0 where
+    (counts : Counts) (old new : Host S) (ask : MessageAsk) (message : List ℕ) (out err : Output)
+    (left : Option (List ℕ)) (ending : CommandEnding) : Type 0 where
   pub answer : Result MessageRun HostRefusal
-  pub step : IsMessageStep tells (moment_before counts old) (moment_after counts new) old.store.kept.repo stage message
-      skip (reply_of reply_of_message answer) new.store.kept.repo
+  pub step : IsMessageStep tells (moment_before counts old) (moment_after counts new) old.store.kept.repo ask message
+      (reply_of reply_of_message answer) new.store.kept.repo
   pub rest : IsAtRest g old.store new.store
   pub safe : IsPlayedSafely g tells (moment_before counts old) (moment_after counts new) old.store new.store
-      (command.Message stage message skip) (reply_of reply_of_message answer)
+      (command.Message ask message) (reply_of reply_of_message answer)
   pub replied : IsReplied out err (reply_of reply_of_message answer) ending
   pub given : left ≡ message_left answer ending
 
@@ -315,8 +315,8 @@ IsDoneOver g tells counts old new (command.Stage edits) out err ending = AreStag
 IsDoneOver g tells counts old new command.Accept out err ending = IsAcceptOver g old new out err ending
 IsDoneOver g tells counts old new (command.Run ask) out err ending =
     IsRunOverHost g tells counts old new ask out err ending
-IsDoneOver g tells counts old new (command.Message stage message skip) out err ending =
-    (left : Option (List ℕ)) × IsMessageOverHost g tells counts old new stage message skip out err left ending
+IsDoneOver g tells counts old new (command.Message ask message) out err ending =
+    (left : Option (List ℕ)) × IsMessageOverHost g tells counts old new ask message out err left ending
 IsDoneOver g tells counts old new (command.Commit message no_verify skip) out err ending =
     IsCommitOverHost g tells counts old new message no_verify skip out err ending
 IsDoneOver g tells counts old new command.Forget out err ending = IsForgetOver g old new out err ending
@@ -325,7 +325,7 @@ IsDoneOver g tells counts old new (command.Limit most) out err ending = IsLimitO
 -- the command runs no hooks
 abbrev pub IsHookless : Command → Type 0
 IsHookless (command.Run ask) = ⊥
-IsHookless (command.Message stage message skip) = ⊥
+IsHookless (command.Message ask message) = ⊥
 IsHookless (command.Commit message no_verify skip) = ⊥
 IsHookless done = Unit {0}
 
@@ -336,10 +336,10 @@ IsCalledBy done counts =
 
 -- the hooks about a message end in one of these ways, and have the exit status of that ending
 pub record IsMessageOver {S : Type 0} (g : Ghosts S) (tells : List (List ℕ) → List File → Outcome → Type 0)
-    (counts : Counts) (old new : Host S) (stage : MessageStage) (message : List ℕ) (skip : List (List ℕ))
-    (out err : Output) (left : Option (List ℕ)) (status : ℕ) : Type 0 where
+    (counts : Counts) (old new : Host S) (ask : MessageAsk) (message : List ℕ) (out err : Output)
+    (left : Option (List ℕ)) (status : ℕ) : Type 0 where
   pub ending : CommandEnding
-  pub over : IsMessageOverHost g tells counts old new stage message skip out err left ending
+  pub over : IsMessageOverHost g tells counts old new ask message out err left ending
   pub exits : status ≡ status_of ending
 
 -- the command ends in one of these ways, and has the exit status of that ending

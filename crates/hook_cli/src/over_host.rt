@@ -107,20 +107,9 @@ fn end_of<S: Alter, C: Children, O: Write, E: Write>(
         Command::Stage { edits } => stage(edits, host, err),
         Command::Accept => accept(host, out, err),
         Command::Run { ask } => run(alloc, ask, host, children, out, err),
-        Command::Message {
-            stage,
-            message,
-            skip,
-        } => run_message_hooks(
-            alloc,
-            *stage,
-            message.as_slice(),
-            skip.as_slice(),
-            host,
-            children,
-            out,
-            err,
-        ),
+        Command::Message { ask, message } => {
+            run_message_hooks(alloc, ask, message.as_slice(), host, children, out, err)
+        }
         Command::Commit {
             message,
             no_verify,

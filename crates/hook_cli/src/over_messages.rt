@@ -13,8 +13,8 @@ use crate::command_ending::status_of;
 use crate::printing::tell;
 use crate::run_printing::say_message;
 use child_port::Children;
-use commit_flow::{Host, MessageRun, MessageStage};
-use hook_base::{Content, Text};
+use commit_flow::{Host, MessageAsk, MessageRun};
+use hook_base::Content;
 use sqlite::Alter;
 use std::alloc::Global;
 use std::io::Write;
@@ -46,9 +46,8 @@ struct MessageAnswered {
 /// [`command_over`]: crate::command_over
 pub fn message_over<S: Alter, C: Children, O: Write, E: Write>(
     alloc: Global,
-    stage: MessageStage,
+    ask: &MessageAsk,
     message: &[u8],
-    skip: &[Text],
     host: &mut Host<S>,
     children: &mut C,
     out: &mut O,
@@ -61,13 +60,13 @@ pub fn message_over<S: Alter, C: Children, O: Write, E: Write>(
           faults = C.fault_count
               children.old;
           faults_after = C.fault_count children.new;
-        }) host.old host.new stage message.now skip.now
+        }) host.old host.new ask.now message.now
         (output_of (O.contents out.old) (O.contents out.new)) (output_of (E.contents err.old) (E.contents err.new))
         result.message result.status }
     ensures same { SameTells (C.tells children.old) (C.tells children.new) }
     ensures one_of { (result.status ≡ 0) ⊎ (result.status ≡ 1) ⊎ (result.status ≡ 3) }
 {
-    let answered = hooks_of_message(alloc, stage, message, skip, host, children, out, err);
+    let answered = hooks_of_message(alloc, ask, message, host, children, out, err);
     let MessageAnswered { ending, message } = answered;
     MessageOver {
         status: status_of(ending),
@@ -78,9 +77,8 @@ pub fn message_over<S: Alter, C: Children, O: Write, E: Write>(
 /// The same as a command, without the message that the hooks leave.
 pub(crate) fn run_message_hooks<S: Alter, C: Children, O: Write, E: Write>(
     alloc: Global,
-    stage: MessageStage,
+    ask: &MessageAsk,
     message: &[u8],
-    skip: &[Text],
     host: &mut Host<S>,
     children: &mut C,
     out: &mut O,
@@ -93,21 +91,20 @@ pub(crate) fn run_message_hooks<S: Alter, C: Children, O: Write, E: Write>(
           faults = C.fault_count
               children.old;
           faults_after = C.fault_count children.new;
-        }) host.old host.new (Message stage message.now skip.now)
+        }) host.old host.new (Message ask.now message.now)
         (output_of (O.contents out.old) (O.contents out.new)) (output_of (E.contents err.old) (E.contents err.new))
         result }
     ensures same { SameTells (C.tells children.old) (C.tells children.new) }
 {
-    let answered = hooks_of_message(alloc, stage, message, skip, host, children, out, err);
+    let answered = hooks_of_message(alloc, ask, message, host, children, out, err);
     let MessageAnswered { ending, message: _ } = answered;
     ending
 }
 
 fn hooks_of_message<S: Alter, C: Children, O: Write, E: Write>(
     alloc: Global,
-    stage: MessageStage,
+    ask: &MessageAsk,
     message: &[u8],
-    skip: &[Text],
     host: &mut Host<S>,
     children: &mut C,
     out: &mut O,
@@ -120,12 +117,12 @@ fn hooks_of_message<S: Alter, C: Children, O: Write, E: Write>(
           faults = C.fault_count
               children.old;
           faults_after = C.fault_count children.new;
-        }) host.old host.new stage message.now skip.now
+        }) host.old host.new ask.now message.now
         (output_of (O.contents out.old) (O.contents out.new)) (output_of (E.contents err.old) (E.contents err.new))
         result.message result.ending }
     ensures same { SameTells (C.tells children.old) (C.tells children.new) }
 {
-    match host.message(alloc, children, stage, message, skip) {
+    match host.message(alloc, children, ask, message) {
         Ok(ran) => {
             let MessageRun {
                 passed,

@@ -1,16 +1,15 @@
 //! Commands of a host, from the words of a row: `add MODE PATH CONTENTS`, `add_zeros MODE PATH COUNT`,
 //! `rm PATH`, `stage COUNT EDIT..` (`host_edits.rt`), `accept`, `run STAGE FILES ONLY HOW SKIP`,
-//! `message STAGE MESSAGE SKIP`, `commit MESSAGE HOW SKIP`, `forget` and `limit NUMBER`.
+//! `message STAGE MESSAGE HOW SKIP`, `commit MESSAGE HOW SKIP`, `forget` and `limit NUMBER`.
 //!
 //! MODE is `plain`, `executable` or `none`. SKIP is a list of the hooks to skip, separated by commas. The
 //! other words are those of `host_asks.rt`.
 
 use crate::host_asks::{asked_name, files_of, how_of, is_unverified, message_stage_of, stage_of};
 use crate::host_edits::edits_of;
-use commit_flow::{Command, HostAsk, StagingEdits};
+use commit_flow::{Command, HostAsk, MessageAsk, StagingEdits};
 use hook_base::{Bytes, Text};
 use hook_cli::{AnswerLimit, skip_list_of};
-use run_options::RunOptions;
 use std::alloc::Global;
 use trial_rows::{Stop, Words, mode_of};
 
@@ -36,11 +35,7 @@ pub(crate) fn command_of(
         "run" => Ok(Command::Run {
             ask: ask_of(alloc, words)?,
         }),
-        "message" => Ok(Command::Message {
-            stage: message_stage_of(words)?,
-            message: Bytes::copy_of(alloc, words.bytes()?)?,
-            skip: skip_list_of(alloc, words.text()?)?,
-        }),
+        "message" => message_hooks_of(alloc, words),
         "commit" => Ok(Command::Commit {
             message: Bytes::copy_of(alloc, words.bytes()?)?,
             no_verify: is_unverified(words)?,
@@ -64,12 +59,22 @@ fn ask_of(alloc: Global, words: &mut Words<'_>) -> Result<HostAsk, Stop> {
         which,
         only,
         fresh: how.fresh,
-        options: RunOptions {
-            cautious: how.cautious,
-            verbose: how.verbose,
-        },
+        options: how.options(),
         skip: skip_list_of(alloc, words.text()?)?,
     })
+}
+
+fn message_hooks_of(alloc: Global, words: &mut Words<'_>) -> Result<Command, Stop> {
+    let stage = message_stage_of(words)?;
+    let message = Bytes::copy_of(alloc, words.bytes()?)?;
+    let how = how_of(words)?;
+    let ask = MessageAsk {
+        stage,
+        skip: skip_list_of(alloc, words.text()?)?,
+        fresh: how.fresh,
+        options: how.options(),
+    };
+    Ok(Command::Message { ask, message })
 }
 
 fn bytes_of(alloc: Global, word: &str, words: &mut Words<'_>) -> Result<Bytes, Stop> {

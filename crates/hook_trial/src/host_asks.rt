@@ -1,19 +1,22 @@
 //! The words by which a row asks for runs, for hooks about a message and for commits:
 //!
-//! - STAGE of a run is `pre-commit` or `manual`, and about a message `prepare-commit-msg` or `commit-msg`;
+//! - STAGE of a run is `pre-commit`, `post-commit` or `manual`, and about a message `prepare-commit-msg` or
+//!   `commit-msg`;
 //! - FILES is `changed`, `all` or the path of the one file that is named;
 //! - ONLY is the hooks to run, or is empty;
-//! - HOW of a run is `remembering`, or one or two of the words `fresh`, `cautious` and `verbose`;
+//! - HOW of a run, and about a message, is `remembering`, or one or two of the words `fresh`, `cautious` and `verbose`;
 //! - HOW of a commit is `verified` or `unverified`.
 
 use commit_flow::{AskStage, MessageStage, Which};
 use hook_base::{Items, Text};
+use run_options::RunOptions;
 use std::alloc::Global;
 use trial_rows::{Stop, Words};
 
 pub(crate) fn stage_of(words: &mut Words<'_>) -> Result<AskStage, Stop> {
     match words.text()? {
         "pre-commit" => Ok(AskStage::PreCommit),
+        "post-commit" => Ok(AskStage::PostCommit),
         "manual" => Ok(AskStage::Manual),
         _ => Err(Stop::BadLine),
     }
@@ -33,6 +36,15 @@ pub(crate) struct How {
     pub(crate) fresh: bool,
     pub(crate) cautious: bool,
     pub(crate) verbose: bool,
+}
+
+impl How {
+    pub(crate) fn options(&self) -> RunOptions {
+        RunOptions {
+            cautious: self.cautious,
+            verbose: self.verbose,
+        }
+    }
 }
 
 const REMEMBERING: How = How {

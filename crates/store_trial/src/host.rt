@@ -7,8 +7,8 @@ use crate::edits::{edit_all, read_asked_mode};
 use crate::stop::Stop;
 use crate::text::read_text;
 use commit_flow::{
-    AskStage, CommitEnding, Host, HostAsk, HostRefusal, MessageRun, MessageStage, PostCommit,
-    StagedRun, Which,
+    AskStage, CommitEnding, Host, HostAsk, HostRefusal, MessageAsk, MessageRun, MessageStage,
+    PostCommit, StagedRun, Which,
 };
 use hook_base::{Items, Text};
 use hook_config::Stage;
@@ -164,13 +164,16 @@ fn message<S: Alter>(
 ) -> Result<(), Stop> {
     let message = read_text(answer.alloc(), text)?;
     let mut children = children_of(answer.alloc(), rows)?;
-    match host.message(
-        answer.alloc(),
-        &mut children,
+    let ask = MessageAsk {
         stage,
-        message.as_slice(),
-        &[],
-    ) {
+        skip: Items::new(answer.alloc()),
+        fresh: false,
+        options: RunOptions {
+            cautious: false,
+            verbose: false,
+        },
+    };
+    match host.message(answer.alloc(), &mut children, &ask, message.as_slice()) {
         Ok(ran) => add_message(&ran, answer),
         Err(refusal) => answer.refused_command(&refusal),
     }

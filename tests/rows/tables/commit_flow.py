@@ -80,6 +80,8 @@ RUN = ("run", "pre-commit", "changed", "", "remembering", "")
 CAUTIOUS = ("run", "pre-commit", "changed", "", "cautious", "")
 # The same in a cautious run, in which no table has `trim`, so that it sees every file.
 TRIM_SEES_ALL = child(3, "trim\ta.txt", f".pre-commit-config.yaml={CONFIGURATION[:-1]}\ta.txt=x".replace("\n", "\1"), output="no more\n")
+TICKET_SEES_ALL = child(
+    3, f"ticket\t{MESSAGE}", f"{MESSAGE}=first\t.pre-commit-config.yaml={CONFIGURATION[:-1]}\ta.txt=x".replace("\n", "\1"), output="no ticket for all\n")
 CONFIGURATION_FILE = ("plain", ".pre-commit-config.yaml", CONFIGURATION)
 A = ("plain", "a.txt", "x\n")
 
@@ -87,7 +89,7 @@ PLAYS = [
     # No command, and each kind of command on a repository with nothing in it.
     (ended(),),
     (
-        "rm", "a", "accept", "run", "manual", "all", "", "remembering", "", "message", "commit-msg", "m", "", "commit", "m", "verified", "", "forget",
+        "rm", "a", "accept", "run", "manual", "all", "", "remembering", "", "message", "commit-msg", "m", "remembering", "", "commit", "m", "verified", "", "forget",
         "add", "none", "a/../b", "x",
         "refused 4 NotStaged\nrefused 11 NoFixes\nrefused 7 NoConfig\nrefused 7 NoConfig\nrefused 10 NothingStaged\nforgot 0\nrefused 3 BadPath 3\n" + ended(),
     ),
@@ -133,8 +135,8 @@ PLAYS = [
     (
         *TRIM, *NO_TICKET, *TICKET, *child(0, f"ticket\t{MESSAGE}", f"{MESSAGE}=a", f"{MESSAGE}=T2 a"), *child(0, f"ticket\t{MESSAGE}", f"{MESSAGE}=b", MESSAGE),
         *child(0, f"ticket\t{MESSAGE}", f"{MESSAGE}=c", "a.txt=y"), *CONFIGURED, "add", "none", "a.txt", "x \n", *RUN,
-        *(word for text in ["first\n", "T1 first\n", "T1 first\n", "a\n", "b\n", "c\n"] for word in ("message", "commit-msg", text, "")),
-        "message", "prepare-commit-msg", "no line end", "", "message", "commit-msg", "", "ticket",
+        *(word for text in ["first\n", "T1 first\n", "T1 first\n", "a\n", "b\n", "c\n"] for word in ("message", "commit-msg", text, "remembering", "")),
+        "message", "prepare-commit-msg", "no line end", "remembering", "", "message", "commit-msg", "", "remembering", "ticket",
         "added\nadded\nran, failed, 0 unsteady\n" + told("change a.txt", "x\n") + told("report", TRIM_FAILED)
         + "message ran, failed\n" + told("message", "first\n") + told("report", TICKET_FAILED)
         + ("message ran, passed\n" + told("message", "T1 first\n") + told("report", TICKET_PASSED)) * 2
@@ -158,6 +160,23 @@ PLAYS = [
         "added\nadded\nran, passed, 0 unsteady\n" + told("report", TRIM_PASSED) + ("ran, failed, 0 unsteady\n" + told("report", NO_MORE)) * 2
         + "ran, passed, 0 unsteady\n" + told("report", TRIM_PASSED) + ended(3, remembered=2) + files("staged", CONFIGURATION_FILE, A),
     ),
+    # Afresh and with caution they are started as in a run: a fresh one each time, a cautious one as long as it fails, and both although it
+    # was answered for fewer files.
+    (
+        *NO_TICKET, *TICKET, *TICKET_SEES_ALL, *CONFIGURED, "add", "none", "a.txt", "x\n",
+        *(word for text, how in [("first\n", "remembering"), ("first\n", "cautious"), ("first\n", "cautious"), ("T1 first\n", "remembering"),
+                                 ("T1 first\n", "fresh"), ("T1 first\n", "verbose")] for word in ("message", "commit-msg", text, how, "")),
+        "added\nadded\nmessage ran, failed\n" + told("message", "first\n") + told("report", TICKET_FAILED)
+        + ("message ran, failed\n" + told("message", "first\n") + told("report", TICKET_FAILED.replace("no ticket", "no ticket for all"))) * 2
+        + ("message ran, passed\n" + told("message", "T1 first\n") + told("report", TICKET_PASSED)) * 2
+        + "message ran, passed\n" + told("message", "T1 first\n") + told("report", line("Ticket", "Passed") + "- hook id: ticket\n")
+        + ended(5, remembered=3) + files("staged", CONFIGURATION_FILE, A),
+    ),
+    # Hooks after a commit run by themselves too, with fixes as in a run.
+    (
+        *TELL, *CONFIGURED, "add", "none", "a.txt", "x\n", *(("run", "post-commit", "changed", "", "remembering", "") * 2),
+        "added\nadded\n" + ("ran, passed, 0 unsteady\n" + told("report", line("Tell", "Passed"))) * 2 + ended(1, remembered=1) + files("staged", CONFIGURATION_FILE, A),
+    ),
     # Hooks that are skipped aren't asked, by a commit and by a run.
     (
         *CONFIGURED, "add", "none", "a.txt", "x \n", "run", "pre-commit", "all", "trim", "remembering", "trim", "commit", "first", "verified", "ticket,trim, tell",
@@ -169,7 +188,7 @@ PLAYS = [
     # If no more children can be counted, what needs one is refused, and a commit that is kept says that its last hooks were stopped.
     (
         "spent", *CONFIGURED, "add", "none", "a.txt", "x\n", "run", "pre-commit", "named.txt", "", "remembering", "", "run", "pre-commit", "a.txt", "", "remembering", "",
-        "message", "commit-msg", "first\n", "", "commit", "first", "verified", "", "commit", "first", "unverified", "",
+        "message", "commit-msg", "first\n", "remembering", "", "commit", "first", "verified", "", "commit", "first", "unverified", "",
         "added\nadded\nrefused 4 NotStaged\nrefused 14 Spent\nrefused 14 Spent\nrefused 14 Spent\ncommitted 1\n" + told("report", "") + "post stopped 4 Spent\n"
         + ended(2**64 - 1) + files("staged", CONFIGURATION_FILE, A) + files("head", CONFIGURATION_FILE, A)
         + told("commit 1", "first\n") + files("committed", CONFIGURATION_FILE, A),

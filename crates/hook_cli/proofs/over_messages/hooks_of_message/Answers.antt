@@ -17,7 +17,7 @@ returns-in-Ok-clause-over g c =
       faults_after =
           g.C.Children.fault_count c.message.new.children;
     })
-    c.args.host.now c.message.new.self c.args.stage c.args.message.now c.args.skip.now out err c.message_at.result c.say_message-ending.result (Ok c.in-Ok.ran)
+    c.args.host.now c.message.new.self c.args.ask.now c.args.message.now out err c.message_at.result c.say_message-ending.result (Ok c.in-Ok.ran)
     c.in-Ok.ensures.step c.in-Ok.ensures.rest c.in-Ok.ensures.command
     (subst (λ (text : List ℕ). IsSaid (ending_of c.in-Ok.ran.passed) out text err untaken_line c.say_message-ending.result) c.as_slice.ensures c.say_message-ending.ensures)
     c.message_at.ensures
@@ -32,7 +32,7 @@ returns-in-Err-clause-over g c =
       faults_after =
           g.C.Children.fault_count c.message.new.children;
     })
-    c.args.host.now c.message.new.self c.args.stage c.args.message.now c.args.skip.now
+    c.args.host.now c.message.new.self c.args.ask.now c.args.message.now
     (record { held = g.O.Write.contents c.args.out.now; holds = g.O.Write.contents c.args.out.now })
     (record { held = g.E.Write.contents c.args.err.now; holds = g.E.Write.contents c.tell.new.err })
     _ c.tell.result (Err c.in-Err.refusal)

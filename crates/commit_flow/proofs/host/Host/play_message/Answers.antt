@@ -1,7 +1,7 @@
 use Rattle.commit_flow.proofs.host.Host.play_message.Goals as goal
 
 pub returns-in-Err-clause-played : goal.returns-in-Err-clause-played
-returns-in-Err-clause-played g c = rw (c.as_slice.ensures, c.as_slice-2.ensures) at c.in-Err.ensures.command
+returns-in-Err-clause-played g c = rw (c.as_slice.ensures) at c.in-Err.ensures.command
 
 pub returns-in-Ok-clause-played : goal.returns-in-Ok-clause-played
-returns-in-Ok-clause-played g c = rw (c.as_slice.ensures, c.as_slice-2.ensures) at c.in-Ok.ensures.command
+returns-in-Ok-clause-played g c = rw (c.as_slice.ensures) at c.in-Ok.ensures.command
