@@ -20,7 +20,7 @@ _hookhost() {
   done
   case ${#words[@]},${words[0]} in
     1,-*) _hookhost_propose "${words[0]}" -h --help -V --version ;;
-    1,*) _hookhost_propose "${words[0]}" init try check explain add rm status cat run run-files fixes accept commit log show memory forget ;;
+    1,*) _hookhost_propose "${words[0]}" init try check explain add rm status cat run run-files hook fixes accept commit log show memory forget ;;
     *) _hookhost_command ;;
   esac
 }
@@ -41,6 +41,7 @@ _hookhost_command() {
     cat) options=(--fixed --commit= -h --help) valued=(--commit) filed=() most=1 ;;
     run) options=(--all-files --hook-stage= --fresh --cautious --verbose --color= --jobs= -h --help) valued=(--hook-stage --color --jobs) filed=() most=0 ;;
     run-files) options=(--only= --hook-stage= --fresh --cautious --verbose --color= --jobs= --paths-from= -h --help) valued=(--only --hook-stage --color --jobs --paths-from) filed=(--paths-from) most=any ;;
+    hook) options=(--fresh --cautious --color= --jobs= -h --help) valued=(--color --jobs) filed=() most=0 ;;
     fixes) options=(-h --help) valued=() filed=() most=0 ;;
     accept) options=(-h --help) valued=() filed=() most=0 ;;
     commit) options=(--no-verify --color= --jobs= -m -h --help) valued=(--color --jobs -m) filed=() most=0 ;;

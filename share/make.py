@@ -29,7 +29,7 @@ PATHS = ["CONFIG", "PATH", "FILE"]
 # What the page says of files and of the environment: the beginnings of sentences of the documents, or a text of its own.
 FILES = [
     (".pre-commit-config.yaml", "The configuration. try reads the file that it is given and check the one of the current folder; \
-run, run-files and commit read the staged one."),
+run, run-files, hook and commit read the staged one."),
     (".hookhost/store.db", ["The commands on a repository keep it ", "`store.db` is a store or ", "What a killed `init` "]),
     (".hookhost/store.db-wal", ["SQLite's log lies next to it, "]),
     (".hookhost/lock", ["'hookhost: cannot use .hookhost/lock' says "]),
@@ -41,7 +41,7 @@ command that changes something, if it is missing. A .hookhost/.gitignore that an
     (".hookhost/scratch.old", ["A run that a signal ended leaves its mark, "]),
 ]
 ENVIRONMENT = [
-    ("SKIP", ["`run`, `run-files` and `commit` skip the hooks "]),
+    ("SKIP", ["`run`, `run-files`, `hook` and `commit` skip the hooks "]),
     ("PATH", ["Standard input is empty, the environment is ", "A program word without a `/` is looked for along "]),
     ("COLUMNS", "If standard error is a terminal, it shows a line for the command of a hook that is running, cut to so many \
 columns, by default 80."),

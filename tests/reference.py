@@ -63,6 +63,7 @@ REPOSITORY_HELP = {
     "status": "STATUS_HELP",
     "run": "RUN_HELP",
     "run-files": "RUN_FILES_HELP",
+    "hook": "HOOK_HELP",
     "fixes": "FIXES_HELP",
     "accept": "ACCEPT_HELP",
     "commit": "COMMIT_HELP",

@@ -278,7 +278,7 @@ def required_of(name, option="no option"):
     option itself, otherwise the first."""
     told = re.sub(r"\[[^]]*\]", "", HELP[name][1].removeprefix("Usage: hookhost "))
     told = re.sub(r"\(([^)]*)\)", lambda it: "" if f" {option}" in it[1] else it[1].split(" | ")[0], told)
-    return ["1" if word.startswith("<") else word for word in told.split()[1:]]
+    return [{"<STAGE>": "pre-commit"}.get(word, "1") if word.startswith("<") else word for word in told.split()[1:]]
 
 
 def takes_any(name, option):

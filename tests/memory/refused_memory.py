@@ -58,6 +58,7 @@ from places import CRATES
 from refused_allocation import (EACH, OF_PLAY, OF_TEXT, PROGRAM, SELECTION_TRIAL, STORE_TRIAL, THERE, YAML_TRIAL, all_of, end_of,
                                 end_with_refusal, line_of, make_allocator, some_of)
 from refused_memory_books import BOOK_PLAYS, refuse_among_remembered, refuse_host_play, refuse_limits
+from refused_memory_message import refuse_message
 from refused_memory_plays import FILES, OF_CHECK, OF_CHILDREN, OF_STORE, PLAYS, STAGED_HOOKS, USING_HOOKS, Play
 from stops_books import TO_SMALL_VERSION_1, Book, execute, steps_between
 from stops_repository import left_in
@@ -238,7 +239,7 @@ def are_wanted(came, numbers):
 
 
 # The commands of which each use and each answer of a child stays, with any refusal after it.
-RUNNING = ("run", "run-files", "commit")
+RUNNING = ("run", "run-files", "hook", "commit")
 
 
 def wrong_behind(play, answer, before, plain, bench):
@@ -368,7 +369,8 @@ def play_all(plays, shared):
         of_hosts = [pool.submit(refuse_host_play, *play, shared) for play in HOST_PLAYS] + [pool.submit(refuse_limits, shared)]
         of_books = [pool.submit(refuse_among_remembered, play, shared) for play in BOOK_PLAYS]
         of_lines = [pool.submit(refuse_lines, *asked, shared) for asked in LINES.values()]
-        parts = answers, of_hosts, of_books, of_lines
+        of_message = [pool.submit(refuse_message, shared)]
+        parts = answers, of_hosts, of_books, of_lines, of_message
         return [[each.result() for each in part] for part in parts]
 
 
@@ -378,11 +380,12 @@ def main():
     with tempfile.TemporaryDirectory() as folder:
         make_allocator(folder)
         make_repositories(folder)
-        answers, of_hosts, of_books, of_lines = play_all(PLAYS + checks, folder)
+        answers, of_hosts, of_books, of_lines, of_message = play_all(PLAYS + checks, folder)
     failures = [(play.name, wrong) for play, (_, _, wrong) in zip(PLAYS + checks, answers) if wrong]
     failures += [("commands of a host", wrong) for _, _, wrong in of_hosts if wrong]
     failures += [(play.name, wrong) for play, (_, _, wrong) in zip(BOOK_PLAYS, of_books) if wrong]
     failures += [(name, wrong) for name, (_, _, wrong) in zip(LINES, of_lines) if wrong]
+    failures += [("hooks about a message", wrong) for _, _, wrong in of_message if wrong]
     for play, (count, gave_up, wrong) in zip(PLAYS, answers):
         print(f"{play.name}: {count} allocations refused in turn, {gave_up} times the program gave up")
     of_texts = answers[len(PLAYS):]
@@ -394,9 +397,11 @@ def main():
         print(f"{play.name}: {count} allocations refused in turn, {refused} times a run was refused")
     for name, (count, gave_up, _) in zip(LINES, of_lines):
         print(f"{name}: {count} allocations refused in turn, {gave_up} times the program gave up")
+    for count, gave_up, _ in of_message:
+        print(f"hooks about a message: {count} allocations refused in turn, {gave_up} times the program gave up")
     for name, wrong in failures:
         print(f"FAILED {name}: {wrong}")
-    played = [*answers, *of_hosts, *of_books, *of_lines]
+    played = [*answers, *of_hosts, *of_books, *of_lines, *of_message]
     said = note(sum(each[0] for each in played), THERE.value, "allocations")
     print(f"memory: {len(played) - len(failures)} passed, {len(failures)} failed{said}")
     sys.exit(1 if failures or not checks else 0)

@@ -173,6 +173,7 @@ PLAYS = [
     Play("a run of version 1", ["run", "--all-files"], OF_PREPARED, status=0, repository="first", uses=3),
     Play("a run on the staged files", ["run", "--all-files", "--hook-stage", "manual"], OF_PREPARED, status=1, repository="there", uses=1),
     Play("a run on named files", ["run-files", "a.txt"], OF_PREPARED, status=0, repository="there", uses=1),
+    Play("hooks after a commit", ["hook", "post-commit"], OF_PREPARED, status=0, repository="there", uses=1),
     Play("a commit through all stages", ["commit", "-m", "second"], OF_PREPARED, status=0, repository="there", uses=4),
 ]
 FILES = (("a.txt", b"a\n"), ("b.txt", b""), ("dir/c.txt", b"c" * 9000), ("run.sh", SCRIPT))

@@ -58,7 +58,7 @@ STORE, LOCK = ".hookhost/store.db", ".hookhost/lock"
 FOLDER, SCRATCH = "./.hookhost", "./.hookhost/scratch"
 LAID = ("file", "bytes", "fill", "repeat", "folder", "link", "remove", "demo")
 LOOKED_AT = ("play", "sql", "files")
-RUNNING = ("run", "run-files", "commit")
+RUNNING = ("run", "run-files", "hook", "commit")
 REPOSITORY = ("staged", "fixes", "commits", "entries")
 # What `meta` has in a store of an earlier version.
 EARLIER = [("version", 1)]
@@ -167,7 +167,8 @@ def rows_in(store, tables):
 def changes_all(words):
     """Whether a command that is done may change all of a store."""
     limits = words[:1] == ["memory"] and any(word.startswith("--limit") for word in words)
-    return limits or words[:1] in [[word] for word in CHANGING]
+    runs = words[:1] == ["hook"] and words[-1] in ("pre-commit", "post-commit")
+    return limits or runs or words[:1] in [[word] for word in CHANGING]
 
 
 def is_left(before, after, words):
@@ -195,7 +196,11 @@ def run_alone(command):
         held.close()
     is_done = command["status"] in (0, 1) or command["output"] is not None
     may_change = is_done and changes_all(command["words"])
-    return wrong or (None if may_change or is_left(before, files_that_stay(), command["words"]) else "it changed the folder's files")
+    after = files_that_stay()
+    # Hooks about a message may change its file, and others of the working folder by their full paths.
+    if is_done and command["words"][:1] == ["hook"]:
+        before, after = ({path: files[path] for path in ("./" + STORE,)} for files in (before, after))
+    return wrong or (None if may_change or is_left(before, after, command["words"]) else "it changed the folder's files")
 
 
 def run(command):

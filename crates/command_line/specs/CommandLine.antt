@@ -17,10 +17,13 @@ use Rattle.store_faults.specs.Limits.{most_answers}
 use Rattle.command_line.specs.MessageWords.{words_for_clap}
 use Rattle.command_line.specs.declared.line.ColorChoice.{ColorChoice}
 use Rattle.command_line.specs.declared.line.ColorChoice.TheVariants.{Auto, Always, Never}
+use Rattle.command_line.specs.declared.line.CommitHook.{CommitHook}
+use Rattle.command_line.specs.declared.line.CommitHook.TheVariants.{PrepareCommitMsg, CommitMsg, PostCommit, PreCommit as PreCommitHook}
 use Rattle.command_line.specs.declared.line.FileChoice.{FileChoice}
 use Rattle.command_line.specs.declared.line.FileChoice.TheVariants.{Changed, All, Named, Listed as ListedFiles}
 use Rattle.command_line.specs.declared.line.FileVersion.{FileVersion}
 use Rattle.command_line.specs.declared.line.FileVersion.TheVariants.{Staged, Fixed, Committed}
+use Rattle.command_line.specs.declared.line.HookChoice.{HookChoice}
 use Rattle.command_line.specs.declared.line.CommandLine.{CommandLine}
 use Rattle.command_line.specs.declared.line.PathSource.{PathSource}
 use Rattle.command_line.specs.declared.line.PathSource.TheVariants.{Words, Listed}
@@ -30,7 +33,7 @@ use Rattle.command_line.specs.declared.line.StageChoice.TheVariants.{PreCommit, 
 use Rattle.command_line.specs.declared.line.CommandLine.TheVariants as line
 use Rattle.command_line.specs.declared.line.LookUp.TheVariants.{Status, Fixes, Cat, Log, Show, Memory}
 use Rattle.command_line.specs.declared.line.Standalone.TheVariants.{Init, Try, Check, Explain}
-use Rattle.command_line.specs.declared.line.Update.TheVariants.{Add, Remove, Run, Accept, Commit, Forget, Limit}
+use Rattle.command_line.specs.declared.line.Update.TheVariants.{Add, Remove, Run, Hook, Accept, Commit, Forget, Limit}
 
 -- ---- the commands and their values, as `clap` takes them
 
@@ -145,6 +148,16 @@ run_files_with_options_app =
 abbrev pub run_files_app : App
 run_files_app = with_rule (with_rule run_files_with_options_app paths_from_rule) (optional_words_rule (codes "PATH"))
 
+-- `hook [--fresh] [--cautious] [--color=WHEN] [--jobs=N]`
+abbrev pub hook_with_options_app : App
+hook_with_options_app =
+    with_rule (with_rule (with_rule (with_rule (new_app (codes "hook")) (flag_rule (codes "fresh")))
+    (flag_rule (codes "cautious"))) color_rule) jobs_rule
+
+-- after them `STAGE [FILE]`
+abbrev pub hook_app : App
+hook_app = with_rule (with_rule hook_with_options_app (word_rule (codes "STAGE"))) (new_rule (codes "FILE"))
+
 abbrev pub fixes_app : App
 fixes_app = new_app (codes "fixes")
 
@@ -192,7 +205,7 @@ hookhost_base = on_top (λ s. record s {
 abbrev pub all_commands : List App
 all_commands =
     init_app ∷ try_app ∷ check_app ∷ explain_app ∷ add_app ∷ remove_app ∷ status_app ∷ cat_app ∷ run_app ∷ run_files_app
-    ∷ fixes_app ∷ accept_app
+    ∷ hook_app ∷ fixes_app ∷ accept_app
     ∷ commit_app ∷ log_app ∷ show_app ∷ memory_app ∷ forget_app ∷ []
 
 abbrev pub hookhost_app : App
@@ -228,6 +241,19 @@ asked_stage_in None = Some PreCommit
 asked_stage_in (Some text) =
     if bytes_eq text (codes "pre-commit") then Some PreCommit else
     (if bytes_eq text (codes "manual") then Some Manual else None)
+
+-- the hooks of a stage that takes no file
+abbrev pub without_file : CommitHook → Option Text → Option CommitHook
+without_file hook None = Some hook
+without_file hook (Some file) = None
+
+-- the hooks of the stage that STAGE names. Those about a message need FILE, and the others take none
+abbrev pub commit_hook_in : Text → Option Text → Option CommitHook
+commit_hook_in stage file =
+    if bytes_eq stage (codes "pre-commit") then without_file PreCommitHook file
+    else (if bytes_eq stage (codes "prepare-commit-msg") then option_map PrepareCommitMsg file
+    else (if bytes_eq stage (codes "commit-msg") then option_map CommitMsg file
+    else (if bytes_eq stage (codes "post-commit") then without_file PostCommit file else None)))
 
 -- when a report has colors, as `--color` asks for it, `auto` if it is left out
 abbrev pub color_in : Option Text → Option ColorChoice
@@ -351,6 +377,21 @@ run_files_line rows =
     (flag_in (codes "fresh") rows) choice))
     (choice_in rows)) (asked_stage_in (first_of (codes "hook-stage") rows))) (paths_in rows)
 
+-- what `--cautious`, `--color` and `--jobs` ask of the hooks of a stage
+abbrev pub hook_choice_in : List Row → Option HookChoice
+hook_choice_in rows =
+    option_and_then
+    (λ (color : ColorChoice). option_map
+    (λ (jobs : Option ℕ). record { cautious = flag_in (codes "cautious") rows; color = color; jobs = jobs })
+    (jobs_in (first_of (codes "jobs") rows))) (color_in (first_of (codes "color") rows))
+
+abbrev pub hook_line : List Row → Option CommandLine
+hook_line rows =
+    option_and_then
+    (λ (choice : HookChoice). option_map
+    (λ (hook : CommitHook). line.Update (Hook hook (flag_in (codes "fresh") rows) choice))
+    (commit_hook_in (word_in (codes "STAGE") rows) (first_of (codes "FILE") rows))) (hook_choice_in rows)
+
 abbrev pub commit_line : List Row → Option CommandLine
 commit_line rows =
     option_and_then
@@ -392,9 +433,10 @@ line_by name rows =
     else (if bytes_eq name (codes "rm") then remove_line rows
     else (if bytes_eq name (codes "run") then run_line rows
     else (if bytes_eq name (codes "run-files") then run_files_line rows
+    else (if bytes_eq name (codes "hook") then hook_line rows
     else (if bytes_eq name (codes "accept") then Some (line.Update Accept)
     else (if bytes_eq name (codes "commit") then commit_line rows
-    else (if bytes_eq name (codes "forget") then Some (line.Update Forget) else None))))))))))))))))
+    else (if bytes_eq name (codes "forget") then Some (line.Update Forget) else None)))))))))))))))))
 
 -- what the words that `clap` gets ask for: a command with its values, as it finds them
 abbrev pub line_in : List Text → Option CommandLine

@@ -4,9 +4,10 @@
 
 ghost use Rattle.std.specs.Prelude.{◌≡◌, IfOk, Some, is_some, map, option_map, true};
 ghost use Rattle.clap.specs.Words.{FailsBy, fault_of, found_of, rows_of, subcommand_of, subcommand_rows_of};
-ghost use Rattle.command_line.specs.CommandLine.{IsValueOf, add_line, cat_line, choice_in, commit_line, explain_line, files_in, hookhost_app, is_command, line_asked, line_by, line_fault, line_fault_of, line_in, memory_line, named_in, remove_line, run_files_line, run_line, show_line, try_line};
+ghost use Rattle.command_line.specs.CommandLine.{IsValueOf, add_line, cat_line, choice_in, commit_line, explain_line, files_in, hook_choice_in, hook_line, hookhost_app, is_command, line_asked, line_by, line_fault, line_fault_of, line_in, memory_line, named_in, remove_line, run_files_line, run_line, show_line, try_line};
 
 use crate::commands::hookhost;
+use crate::commit_hooks::commit_hook_of;
 use crate::help_length::help_asked;
 use crate::message_words::around_message;
 use crate::paths::paths_of;
@@ -14,7 +15,9 @@ use crate::values::{
     color_of, flag_of, jobs_of, limit_of, maybe_text_of, mode_of, number_of, stage_of, text_of,
     texts_of, version_of,
 };
-use crate::{CommandLine, FileChoice, LookUp, PathSource, RunChoice, Standalone, Update};
+use crate::{
+    CommandLine, FileChoice, HookChoice, LookUp, PathSource, RunChoice, Standalone, Update,
+};
 use clap::{ArgMatches, Error};
 use std::alloc::{AllocError, Global};
 
@@ -29,7 +32,9 @@ use std::alloc::{AllocError, Global};
 /// - `--commit` together with `--fixed`;
 /// - a number of `show` or `--commit` that isn't one of 32 bits, a number of `--limit` that isn't from 1 to
 ///   100,000, or one of `--jobs` that isn't from 1 to 256;
-/// - neither a path nor `--paths-from`, or both.
+/// - neither a path nor `--paths-from`, or both;
+/// - a stage of `hook` that isn't one of the four, a stage about a message without its file, or another with
+///   one.
 pub fn line_of<'a>(alloc: Global, words: &'a [&'a str]) -> Result<CommandLine, Error>
     ensures line { IfOk result (λ line. line_asked (map (λ s. s.now) words.entry.now) ≡ Some line) }
     ensures fault { FailsBy (line_fault (map (λ s. s.now) words.entry.now)) result }
@@ -93,6 +98,7 @@ fn line_by(alloc: Global, name: &str, values: &ArgMatches<'_>) -> Result<Command
         "rm" => remove_line(alloc, values),
         "run" => run_line(alloc, values),
         "run-files" => run_files_line(alloc, values),
+        "hook" => hook_line(alloc, values),
         "accept" => Ok(CommandLine::Update(Update::Accept)),
         "commit" => commit_line(alloc, values),
         "forget" => Ok(CommandLine::Update(Update::Forget)),
@@ -198,6 +204,31 @@ fn named_by(paths: PathSource) -> FileChoice
         PathSource::Words(words) => FileChoice::Named(words),
         PathSource::Listed(from) => FileChoice::Listed(from),
     }
+}
+
+fn hook_line(alloc: Global, values: &ArgMatches<'_>) -> Result<CommandLine, Error>
+    ensures { IsValueOf (hook_line (rows_of (found_of values.now))) result }
+{
+    let options = hook_choice_of(alloc, values)?;
+    let hook = commit_hook_of(alloc, values)?;
+    Ok(CommandLine::Update(Update::Hook {
+        hook,
+        fresh: flag_of(values, "fresh"),
+        options,
+    }))
+}
+
+// What the options `--cautious`, `--color` and `--jobs` ask of the hooks of a stage.
+fn hook_choice_of(alloc: Global, values: &ArgMatches<'_>) -> Result<HookChoice, Error>
+    ensures { IsValueOf (hook_choice_in (rows_of (found_of values.now))) result }
+{
+    let color = color_of(alloc, "hook", values)?;
+    let jobs = jobs_of(alloc, "hook", values)?;
+    Ok(HookChoice {
+        cautious: flag_of(values, "cautious"),
+        color,
+        jobs,
+    })
 }
 
 fn commit_line(alloc: Global, values: &ArgMatches<'_>) -> Result<CommandLine, Error>

@@ -5,13 +5,13 @@
 ghost use Rattle.std.specs.Prelude.{◌≡◌, ◌∷◌, IfOk, [], codes, false};
 ghost use Rattle.clap.specs.Words.{app_of, new_app, new_rule, rule_of};
 ghost use Rattle.clap.specs.declared.builder.Command.TheViews.{out-Command as fields_of};
-ghost use Rattle.command_line.specs.CommandLine.{accept_app, add_app, cat_app, check_app, chmod_rule, color_rule, commit_app, commit_rule, explain_app, fixes_app, flag_rule, forget_app, hookhost_app, hookhost_base, init_app, jobs_rule, limit_rule, log_app, memory_app, message_rule, only_rule, optional_words_rule, paths_from_rule, remove_app, run_app, run_files_app, run_files_with_options_app, run_with_options_app, show_app, stage_rule, status_app, try_app, with_choice, with_commands, word_rule, words_rule};
+ghost use Rattle.command_line.specs.CommandLine.{accept_app, add_app, cat_app, check_app, chmod_rule, color_rule, commit_app, commit_rule, explain_app, fixes_app, flag_rule, forget_app, hook_app, hook_with_options_app, hookhost_app, hookhost_base, init_app, jobs_rule, limit_rule, log_app, memory_app, message_rule, only_rule, optional_words_rule, paths_from_rule, remove_app, run_app, run_files_app, run_files_with_options_app, run_with_options_app, show_app, stage_rule, status_app, try_app, with_choice, with_commands, word_rule, words_rule};
 
 use crate::help::{CHECK_HELP, EXPLAIN_HELP, PROGRAM_HELP, TRY_HELP};
 use crate::help_length::HelpLength;
 use crate::repository_help::{
-    ACCEPT_HELP, ADD_HELP, CAT_HELP, COMMIT_HELP, FIXES_HELP, FORGET_HELP, INIT_HELP, LOG_HELP,
-    MEMORY_HELP, REMOVE_HELP, RUN_FILES_HELP, RUN_HELP, SHOW_HELP, STATUS_HELP,
+    ACCEPT_HELP, ADD_HELP, CAT_HELP, COMMIT_HELP, FIXES_HELP, FORGET_HELP, HOOK_HELP, INIT_HELP,
+    LOG_HELP, MEMORY_HELP, REMOVE_HELP, RUN_FILES_HELP, RUN_HELP, SHOW_HELP, STATUS_HELP,
 };
 use crate::version::VERSION;
 use clap::{Arg, ArgAction, Command};
@@ -108,11 +108,12 @@ fn with_runs<'a>(
     program: Command<'a>,
 ) -> Result<Command<'a>, AllocError>
     ensures { IfOk result (λ command. app_of command
-        ≡ with_commands (app_of program.entry) (run_app ∷ run_files_app ∷ [])) }
+        ≡ with_commands (app_of program.entry) (run_app ∷ run_files_app ∷ hook_app ∷ [])) }
 {
     program
         .subcommand(run_command(alloc, help)?)?
-        .subcommand(run_files_command(alloc, help)?)
+        .subcommand(run_files_command(alloc, help)?)?
+        .subcommand(hook_command(alloc, help)?)
 }
 
 fn with_fixes<'a>(
@@ -355,6 +356,42 @@ fn run_files_with_options<'a>(alloc: Global, help: HelpLength) -> Result<Command
     .arg(stage(alloc))?
     .arg(fresh(alloc))?;
     with_choice(alloc, command)
+}
+
+/// `hook [--fresh] [--cautious] [--color=WHEN] [--jobs=N] STAGE [FILE]`.
+pub(crate) fn hook_command<'a>(alloc: Global, help: HelpLength) -> Result<Command<'a>, AllocError>
+    ensures app { IfOk result (λ command. app_of command ≡ hook_app) }
+    ensures local { IfOk result (λ command. (fields_of command).has_globals ≡ false) }
+{
+    hook_with_options(alloc, help)?
+        .arg(word(
+            alloc,
+            "STAGE",
+            "The stage: pre-commit, prepare-commit-msg, commit-msg or post-commit",
+        ))?
+        .arg(optional_word(
+            alloc,
+            "FILE",
+            "The file with the commit's message, for prepare-commit-msg and commit-msg",
+        ))
+}
+
+// `hook` with its options alone.
+fn hook_with_options<'a>(alloc: Global, help: HelpLength) -> Result<Command<'a>, AllocError>
+    ensures app { IfOk result (λ command. app_of command ≡ hook_with_options_app) }
+    ensures local { IfOk result (λ command. (fields_of command).has_globals ≡ false) }
+{
+    command(
+        alloc,
+        "hook",
+        "Runs the hooks of one stage of a commit that another program makes",
+        "hookhost hook [--fresh] [--cautious] [--color=<WHEN>] [--jobs=<N>] <STAGE> [FILE]",
+        help.of(HOOK_HELP),
+    )
+    .arg(fresh(alloc))?
+    .arg(flag(alloc, "cautious", CAUTIOUS_HELP))?
+    .arg(color(alloc))?
+    .arg(jobs(alloc))
 }
 
 fn fixes_command<'a>(alloc: Global, help: HelpLength) -> Command<'a>

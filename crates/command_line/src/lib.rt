@@ -6,6 +6,7 @@
 
 mod command_line;
 mod commands;
+mod commit_hooks;
 mod help;
 mod help_length;
 mod line;
@@ -17,7 +18,7 @@ mod version;
 
 pub use command_line::line_of;
 pub use line::{
-    ColorChoice, CommandLine, FileChoice, FileVersion, LookUp, PathSource, RunChoice, StageChoice,
-    Standalone, Update,
+    ColorChoice, CommandLine, CommitHook, FileChoice, FileVersion, HookChoice, LookUp, PathSource,
+    RunChoice, StageChoice, Standalone, Update,
 };
 pub use store_faults::AnswerLimit;

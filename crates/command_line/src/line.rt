@@ -93,6 +93,15 @@ pub enum Update {
         /// What else is asked of the run.
         options: RunChoice,
     },
+    /// The hooks that run at one stage of a commit that another program makes.
+    Hook {
+        /// Which hooks, and which file has the commit's message.
+        hook: CommitHook,
+        /// Whether every child is started, also if its result is cached.
+        fresh: bool,
+        /// What else is asked of the run.
+        options: HookChoice,
+    },
     /// The fixes are applied to the staged files.
     Accept,
     /// A commit of the staged files, through its hooks.
@@ -125,6 +134,19 @@ pub enum FileChoice {
     Listed(Text),
 }
 
+/// The hooks that run at one stage of a commit. Those about a message have the name of the file that holds it.
+#[derive(Debug, Drop)]
+pub enum CommitHook {
+    /// Those that run before the commit, on the staged files that differ from the last commit.
+    PreCommit,
+    /// Those that prepare the message in this file.
+    PrepareCommitMsg(Text),
+    /// Those that check the message in this file.
+    CommitMsg(Text),
+    /// Those that run after the commit.
+    PostCommit,
+}
+
 /// Where the paths of a line are written.
 #[derive(Debug, Drop)]
 pub enum PathSource {
@@ -154,6 +176,17 @@ pub struct RunChoice {
     pub cautious: bool,
     /// Whether the output of each hook is printed, and how many answers came from the cache.
     pub verbose: bool,
+    /// When the report has colors.
+    pub color: ColorChoice,
+    /// How many commands may run at the same time, from 1 to 256, or `None` for the default.
+    pub jobs: Option<u32>,
+}
+
+/// The options of `hook` other than `--fresh`, each as in `RunChoice`.
+#[derive(Clone, Copy, Debug, PartialEq, Eq)]
+pub struct HookChoice {
+    /// Whether a hook counts as seeing every file of the tree, and no failure is taken from the cache.
+    pub cautious: bool,
     /// When the report has colors.
     pub color: ColorChoice,
     /// How many commands may run at the same time, from 1 to 256, or `None` for the default.

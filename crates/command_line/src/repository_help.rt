@@ -219,6 +219,44 @@ Examples:
 name one that can."
 );
 
+/// At the end of the help of `hook`.
+pub(crate) const HOOK_HELP: &str = opening_help!(
+    "\
+For a program that makes the commits itself, such as Git. The hooks of STAGE in the
+staged configuration run on the staged files, and no commit is made. The variable
+SKIP, --fresh, --cautious and --jobs=N are as in hookhost run, whose help says more.
+
+Those of pre-commit run as by hookhost run. Those of post-commit get no names of
+files, so one without always_run is skipped. What hooks of these two stages change
+are the fixes, which hookhost fixes lists.
+
+Those of prepare-commit-msg and commit-msg get the message in FILE, under the name
+.git/COMMIT_EDITMSG. If they pass and have changed it, FILE is replaced by a file
+with the new message. If one fails, FILE stays as it is. What they change of other
+files is dropped, the fixes stay, and no line unsteady: ID is printed.
+
+Examples:
+  hookhost hook pre-commit
+  hookhost hook commit-msg .git/COMMIT_EDITMSG",
+    "   0  every hook passed or was skipped
+   1  a hook failed",
+    "
+   5 TooLarge     the message has more than 16 MiB
+                  make it shorter
+   7 NoConfig     no .pre-commit-config.yaml is staged
+                  stage one, by hookhost add
+   8 BadConfig N  the staged configuration can't be read, for the cause N
+                  mend and stage it: hookhost explain says what is wrong
+  13 Collision    other contents are kept under the same digest
+                  this store can't keep these contents
+  14 Spent        no more children can be counted
+                  run it again: each run counts from 0
+
+'hookhost: cannot use FILE' says that FILE is no file that can be read and replaced:
+name the one with the message. If hooks have changed the message, it isn't in FILE
+then."
+);
+
 /// At the end of the help of `fixes`.
 pub(crate) const FIXES_HELP: &str = opening_help!(
     "\

@@ -8,8 +8,8 @@ ghost use Rattle.clap.specs.declared.error.kind.ErrorKind.TheVariants.{InvalidVa
 ghost use Rattle.command_line.specs.CommandLine.{IsValueOf, color_in, flag_in, jobs_in, jobs_number, limit_in, limit_number, mode_in, number_in, asked_stage_in, version_in, word_in, words_in};
 
 use crate::commands::{
-    add_command, cat_command, commit_command, memory_command, run_command, run_files_command,
-    show_command, try_command,
+    add_command, cat_command, commit_command, hook_command, memory_command, run_command,
+    run_files_command, show_command, try_command,
 };
 use crate::help_length::HelpLength;
 use crate::{AnswerLimit, ColorChoice, FileVersion, StageChoice};
@@ -29,7 +29,8 @@ pub(crate) fn text_of(alloc: Global, values: &ArgMatches<'_>, id: &str) -> Resul
     Ok(Text::from(String::from_str(alloc, word_of(values, id))?))
 }
 
-fn word_of<'a>(values: &ArgMatches<'a>, id: &str) -> &'a str
+/// A value of one word, as the words of the line hold it.
+pub(crate) fn word_of<'a>(values: &ArgMatches<'a>, id: &str) -> &'a str
     ensures { result.now ≡ word_in id.now (rows_of (found_of values.now)) }
 {
     values.get_str(id).unwrap_or("")
@@ -275,6 +276,7 @@ fn command_of_reports<'a>(alloc: Global, name: &str) -> Result<Command<'a>, Allo
         "try" => try_command(alloc, HelpLength::Short),
         "commit" => commit_command(alloc, HelpLength::Short),
         "run-files" => run_files_command(alloc, HelpLength::Short),
+        "hook" => hook_command(alloc, HelpLength::Short),
         _ => run_command(alloc, HelpLength::Short),
     }
 }

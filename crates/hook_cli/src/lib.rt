@@ -23,8 +23,8 @@ mod run_printing;
 
 pub use command_ending::CommandEnding;
 pub use command_line::{
-    AnswerLimit, ColorChoice, CommandLine, FileChoice, FileVersion, LookUp, PathSource, RunChoice,
-    StageChoice, Standalone, Update, line_of,
+    AnswerLimit, ColorChoice, CommandLine, CommitHook, FileChoice, FileVersion, HookChoice, LookUp,
+    PathSource, RunChoice, StageChoice, Standalone, Update, line_of,
 };
 pub use configuration_run::{
     MOST_CONFIGURATION_BYTES, TryFault, check_text, skip_list_of, try_over,

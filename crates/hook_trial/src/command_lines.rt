@@ -2,14 +2,14 @@
 
 use hook_base::{Mode, Text};
 use hook_cli::{
-    ColorChoice, CommandLine, FileChoice, FileVersion, LookUp, PathSource, RunChoice, StageChoice,
-    Standalone, Update, line_of,
+    ColorChoice, CommandLine, CommitHook, FileChoice, FileVersion, HookChoice, LookUp, PathSource,
+    RunChoice, StageChoice, Standalone, Update, line_of,
 };
 use std::alloc::Global;
 use trial_rows::{AnswerBytes, Stop, texts_of};
 
 /// `line_of WORD..`: the command with its words, a line each, or the kind of `clap`'s error and its text. For
-/// a run the stage and the files come first, and then how it is made. A color other than `auto` is at the end
+/// a run or a hook the stage and the files come first, and then how it is made. A color other than `auto` is at the end
 /// of the first line.
 pub(crate) fn asked(alloc: Global, arguments: &[Vec<u8>]) -> Result<AnswerBytes, Stop> {
     let words = texts_of(alloc, arguments)?;
@@ -79,6 +79,11 @@ fn told_update(answer: AnswerBytes, update: &Update) -> AnswerBytes {
             let answer = with_name(with_how(answer, *fresh, *options), only);
             with_files(answer, files)
         }
+        Update::Hook {
+            hook,
+            fresh,
+            options,
+        } => told_hook(answer, hook, *fresh, *options),
         Update::Accept => answer.text("accept\n"),
         Update::Commit {
             message,
@@ -91,6 +96,42 @@ fn told_update(answer: AnswerBytes, update: &Update) -> AnswerBytes {
         }
         Update::Forget => answer.text("forget\n"),
         Update::Limit(limit) => answer.text("limit ").shown(limit.number()).text("\n"),
+    }
+}
+
+// `hook STAGE`, then how it is made, and the file in the next line.
+fn told_hook(
+    answer: AnswerBytes,
+    hook: &CommitHook,
+    fresh: bool,
+    options: HookChoice,
+) -> AnswerBytes {
+    let answer = with_how(
+        answer.texts(&["hook ", word_of_hook(hook)]),
+        fresh,
+        run_choice_of(options),
+    );
+    match hook {
+        CommitHook::PreCommit | CommitHook::PostCommit => answer,
+        CommitHook::PrepareCommitMsg(file) | CommitHook::CommitMsg(file) => with_line(answer, file),
+    }
+}
+
+fn word_of_hook(hook: &CommitHook) -> &'static str {
+    match hook {
+        CommitHook::PreCommit => "pre-commit",
+        CommitHook::PrepareCommitMsg(_) => "prepare-commit-msg",
+        CommitHook::CommitMsg(_) => "commit-msg",
+        CommitHook::PostCommit => "post-commit",
+    }
+}
+
+fn run_choice_of(choice: HookChoice) -> RunChoice {
+    RunChoice {
+        cautious: choice.cautious,
+        verbose: false,
+        color: choice.color,
+        jobs: choice.jobs,
     }
 }
 

@@ -2,6 +2,7 @@ pub mod BuildStamps
 pub mod ColoredTexts
 pub mod FileTrees
 pub mod LinkedPlaces
+pub mod MessageFiles
 pub mod Names
 pub mod ObstacleLines
 pub mod Remedies

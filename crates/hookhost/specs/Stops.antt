@@ -11,12 +11,14 @@ use Rattle.configuration_run.specs.declared.try_fault.TryFault.{TryFault}
 use Rattle.configuration_run.specs.declared.try_fault.TryFault.TheVariants.{Read, Config, Write, OutOfMemory, Spent}
 use Rattle.hook_config.specs.declared.config_fault.ConfigKind.TheVariants.{OutOfMemory as NoMemory}
 use Rattle.commit_flow.specs.declared.host_refusal.HostRefusal.TheVariants.{OutOfMemory as NoMemoryOfHost}
+use Rattle.command_line.specs.declared.line.CommitHook.{CommitHook}
+use Rattle.command_line.specs.declared.line.CommitHook.TheVariants.{PrepareCommitMsg, CommitMsg}
 use Rattle.command_line.specs.declared.line.FileChoice.{FileChoice}
 use Rattle.command_line.specs.declared.line.FileChoice.TheVariants.{Listed as ListedFiles}
 use Rattle.command_line.specs.declared.line.PathSource.{PathSource}
 use Rattle.command_line.specs.declared.line.PathSource.TheVariants.{Words, Listed}
 use Rattle.command_line.specs.declared.line.Update.{Update}
-use Rattle.command_line.specs.declared.line.Update.TheVariants.{Add, Remove, Run, Accept, Commit, Forget, Limit}
+use Rattle.command_line.specs.declared.line.Update.TheVariants.{Add, Remove, Run, Hook, Accept, Commit, Forget, Limit}
 use Rattle.hook_base.specs.declared.file.File.{File}
 use Rattle.repository_files.specs.RepositoryFaults.{IsFaultOfOpening}
 use Rattle.text_output.specs.QuotedPaths.{told_path}
@@ -148,15 +150,26 @@ abbrev pub IsStopOfChoice : FileChoice → CommandStop → Type 0
 IsStopOfChoice (ListedFiles from) stop = IsStopOfList from stop
 IsStopOfChoice files stop = ⊥
 
--- what stops an update for the file that lists its paths
-abbrev pub IsStopOfItsList : Update → CommandStop → Type 0
-IsStopOfItsList (Add paths mode) stop = IsStopOfSource paths stop
-IsStopOfItsList (Remove paths) stop = IsStopOfSource paths stop
-IsStopOfItsList (Run files only stage fresh options) stop = IsStopOfChoice files stop
-IsStopOfItsList Accept stop = ⊥
-IsStopOfItsList (Commit message no_verify color jobs) stop = ⊥
-IsStopOfItsList Forget stop = ⊥
-IsStopOfItsList (Limit limit) stop = ⊥
+-- the file of a message can't be used, or memory was refused, which is then the host's refusal
+abbrev pub IsStopOfMessage : List ℕ → CommandStop → Type 0
+IsStopOfMessage name stop = (stop ≡ CannotUse name) ⊎ (stop ≡ RefusedCommand NoMemoryOfHost)
+
+-- what stops the hooks of a stage for the file of their message
+abbrev pub IsStopOfHook : CommitHook → CommandStop → Type 0
+IsStopOfHook (PrepareCommitMsg name) stop = IsStopOfMessage name stop
+IsStopOfHook (CommitMsg name) stop = IsStopOfMessage name stop
+IsStopOfHook hook stop = ⊥
+
+-- what stops an update for the file that lists its paths, or that holds its message
+abbrev pub IsStopOfItsFile : Update → CommandStop → Type 0
+IsStopOfItsFile (Add paths mode) stop = IsStopOfSource paths stop
+IsStopOfItsFile (Remove paths) stop = IsStopOfSource paths stop
+IsStopOfItsFile (Run files only stage fresh options) stop = IsStopOfChoice files stop
+IsStopOfItsFile (Hook hook fresh options) stop = IsStopOfHook hook stop
+IsStopOfItsFile Accept stop = ⊥
+IsStopOfItsFile (Commit message no_verify color jobs) stop = ⊥
+IsStopOfItsFile Forget stop = ⊥
+IsStopOfItsFile (Limit limit) stop = ⊥
 
 -- a variable which names a file of calls, the folder of children, what links in this folder lead to, or the
 -- file that represents Git's state
@@ -189,6 +202,7 @@ abbrev pub IsStopOfCall : Update → CommandStop → Type 0
 IsStopOfCall (Add paths mode) stop = IsStopOfStaging stop
 IsStopOfCall (Remove paths) stop = ⊥
 IsStopOfCall (Run files only stage fresh options) stop = IsStopOfHooks stop
+IsStopOfCall (Hook hook fresh options) stop = IsStopOfHooks stop
 IsStopOfCall Accept stop = ⊥
 IsStopOfCall (Commit message no_verify color jobs) stop = IsStopOfHooks stop
 IsStopOfCall Forget stop = ⊥
@@ -199,6 +213,7 @@ abbrev pub IsStopOfLookUp : CommandStop → Type 0
 IsStopOfLookUp (NoRepository fault) = Unit {0}
 IsStopOfLookUp stop = ⊥
 
--- what stops an update: that, the file that lists its paths, or what it needs besides the store
+-- what stops an update: that, the file that lists its paths or holds its message, or what it needs besides
+-- the store
 abbrev pub IsStopOfUpdate : Update → CommandStop → Type 0
-IsStopOfUpdate update stop = IsStopOfLookUp stop ⊎ IsStopOfItsList update stop ⊎ IsStopOfCall update stop
+IsStopOfUpdate update stop = IsStopOfLookUp stop ⊎ IsStopOfItsFile update stop ⊎ IsStopOfCall update stop

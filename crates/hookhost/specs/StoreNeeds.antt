@@ -14,5 +14,6 @@ command_needs other = Nothing
 -- and a command that runs hooks needs a configuration
 abbrev pub call_needs : StoreCall → Requirement
 call_needs (call.HookCommand asked shown children) = Configuration
+call_needs (call.MessageHooks ask file color children) = Configuration
 call_needs (call.Command asked) = command_needs asked
 call_needs other = Nothing

@@ -5,7 +5,8 @@ ghost use Rattle.hookhost.specs.Stops.{IsStopOfLookUp, IsStopOfOpening, IsStopOf
 
 use crate::colored_report::report_writer;
 use crate::hint::is_heard;
-use crate::names::names_of;
+use crate::line_files::{LineFiles, files_of};
+use crate::message_file::{MessageFile, keep_message};
 use crate::obstacle_lines::tell_trouble;
 use crate::refusal_hints::{hint_after, need_of};
 use crate::runs::RealChildren;
@@ -15,9 +16,11 @@ use crate::tracked_store::distrust;
 use crate::undone_fix::undone_fix;
 use crate::unstaged_words::{is_folder_of_none, removal_of};
 use child_port::{Children, TableChildren};
-use commit_flow::{Command, Host, HostRefusal};
+use commit_flow::{Command, Host, HostRefusal, MessageAsk};
 use hook_base::{Items, OutOfMemory, Text};
-use hook_cli::{LookUp, Update, command_over, look_up_over};
+use hook_cli::{
+    ColorChoice, LookUp, MessageOver, Update, command_over, look_up_over, message_over,
+};
 use repository_files::{
     Before, DatabaseOver, Lock, keep_out_of_git, leave_database, look_at_store, open_database,
     open_store, take_lock,
@@ -48,14 +51,16 @@ pub(crate) fn look_up(rt: &HostRuntime, asked: LookUp) -> Result<u8, CommandStop
 
 /// Makes a change of the repository, and returns the exit status, as `command_over` does. The errors come in
 /// this order. The first is `RepositoryFault::CannotUseStore` if the store's file isn't there.
-/// Then come what `names_of` reports of the file of `--paths-from`, and `RepositoryFault::CannotUseLock`.
+/// Then come what `files_of` reports of the file of `--paths-from` or of a message, and
+/// `RepositoryFault::CannotUseLock`.
 /// Then come what `call_of` reports of the files of `add` and of what runs of hooks need, and what opening
 /// the store reports.
 ///
 /// After an error or a refusal the folder is as it was, except for its lock and the folder of children.
 /// Besides, the log of a killed command is then in the database, and a store of an earlier version is
 /// adopted. An ignore file of an earlier program is replaced by a line in Git's own exclude list. After a
-/// refused run or commit, what was answered by then is cached.
+/// refused run or commit, what was answered by then is cached. The file of a message is replaced if hooks pass that
+/// change it; if that fails, the exit status is 3.
 pub(crate) fn change(rt: &HostRuntime, update: Update) -> Result<u8, CommandStop>
     ensures status { IfOk result (λ status. (status ≡ 0) ⊎ (status ≡ 1) ⊎ (status ≡ 3)) }
     ensures stopped { IfErr result (IsStopOfUpdate update) }
@@ -63,9 +68,9 @@ pub(crate) fn change(rt: &HostRuntime, update: Update) -> Result<u8, CommandStop
     look_at_store(rt)?;
     // Standard input may be what another command on this repository prints, so nothing is waited for under
     // the lock.
-    let names = names_of(rt, &update)?;
+    let files = files_of(rt, &update)?;
     let lock = take_lock(rt)?;
-    change_under(rt, &lock, update, names)
+    change_under(rt, &lock, update, files)
 }
 
 // Makes a change under the repository's lock.
@@ -73,14 +78,14 @@ fn change_under(
     rt: &HostRuntime,
     lock: &Lock,
     update: Update,
-    names: Items<Text>,
+    files: LineFiles,
 ) -> Result<u8, CommandStop>
     ensures status { IfOk result (λ status. (status ≡ 0) ⊎ (status ≡ 1) ⊎ (status ≡ 3)) }
     ensures stopped { IfErr result (IsStopOfUpdate update) }
 {
     // The ignore file of an earlier program would be above the files over which hooks run.
     keep_out_of_git(rt);
-    let call = call_of(rt, update, names)?;
+    let call = call_of(rt, update, files)?;
     open_and_do(rt, lock, call)
 }
 
@@ -154,6 +159,12 @@ fn answer<S: Alter + Drop>(rt: &HostRuntime, call: StoreCall, host: &mut Host<S>
             shown,
             children,
         } => answer_hooks(rt, &command, shown, children, host),
+        StoreCall::MessageHooks {
+            ask,
+            file,
+            color,
+            children,
+        } => answer_message(rt, &ask, file, color, children, host),
         StoreCall::Unstage { words, is_listed } => unstage(rt, words.as_slice(), is_listed, host),
         StoreCall::Nothing => DONE,
     }
@@ -198,6 +209,41 @@ fn answer_hooks<S: Alter + Drop>(
         tell_trouble(rt, &children);
     }
     status
+}
+
+// Runs hooks about a message, and replaces its file if they leave another one. The exit status is that of the
+// hooks, or 3 if the file can't be replaced.
+fn answer_message<S: Alter + Drop>(
+    rt: &HostRuntime,
+    ask: &MessageAsk,
+    file: MessageFile,
+    color: ColorChoice,
+    children: RealChildren,
+    host: &mut Host<S>,
+) -> u8
+    ensures { (result ≡ 0) ⊎ (result ≡ 1) ⊎ (result ≡ 3) }
+{
+    if let Err(refusal) = distrust(rt, host) {
+        return tell(rt, &CommandStop::RefusedCommand(refusal));
+    }
+    let mut children = children;
+    let mut writer = report_writer(rt, color, &mut children);
+    let MessageOver { status, message } = message_over(
+        rt.alloc(),
+        ask,
+        file.bytes.as_slice(),
+        host,
+        &mut children,
+        &mut writer,
+        &mut rt.stderr(),
+    );
+    if status != REFUSED {
+        tell_trouble(rt, &children);
+    }
+    match keep_message(rt, file, message) {
+        Ok(()) => status,
+        Err(stop) => tell(rt, &stop),
+    }
 }
 
 fn do_command<S: Alter + Drop, C: Children, W: Write>(

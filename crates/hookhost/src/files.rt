@@ -69,10 +69,10 @@ pub(crate) fn read_configuration<R: Files + AllocGlobal>(
     }
 }
 
-/// The bytes of a file to stage, up to one past the limit: the host refuses a longer one. A file that isn't
-/// there or can't be read, and anything but a regular file, is `CommandStop::CannotUse`; want of memory is
-/// `CommandStop::Refused`.
-pub(crate) fn read_staged<R: Files + AllocGlobal>(
+/// The bytes of a file to stage or of a message, up to one past the limit: the host refuses a longer one. A file
+/// that isn't there or can't be read, and anything but a regular file, is `CommandStop::CannotUse`; want of memory
+/// is `CommandStop::Refused`.
+pub(crate) fn read_regular<R: Files + AllocGlobal>(
     rt: &R,
     path: &Text,
 ) -> Result<Vec<u8>, CommandStop>

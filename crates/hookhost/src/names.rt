@@ -6,7 +6,7 @@ ghost use Rattle.std.specs.Prelude.{◌≡◌, ◌⊎◌, IfErr, IfOk};
 ghost use Rattle.configuration_run.specs.declared.try_fault.TryFault.TheVariants.{OutOfMemory as NoMemory};
 ghost use Rattle.hookhost.specs.Names.{listed_names, path_named, with_last, without_empty_end};
 ghost use Rattle.hookhost.specs.declared.stop.CommandStop.TheVariants.{NotText, Refused};
-ghost use Rattle.hookhost.specs.Stops.{IsStopOfItsList, IsStopOfNames};
+ghost use Rattle.hookhost.specs.Stops.{IsStopOfItsFile, IsStopOfNames};
 
 use crate::files::read_word;
 use crate::stop::CommandStop;
@@ -18,7 +18,7 @@ use std::alloc::Global;
 /// option. A file that can't be read, or has more than 16 MiB, is `CommandStop::CannotUse`. Names that aren't UTF-8
 /// are `CommandStop::NotText`, and want of memory is `CommandStop::RefusedCommand`.
 pub(crate) fn names_of(rt: &HostRuntime, update: &Update) -> Result<Items<Text>, CommandStop>
-    ensures { IfErr result (IsStopOfItsList update.now) }
+    ensures { IfErr result (IsStopOfItsFile update.now) }
 {
     match update {
         Update::Add {
@@ -35,6 +35,7 @@ pub(crate) fn names_of(rt: &HostRuntime, update: &Update) -> Result<Items<Text>,
         Update::Add { .. }
         | Update::Remove { .. }
         | Update::Run { .. }
+        | Update::Hook { .. }
         | Update::Accept
         | Update::Commit { .. }
         | Update::Forget

@@ -22,7 +22,9 @@ pub(crate) fn need_of(call: &StoreCall) -> Requirement
     ensures { result ≡ call_needs call.now }
 {
     match call {
-        StoreCall::HookCommand { .. } => Requirement::Configuration,
+        StoreCall::HookCommand { .. } | StoreCall::MessageHooks { .. } => {
+            Requirement::Configuration
+        }
         StoreCall::Command(command) => need_of_command(command),
         StoreCall::LookUp(_) | StoreCall::Unstage { .. } | StoreCall::Nothing => {
             Requirement::Nothing

@@ -36,13 +36,13 @@ const AHEAD_FOLDER: &str = "HOOKHOST_AHEAD";
 /// Children that are processes and that a terminal shows.
 pub(crate) type RealChildren = HeardChildren<ShownChildren<ProcessChildren<HostRuntime>, Stderr>>;
 
-/// The children of a run on the repository, of which none has run yet, and at most so many at once, or as many as
-/// there are processors. They run in the folder that the variable of Git's hook names, and otherwise in that of
-/// the repository. If a variable names a file of calls, a child during which a call was recorded there is a
-/// fault, and several run at once only if another names the folder for those ahead of their turns. If one names
-/// the file that represents Git's state, each child learns whether it has seen that. A variable that isn't
-/// UTF-8, or names what can't be, is `CommandStop::CannotUse`; want of memory is `CommandStop::Refused`.
-pub(crate) fn children_of(rt: &HostRuntime, jobs: Option<u32>) -> Result<RealChildren, CommandStop>
+// The children of a run on the repository, of which none has run yet, and at most so many at once, or as many as
+// there are processors. They run in the folder that the variable of Git's hook names, and otherwise in that of
+// the repository. If a variable names a file of calls, a child during which a call was recorded there is a
+// fault, and several run at once only if another names the folder for those ahead of their turns. If one names
+// the file that represents Git's state, each child learns whether it has seen that. A variable that isn't
+// UTF-8, or names what can't be, is `CommandStop::CannotUse`; want of memory is `CommandStop::Refused`.
+fn children_of(rt: &HostRuntime, jobs: Option<u32>) -> Result<RealChildren, CommandStop>
     ensures { IfErr result IsStopOfChildren }
 {
     let calls = named_by(rt.alloc(), GIT_CALLS, env::var(rt, GIT_CALLS))?;
@@ -111,8 +111,19 @@ pub(crate) fn passing_children(
     Ok(shown(rt, children, jobs)?)
 }
 
-/// The ids and aliases of the hooks that are skipped, in the variable of the environment.
-pub(crate) fn skipped(rt: &HostRuntime) -> Result<Items<Text>, OutOfMemory> {
+/// What a command that runs hooks needs: the hooks that it skips, and children. A variable that isn't UTF-8, or
+/// names what can't be, is `CommandStop::CannotUse`; want of memory is `CommandStop::Refused`.
+pub(crate) fn hook_needs(
+    rt: &HostRuntime,
+    jobs: Option<u32>,
+) -> Result<(Items<Text>, RealChildren), CommandStop>
+    ensures { IfErr result IsStopOfChildren }
+{
+    Ok((skipped(rt)?, children_of(rt, jobs)?))
+}
+
+// The ids and aliases of the hooks that are skipped, in the variable of the environment.
+fn skipped(rt: &HostRuntime) -> Result<Items<Text>, OutOfMemory> {
     skipped_by(rt.alloc(), env::var(rt, SKIP))
 }
 

@@ -8,7 +8,7 @@ ghost use Rattle.named_files.specs.Words.{is_working_folder};
 ghost use Rattle.hookhost.specs.StagedWords.{IsStagedOnce, are_too_many, folder_path, is_folder_path};
 ghost use Rattle.hookhost.specs.Stops.{IsStopOfReading};
 
-use crate::files::read_staged;
+use crate::files::read_regular;
 use crate::folder_files::files_below;
 use crate::names::path_named;
 use crate::stop::CommandStop;
@@ -125,12 +125,12 @@ fn gather_file<R: Files + AllocGlobal>(
     Ok(())
 }
 
-/// The bytes of a file to stage, as `read_staged` reads them. An empty path has none: the store refuses it.
+/// The bytes of a file to stage, as `read_regular` reads them. An empty path has none: the store refuses it.
 pub(crate) fn bytes_of<R: Files + AllocGlobal>(rt: &R, path: &Text) -> Result<Vec<u8>, CommandStop>
     ensures { IfErr result IsStopOfReading }
 {
     if path.is_empty() {
         return Ok(Vec::new(rt.alloc()));
     }
-    read_staged(rt, path)
+    read_regular(rt, path)
 }

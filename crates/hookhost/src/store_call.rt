@@ -5,14 +5,16 @@
 ghost use Rattle.std.specs.Prelude.{◌≡◌, IfErr, IfOk};
 ghost use Rattle.command_line.specs.declared.line.PathSource.{PathSource};
 ghost use Rattle.command_line.specs.declared.line.PathSource.TheVariants.{Words};
-ghost use Rattle.command_line.specs.declared.line.Update.TheVariants.{Remove};
-ghost use Rattle.hookhost.specs.Stops.{IsStopOfChildren, IsStopOfReading, IsStopOfCall};
-ghost use Rattle.hookhost.specs.StoreCalls.{IsAddCall, IsCallOf, ask_stage_of_choice, options_of, which_of};
+ghost use Rattle.hookhost.specs.Stops.{IsStopOfReading, IsStopOfCall};
+ghost use Rattle.hookhost.specs.StoreCalls.{IsAddCall, IsCallOf, IsUnstageCall, ask_stage_of_choice, options_of, which_of};
 
-use crate::runs::{RealChildren, children_of, skipped};
+use crate::hook_call::hook_call;
+use crate::line_files::LineFiles;
+use crate::message_file::MessageFile;
+use crate::runs::{RealChildren, hook_needs};
 use crate::staged_words::{bytes_of, folder_of, staged_by};
 use crate::stop::CommandStop;
-use commit_flow::{AskStage, Command, HostAsk, StagingEdits, Which};
+use commit_flow::{AskStage, Command, HostAsk, MessageAsk, StagingEdits, Which};
 use hook_base::{Bytes, Items, Mode, Text};
 use hook_cli::{ColorChoice, FileChoice, LookUp, PathSource, RunChoice, StageChoice, Update};
 use run_options::RunOptions;
@@ -31,6 +33,17 @@ pub(crate) enum StoreCall {
         command: Command,
         /// How its report is shown.
         shown: ReportChoice,
+        /// The children that run the hooks' commands.
+        children: RealChildren,
+    },
+    /// Hooks about a message.
+    MessageHooks {
+        /// What is asked of them.
+        ask: MessageAsk,
+        /// The file of the message.
+        file: MessageFile,
+        /// When the report has colors.
+        color: ColorChoice,
         /// The children that run the hooks' commands.
         children: RealChildren,
     },
@@ -54,18 +67,19 @@ pub(crate) struct ReportChoice {
     pub(crate) has_durations: bool,
 }
 
-/// What an update asks of the store. The names are those that its `--paths-from` lists. What it stages is
-/// read, each file once and up to one byte past the limit: the host refuses a longer one. A word that can't
-/// be used is `CommandStop::CannotUse`, and so is a variable that children depend on. Want of memory is
-/// `CommandStop::RefusedCommand`, also for what runs of hooks need.
+/// What an update asks of the store, with what its files hold. What it stages is read, each file once and up to one
+/// byte past the limit: the host refuses a longer one. A word that can't be used is `CommandStop::CannotUse`, and so
+/// is a variable that children depend on. Want of memory is `CommandStop::RefusedCommand`, also for what runs of
+/// hooks need.
 pub(crate) fn call_of(
     rt: &HostRuntime,
     update: Update,
-    names: Items<Text>,
+    files: LineFiles,
 ) -> Result<StoreCall, CommandStop>
-    ensures call { IfOk result (IsCallOf update names) }
+    ensures call { IfOk result (IsCallOf update files.names files.message) }
     ensures stopped { IfErr result (IsStopOfCall update) }
 {
+    let LineFiles { names, message } = files;
     match update {
         Update::Add { paths, mode } => add_call(rt, paths, names, mode).map_err(
             CommandStop::of_command,
@@ -96,9 +110,14 @@ pub(crate) fn call_of(
                 children,
             })
         }
+        Update::Hook {
+            hook,
+            fresh,
+            options,
+        } => hook_call(rt, hook, fresh, options, message),
         Update::Accept => Ok(StoreCall::Command(Command::Accept)),
         Update::Commit {
-            message,
+            message: text,
             no_verify,
             color,
             jobs,
@@ -106,7 +125,7 @@ pub(crate) fn call_of(
             let (skip, children) = hook_needs(rt, jobs).map_err(CommandStop::of_command)?;
             Ok(StoreCall::HookCommand {
                 command: Command::Commit {
-                    message: message_of(message),
+                    message: message_of(text),
                     no_verify,
                     skip,
                 },
@@ -178,7 +197,7 @@ fn stage_call<R: Files + AllocGlobal>(
 
 // The words that name what is unstaged: those of the line, or those that its file lists.
 fn unstage_call(paths: PathSource, names: Items<Text>) -> StoreCall
-    ensures { IsCallOf (Remove paths) names result }
+    ensures { IsUnstageCall paths names result }
 {
     match paths {
         PathSource::Words(words) => StoreCall::Unstage {
@@ -227,14 +246,4 @@ fn message_of(message: Text) -> Bytes
     ensures { result ≡ message }
 {
     Bytes::from(message.into_string().into_bytes())
-}
-
-// What a command that runs hooks needs: the hooks that it skips, and children.
-fn hook_needs(
-    rt: &HostRuntime,
-    jobs: Option<u32>,
-) -> Result<(Items<Text>, RealChildren), CommandStop>
-    ensures { IfErr result IsStopOfChildren }
-{
-    Ok((skipped(rt)?, children_of(rt, jobs)?))
 }

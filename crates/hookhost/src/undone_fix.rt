@@ -39,6 +39,7 @@ fn undone_by_call<S: Alter>(
         StoreCall::Command(command) => undone_by_command(alloc, command, store),
         StoreCall::LookUp(_)
         | StoreCall::HookCommand { .. }
+        | StoreCall::MessageHooks { .. }
         | StoreCall::Unstage { .. }
         | StoreCall::Nothing => Ok(None),
     }

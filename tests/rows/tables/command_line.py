@@ -18,7 +18,7 @@ LINES = [
         [],
         "refused MissingSubcommand\n"
         "error: 'hookhost' requires a subcommand but one was not provided\n"
-        "  [subcommands: init, try, check, explain, add, rm, status, cat, run, run-files, fixes, accept, commit, log, show, memory, forget]\n\n"
+        "  [subcommands: init, try, check, explain, add, rm, status, cat, run, run-files, hook, fixes, accept, commit, log, show, memory, forget]\n\n"
         f"Usage: hookhost <COMMAND>\n\n{MORE}",
     ),
     (
@@ -72,6 +72,7 @@ LINES = [
         "  cat        Prints the bytes of a staged file, of its fix or of a commit's file\n"
         "  run        Runs the hooks of the staged configuration on staged files, and prints the report\n"
         "  run-files  Runs the hooks of the staged configuration on the named staged files\n"
+        "  hook       Runs the hooks of one stage of a commit that another program makes\n"
         "  fixes      Prints the fixes, which accept applies to the staged files\n"
         "  accept     Applies the fixes to the staged files, and prints how many there were\n"
         "  commit     Commits the staged files, through the hooks of a commit\n"
@@ -113,6 +114,7 @@ USAGES = {
     "accept": "accept",
     "run": "run [--all-files] [--hook-stage=<STAGE>] [--fresh] [--cautious] [--verbose] [--color=<WHEN>] [--jobs=<N>] [ID]",
     "run-files": "run-files [--only=<ID>] [--hook-stage=<STAGE>] [--fresh] [--cautious] [--verbose] [--color=<WHEN>] [--jobs=<N>] (<PATH>... | --paths-from=<FILE>)",
+    "hook": "hook [--fresh] [--cautious] [--color=<WHEN>] [--jobs=<N>] <STAGE> [FILE]",
     "commit": "commit [--no-verify] [--color=<WHEN>] [--jobs=<N>] -m <TEXT>",
     "cat": "cat [--fixed | --commit=<N>] <PATH>",
     "log": "log",
@@ -162,6 +164,10 @@ def no_jobs(value):
 
 def no_color(value):
     return f"invalid value '{value}' for '--color <WHEN>': only auto, always and never are allowed"
+
+
+def no_stage(value):
+    return f"invalid value '{value}' for '<STAGE>': only pre-commit, prepare-commit-msg, commit-msg and post-commit are allowed"
 
 
 def both_versions(value):
@@ -359,6 +365,34 @@ RUN_LINES = [
     (("run-files", "--only", "names", "--cautious", "--paths-from=list"), "run pre-commit listed cautious\nnames\nlist\n"),
 ]
 
+# Words for the hooks of a stage of a commit, and what they ask for. Those of two stages need a file, and the others take none.
+HOOK_LINES = [
+    *((("hook", stage), f"hook {stage}\n") for stage in ["pre-commit", "post-commit"]),
+    *((("hook", stage, "a b"), f"hook {stage}\na b\n") for stage in ["prepare-commit-msg", "commit-msg"]),
+    (("hook", "commit-msg", "-"), "hook commit-msg\n-\n"),
+    (("hook", "commit-msg", ""), "hook commit-msg\n\n"),
+    (("hook", "commit-msg", "commit-msg"), "hook commit-msg\ncommit-msg\n"),
+    (("hook", "--", "commit-msg", "--fresh"), "hook commit-msg\n--fresh\n"),
+    (("hook", "--fresh", "pre-commit"), "hook pre-commit fresh\n"),
+    (("hook", "pre-commit", "--cautious"), "hook pre-commit cautious\n"),
+    (("hook", "--cautious", "prepare-commit-msg", "--fresh", "a"), "hook prepare-commit-msg fresh cautious\na\n"),
+    (("hook",), refused("hook", "MissingRequiredArgument", missing("STAGE"))),
+    *(
+        (("hook", stage, *files), refused("hook", "InvalidValue", no_stage(stage)))
+        for stage in ["pre-push", "pre-merge-commit", "manual", "commit", "Pre-commit", "pre-commit ", "post-commi", ""]
+        for files in [(), ("a",)]
+    ),
+    *((("hook", stage), refused("hook", "InvalidValue", missing("FILE"))) for stage in ["prepare-commit-msg", "commit-msg"]),
+    *(
+        (("hook", stage, file), refused("hook", "InvalidValue", f"unexpected argument '{file}' found"))
+        for stage in ["pre-commit", "post-commit"]
+        for file in ["a", "", "commit-msg"]
+    ),
+    (("hook", "commit-msg", "a", "b"), refused("hook", "UnknownArgument", "unexpected argument 'b' found")),
+    (("hook", "pre-commit", "--verbose"), refused("hook", "UnknownArgument", no_flag("--verbose"))),
+    (("hook", "pre-commit", "--hook-stage=manual"), refused("hook", "UnknownArgument", no_flag("--hook-stage"))),
+]
+
 # Words of the commands that print a report, and what they ask for: the first line without its end, and the lines after it.
 REPORTS = [
     (("run", "--hook-stage=manual"), "run manual changed", ""),
@@ -367,6 +401,8 @@ REPORTS = [
     (("try", "hooks.yaml", "a"), "try", "hooks.yaml\na\n"),
     (("commit", "-m", "some words"), "commit", "some words\n"),
     (("commit", "--no-verify", "-mx"), "commit unverified", "x\n"),
+    (("hook", "post-commit"), "hook post-commit", ""),
+    (("hook", "--fresh", "commit-msg", "a"), "hook commit-msg fresh", "a\n"),
 ]
 
 # What `--color` may ask for, and how the first line ends then.
@@ -446,4 +482,4 @@ JOBS_LINES = [
     ),
 ]
 
-ROWS = [("line_of", *words, said) for words, said in LINES + REPOSITORY_LINES + RUN_LINES + COLOR_LINES + JOBS_LINES]
+ROWS = [("line_of", *words, said) for words, said in LINES + REPOSITORY_LINES + RUN_LINES + HOOK_LINES + COLOR_LINES + JOBS_LINES]
