@@ -4,12 +4,20 @@
 # Puts what can follow at the cursor into COMPREPLY.
 _hookhost_git() {
   local word=${COMP_WORDS[COMP_CWORD]} before=${COMP_WORDS[COMP_CWORD - 1]} option='' ended='' at
+  local -a types=(pre-commit pre-merge-commit prepare-commit-msg commit-msg post-commit)
   local -a commits
   COMPREPLY=()
   case $COMP_CWORD,${COMP_WORDS[1]} in
     1,*) _hookhost_git_propose install uninstall run remove hook -h --help --version ;;
-    2,hook) _hookhost_git_propose pre-commit ;;
-    2,install | 2,uninstall | 2,remove) _hookhost_git_propose -h --help ;;
+    2,hook) _hookhost_git_propose "${types[@]}" ;;
+    *,install)
+      if [[ $before == -t || $before == --hook-type || ( $before == = && ${COMP_WORDS[COMP_CWORD - 2]} == --hook-type ) ]]; then
+        _hookhost_git_propose "${types[@]}"
+      else
+        _hookhost_git_propose -t --hook-type -h --help
+      fi
+      ;;
+    2,uninstall | 2,remove) _hookhost_git_propose -h --help ;;
     *,run)
       # The last option decides what follows it. Bash parts words at =.
       for ((at = 2; at < COMP_CWORD; at++)); do

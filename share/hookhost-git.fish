@@ -21,15 +21,17 @@ function __hookhost_git_commits
     git for-each-ref --format='%(refname:short)' 2>/dev/null
 end
 
+set -l types pre-commit pre-merge-commit prepare-commit-msg commit-msg post-commit
 complete -c hookhost-git -f
-complete -c hookhost-git -n __fish_is_first_token -a install -d 'Makes Git run the hooks before each commit'
-complete -c hookhost-git -n __fish_is_first_token -a uninstall -d 'Removes that hook'
+complete -c hookhost-git -n __fish_is_first_token -a install -d 'Makes Git run the hooks at each commit'
+complete -c hookhost-git -n __fish_is_first_token -a uninstall -d 'Removes the hooks that install wrote'
 complete -c hookhost-git -n __fish_is_first_token -a run -d 'Runs the hooks on the files that a commit would change now'
 complete -c hookhost-git -n __fish_is_first_token -a remove -d 'Removes the working files that the hooks of the last run removed'
 complete -c hookhost-git -n __fish_is_first_token -a hook -d 'What Git calls'
 complete -c hookhost-git -n '__fish_is_first_token; or __hookhost_git_is install uninstall remove run' -s h -l help -d 'Prints the help'
 complete -c hookhost-git -n __fish_is_first_token -l version -d 'Prints the version of hookhost'
-complete -c hookhost-git -n '__hookhost_git_is hook' -a pre-commit -d 'What Git calls'
+complete -c hookhost-git -n '__hookhost_git_is hook' -a "$types" -d 'What Git calls'
+complete -c hookhost-git -n '__hookhost_git_is install' -s t -l hook-type -x -a "$types" -d 'Installs the hook of this type'
 complete -c hookhost-git -n '__hookhost_git_is run' -s a -l all-files -d 'Takes all files of the index'
 complete -c hookhost-git -n '__hookhost_git_is run' -l files -d 'Takes these files of the index'
 complete -c hookhost-git -n '__hookhost_git_is run' -l from-ref -x -a '(__hookhost_git_commits)' -d 'Takes the files that differ from this commit on'

@@ -9,7 +9,11 @@ from hookhost_import.pre_commit_parts import SCRIPT, SYSTEM, all_hooks, environm
 from hookhost_import.tools import NOTHING, reads_of
 
 PLAIN = (*SYSTEM, *SCRIPT, "pygrep", "fail")
-AT_COMMIT = {"commit", "pre-commit"}
+# The stages that hookhost-git runs, each with its names.
+STAGES = {
+    "pre-commit": {"commit", "pre-commit"}, "prepare-commit-msg": {"prepare-commit-msg"}, "commit-msg": {"commit-msg"},
+    "post-commit": {"post-commit"},
+}
 # Keys of a hook, with the value that means the same as no key.
 KEYS = {
     "alias": "", "args": [], "files": "", "exclude": "^$", "types": ["file"], "types_or": [], "exclude_types": [], "always_run": False,
@@ -23,11 +27,12 @@ NO_FILES = ("symlink", "directory", "socket")
 
 @dataclass(frozen=True)
 class Row:
-    """A hook that is run at a commit: the numbers of its repository and of the hook in there, the names by which it is chosen, its own
-    fail_fast, and the local hook that it has become, or None if it is left to pre-commit."""
+    """A hook that is run at a commit: the numbers of its repository and of the hook in there, the names by which it is chosen, those of
+    the stages that it has, its own fail_fast, and the local hook that it has become, or None if it is left to pre-commit."""
 
     place: tuple
     names: tuple
+    stages: tuple
     fail_fast: bool
     made: dict
 
@@ -35,8 +40,8 @@ class Row:
 @dataclass
 class Import:
     """What becomes of a configuration: the keys at its top, its local hooks and the repository of each, the hooks that are left to
-    pre-commit, each with the reason and whether it is run at a commit, all hooks that are, and the folders and files whose change asks for
-    another import."""
+    pre-commit, each with the reason and those of the stages that it has, all hooks that are run at a commit, and the folders and files
+    whose change asks for another import."""
 
     top: dict
     hooks: list = field(default_factory=list)
@@ -54,6 +59,11 @@ def gets(hook, kind):
     """Whether pre-commit hands the hook what has this type alone."""
     tags = {kind}
     return tags >= set(hook.types) and (not hook.types_or or bool(tags & set(hook.types_or))) and not tags & set(hook.exclude_types)
+
+
+def stages_of(hook):
+    """Those of the stages of a commit that the hook has."""
+    return tuple(stage for stage, names in STAGES.items() if names & set(hook.stages))
 
 
 def why_left(hook, raw):
@@ -76,7 +86,7 @@ def why_left(hook, raw):
         return "it asks for links or submodules, which hookhost hands to no hook"
     if not means_the_same(hook.files) or not means_the_same(hook.exclude):
         return "its files or exclude is a pattern that means something else to hookhost"
-    if needs_environment(hook) and not AT_COMMIT & set(hook.stages):
+    if needs_environment(hook) and not stages_of(hook):
         return "it isn't run at a commit, so pre-commit hasn't installed it"
     return None
 
@@ -157,19 +167,19 @@ def imported(config, store, maker):
     if not is_taken:
         found.top = {}
     for hook, why, raw, place in zip(hooks, reasons, raws, places, strict=True):
-        rev, is_run = config["repos"][place[0]].get("rev", ""), bool(AT_COMMIT & set(hook.stages))
+        rev, stages = config["repos"][place[0]].get("rev", ""), stages_of(hook)
         if why is None and not is_taken:
             why = "files or exclude at the top is a pattern that hookhost doesn't take"
         made = maker.made(hook, rev, raw, found.looked) if why is None else None
         if made is not None and not maker.program.takes({}, [made]):
             made, why = None, "hookhost doesn't take it; its patterns may look around or back"
         if made is None:
-            found.left.append((hook.id, why, is_run))
+            found.left.append((hook.id, why, stages))
         else:
             found.hooks.append(made)
             found.sources.append("" if hook.src == "local" else f"{hook.src}, {rev}")
-        if is_run:
-            found.rows.append(Row(place, (hook.id, hook.alias), hook.fail_fast, made))
+        if stages:
+            found.rows.append(Row(place, (hook.id, hook.alias), stages, hook.fail_fast, made))
     return found
 
 

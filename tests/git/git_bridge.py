@@ -5,7 +5,7 @@ Usage: tests/git/git_bridge.py [--sample] [PROGRAM [PART [PLAYS [FIRST]]]]   (de
 
 PART is `cases`, `plays`, `kills`, or a part of a case's name.
 First come the promises of docs/GIT.md, case by case (tests/git/git_bridge_cases.py, .._fixes.py, .._forms.py, .._runs.py,
-.._calls.py, .._served.py, .._keeping.py, .._share.py, .._tools.py, .._links.py, .._partial.py, .._state.py and .._ahead.py), and what README.md shows
+.._calls.py, .._served.py, .._keeping.py, .._share.py, .._tools.py, .._links.py, .._partial.py, .._state.py, .._ahead.py and .._stages.py), and what README.md shows
 (tests/git/git_bridge_readme.py). Then come random repositories that are compared with copies in which pre-commit is the hook
 (tests/git/git_bridge_plays.py), and kills (tests/git/git_bridge_kills.py). With --sample only some of the plays and of the kills come.
 """
@@ -31,6 +31,7 @@ from git_bridge_repository import Wrong, environment
 from git_bridge_runs import CASES as RUNS
 from git_bridge_served import CASES as SERVED
 from git_bridge_share import CASES as SHARED
+from git_bridge_stages import CASES as STAGES
 from git_bridge_state import CASES as STATES
 from git_bridge_tools import CASES as TOOLS
 
@@ -60,7 +61,7 @@ def in_folder(action):
 
 def run_cases():
     """How many cases there were, and how many failed."""
-    cases = (*CASES, *FIXES, *FORMS, *RUNS, *CALLS, *SERVED, *KEEPING, *SHARED, *TOOLS, *LINKS, *PARTIAL, *STATES, *AHEAD, readme_session)
+    cases = (*CASES, *FIXES, *FORMS, *RUNS, *CALLS, *SERVED, *KEEPING, *SHARED, *TOOLS, *LINKS, *PARTIAL, *STATES, *AHEAD, *STAGES, readme_session)
     chosen = [case for case in cases if PART == "cases" or PART in case.__name__]
     failed = [case.__name__ for case in chosen if in_folder(case)]
     for name in failed:

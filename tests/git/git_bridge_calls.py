@@ -14,13 +14,14 @@ SERVED = [
     "git diff -- --no-index", "git log", "git rev-parse --show-prefix", "git check-attr -a a", "git check-ignore a", "git apply a", "git blame -s a", "git hash-object a", "echo a | git hash-object --stdin",
     "git config user.name", "git config --local user.name", "git hash-object -w a", "git ls-remote", "git ls-remote origin", "git submodule status", "git bundle verify a", "git stash list",
     "git -C sub ls-files", "git -C sub -C .. ls-files", "git --no-pager -c a.b=c log", "git --work-tree=. status", "git -c alias.mine='!git ls-files' mine", "git nope", "sh -c 'cd sub && git status --short'",
+    "git interpret-trailers", "git-interpret-trailers", "git stripspace", "git check-ref-format refs/heads/a", "git var GIT_EDITOR",
     "env -u GIT_CEILING_DIRECTORIES git grep -q secret", "env GIT_CEILING_DIRECTORIES=/nowhere git status", "sh -c 'cd / && git -C \"$OLDPWD\" status'", "env GIT_WORK_TREE=. git status",
 ]
 # Calls that need none, by their manual pages, or that name one.
 TAKEN = [
     "git", "git --version", "git -v", "git --help", "git version", "git help -a", "git --exec-path", "git grep -h", "git init --quiet new", "git clone --quiet \"$HOOKHOST_TOP\" cloned",
     "git config --global a.b", "git config --global a.b c", "git config --file x a.b c", "git config -f x a.b", "git ls-remote \"$HOOKHOST_TOP\"", "git diff --no-index a a", "git grep --no-index -q a",
-    "git interpret-trailers", "git-interpret-trailers", "git stripspace", "git check-ref-format refs/heads/a", "git var GIT_EDITOR", "git rev-parse --sq-quote a",
+    "git rev-parse --sq-quote a", "git mailsplit -o. /dev/null",
     "git -C \"$HOOKHOST_TOP\" status", "git -C / --version", "git --git-dir=\"$HOOKHOST_TOP/.git\" log", "git --git-dir \"$HOOKHOST_TOP/.git\" log", "env GIT_DIR=\"$HOOKHOST_TOP/.git\" git log",
     "sh -c 'cd \"$HOOKHOST_TOP\" && git status'", "sh -c 'cd / && git status'", "sh -c 'mkdir mine && cd mine && git init --quiet && git status'",
 ]

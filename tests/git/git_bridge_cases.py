@@ -115,7 +115,9 @@ def the_words(top, env):
     git = Repository.made(os.path.join(top, "git"), env)
     wrong = (["nope"], ["install", "now"], ["run", "--all"], ["run", "a", "b"], ["run", ""], ["run", "--files"], ["run", "--files", "--fresh"], ["run", "--from-ref", "a"],
              ["run", "--to-ref=a"], ["run", "--from-ref", "a", "--to-ref"], ["run", "--all-files", "--files", "a"], ["run", "--files", "a", "--from-ref=a", "--to-ref=b"],
-             ["hook", "commit-msg"], ["hook", "pre-commit", "more"], ["--version", "more"])
+             ["hook"], ["hook", "commit-msg"], ["hook", "commit-msg", ""], ["hook", "commit-msg", "a", "b"], ["hook", "pre-commit", "more"], ["hook", "pre-push"],
+             ["hook", "prepare-commit-msg"], ["hook", "prepare-commit-msg", "a", "b", "c", "d"], ["hook", "post-commit", "a"], ["hook", "pre-merge-commit", "a"],
+             ["install", "--hook-type"], ["install", "-t", "commit"], ["install", "--hook-type=pre-push"], ["install", "--hook-type="], ["--version", "more"])
     for words in ([], *wrong):
         refused(git.bridge(*words), "Usage: hookhost-git install", status=2)
     for words in (["--help"], ["-h"], ["run", "--help"], ["run", "--files", "a", "-h"], ["install", "--help"], ["uninstall", "-h"], ["remove", "--help"]):

@@ -135,21 +135,21 @@ def counting_commands(top, env):
     return {"PATH": folder + ":" + env["PATH"], "HOOKHOST": os.path.join(folder, "hookhost"), "KILL_COUNT": os.path.join(top, "count")}
 
 
-def killed_before(git, counting, at):
+def killed_before(git, counting, at, *words):
     """How a run ends that is killed before the command of this number, if it starts so many."""
     if os.path.exists(counting["KILL_COUNT"]):
         os.remove(counting["KILL_COUNT"])
-    words = ["sh", "-c", 'export KILL_GROUP=$$; exec "$0" run', BRIDGE]
+    words = ["sh", "-c", 'export KILL_GROUP=$$; exec "$0" "$@"', BRIDGE, *(words or ["run"])]
     return subprocess.run(words, cwd=git.folder, env=git.env | {"NO_LINKS": ""} | counting | {"KILL_AT": str(at)}, stdin=subprocess.DEVNULL, capture_output=True, start_new_session=True, timeout=60)
 
 
-def places(first, top, counting, distance):
+def places(first, top, counting, distance, *words):
     """The numbers of the commands before which a run is killed, and more of them than it starts: all that have this distance, or with
     --sample some of those that an undisturbed run starts."""
     if not IS_SAMPLED:
         return range(1, MOST_COMMANDS, distance)
     git = copied(first, os.path.join(top, "counted"))
-    killed_before(git, counting, MOST_COMMANDS)
+    killed_before(git, counting, MOST_COMMANDS, *words)
     shutil.rmtree(git.folder)
     count = content(counting["KILL_COUNT"]).count(b"x")
     there = range(1, count + 1, distance)
@@ -209,6 +209,32 @@ def killed_while_a_tool_changes(top, env):
     raise Wrong("the script starts ever more commands")
 
 
+def killed_while_a_message_is_changed(top, env):
+    """The message is whole, and no answer that depends on the branch is taken by the next run."""
+    counting, words = counting_commands(top, env), ["hook", "commit-msg", "message"]
+    first = Repository.made(os.path.join(top, "first"), env, "--template=")
+    tells = 'git branch --show-current | grep -v bad && echo more >> "$1"'
+    first.configure("id: tells, name: Tells, language: system, stages: [commit-msg], " + shell(tells), BLANKS + ", stages: [pre-commit]")
+    first.add("a.txt", "x \n")
+    first.write("message", "m\n")
+    same("the first run", first.bridge("run").status, 1)
+    first.add("a.txt", "y \n")
+    for at in places(first, top, counting, DISTANCE, *words):
+        git = copied(first, os.path.join(top, f"killed {at}"))
+        is_over = killed_before(git, counting, at, *words).returncode != -signal.SIGKILL
+        check(git.read("message") in (b"m\n", b"m\nmore\n") and git.read("a.txt") == b"y \n", f"killed before command {at}: {git.read('message')!r}")
+        for branch, status, held in (("bad", 1, b"m\n"), ("main", 0, b"m\nmore\n")):
+            git.write("message", "m\n")
+            git.git("symbolic-ref", "HEAD", f"refs/heads/{branch}")
+            found = git.bridge(*words)
+            same(f"on {branch}, killed before command {at}", (found.status, git.read("message")), (status, held))
+        same(f"the files, killed before command {at}", (git.bridge("run").status, git.read("a.txt")), (1, b"y\n"))
+        shutil.rmtree(git.folder)
+        if is_over:
+            return
+    raise Wrong("the script starts ever more commands")
+
+
 # ---- at random moments
 
 def killed_at_random(top, env):
@@ -234,4 +260,4 @@ def killed_at_random(top, env):
         shutil.rmtree(git.folder)
 
 
-KILLS = [killed_before_each_command, killed_while_a_hook_calls_git, killed_while_a_tool_changes, killed_at_random]
+KILLS = [killed_before_each_command, killed_while_a_hook_calls_git, killed_while_a_tool_changes, killed_while_a_message_is_changed, killed_at_random]

@@ -102,6 +102,10 @@ def a_repository_that_is_away(top, env):
     there.add("new.txt", "new\n")
     other.git("update-index", "--add", "--cacheinfo", "100644," + there.git("rev-parse", ":new.txt").strip() + ",new.txt")
     refused(other.bridge("run"), "lacks 1 of the files")
+    # Git runs prepare-commit-msg with --no-verify too.
+    other.write("message", "m\n")
+    for each, how in (("commit-msg", "git commit --no-verify"), ("prepare-commit-msg", "git -c core.hooksPath=/dev/null commit")):
+        refused(other.bridge("hook", each, "message"), "lacks 1 of the files", f"or commit unchecked by '{how}'")
     same("what is known of the store", content(os.path.join(other.home(), "synced")), synced)
     there.git("commit", "--quiet", "-m", "new")
     os.rename(away, os.path.join(top, "origin"))

@@ -1,5 +1,6 @@
 """README.md's session with Git, for tests/git/git_bridge.py: the program prints what it shows."""
 import os
+import re
 import subprocess
 
 from git_bridge_repository import PROGRAM, same
@@ -38,5 +39,5 @@ def readme_session(top, env):
         if reads:
             continue
         if command == "hookhost-git install":
-            shown = f"installed: {os.path.join(folder, '.git/hooks/pre-commit')}\n" + shown.partition("\n")[2]
+            shown = re.sub("^installed: .*(?=/.git/hooks/)", f"installed: {folder}", shown, flags=re.MULTILINE)
         same(command, done.stdout.decode(), shown)

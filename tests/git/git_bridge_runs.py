@@ -232,10 +232,11 @@ def install_lists_stages(top, env):
     installed = f"installed: {git.folder}/.git/hooks/pre-commit\n"
     hooks = [BLANKS + ", stages: [pre-commit, pre-push]", WORDS, "id: subject, name: S, language: system, entry: s, stages: [commit-msg]",
              "id: 'push `x`', name: P, language: system, entry: s, stages: [pre-push, post-checkout]", "id: by hand, name: H, language: system, entry: s, stages: [manual, commit-msg]"]
+    unserved = "not served: pre-push, post-checkout\n"
     rows = [
         (None, "", "hookhost-git: there is no .pre-commit-config.yaml yet: each commit is refused until one is in the index\n"),
-        (configuration(*hooks), "runs: pre-commit (2 hooks)\nnot run by this hook: commit-msg (subject, by hand), manual (by hand), other stages (push `x`)\n", ""),
-        (configuration(hooks[2]), "runs: nothing, since no hook has the stage pre-commit\nnot run by this hook: commit-msg (subject)\n", ""),
+        (configuration(*hooks), "runs: pre-commit (2 hooks)\nnot run: commit-msg (subject, by hand), manual (by hand), other stages (push `x`)\n" + unserved, ""),
+        (configuration(hooks[2]), "runs: nothing, since no hook has the stage pre-commit\nnot run: commit-msg (subject)\n", ""),
         (configuration(BLANKS), "runs: pre-commit (1 hook)\n", ""),
         ("repos: 1\n", "", None),
     ]
@@ -245,7 +246,7 @@ def install_lists_stages(top, env):
         told = git.run(PROGRAM, "explain").out + "hookhost-git: each commit is refused until .pre-commit-config.yaml is one that hookhost takes, or pre-commit is installed, for hooks of other repositories\n" if err is None else err
         for folder in ("", "sub"):
             os.makedirs(os.path.join(git.folder, folder), exist_ok=True)
-            answer = git.bridge("install", cwd=folder)
+            answer = git.bridge("install", "--hook-type", "pre-commit", cwd=folder)
             same(f"install with {text!r}", (answer.status, answer.out, answer.err), (0, installed + out, told))
     # If none lies there, the staged one is reported.
     git.add(CONFIGURATION, configuration(BLANKS))

@@ -22,6 +22,8 @@ READERS = [
     (["fish", "--no-execute"], FISH, "(\n"),
 ]
 COMMANDS = ["install", "uninstall", "run", "remove", "hook"]
+OPTIONS_OF_INSTALL = ["--help", "--hook-type", "-h", "-t"]
+TYPES = ["commit-msg", "post-commit", "pre-commit", "pre-merge-commit", "prepare-commit-msg"]
 OPTIONS = ["--all-files", "--color", "--files", "--from-ref", "--fresh", "--help", "--show-diff-on-failure", "--to-ref", "--verbose", "-a", "-h", "-v"]
 COMMITS = ["HEAD", "main", "side"]
 # A line up to the cursor, and what its last word may become.
@@ -29,8 +31,12 @@ CASES_OF_SHELLS = [
     ("hookhost-git un", ["uninstall"]),
     ("hookhost-git r", ["remove", "run"]),
     ("hookhost-git -", ["--help", "--version", "-h"]),
-    ("hookhost-git hook ", ["pre-commit"]),
-    ("hookhost-git install -", ["--help", "-h"]),
+    ("hookhost-git hook ", TYPES),
+    ("hookhost-git hook pre-", ["pre-commit", "pre-merge-commit"]),
+    ("hookhost-git install -", OPTIONS_OF_INSTALL),
+    ("hookhost-git install --hook-type ", TYPES),
+    ("hookhost-git install -t commit-msg -t po", ["post-commit"]),
+    ("hookhost-git uninstall -", ["--help", "-h"]),
     ("hookhost-git run -", OPTIONS),
     ("hookhost-git run --f", ["--files", "--fresh", "--from-ref"]),
     ("hookhost-git run my", []),
@@ -74,7 +80,7 @@ def tools_read_the_files(top, env):
 
 def the_files_name_what_the_help_names(top, env):
     told = help_of(env)
-    same("the options of the help", sorted(options_of(told)), sorted({*OPTIONS, "--version"}))
+    same("the options of the help", sorted(options_of(told)), sorted({*OPTIONS, *OPTIONS_OF_INSTALL, "--version"}))
     for name in (PAGE, BASH, ZSH, FISH):
         with open(os.path.join(SHARE, name), encoding="utf-8") as file:
             text = file.read().replace("\\-", "-")

@@ -424,7 +424,31 @@ def install_lists_stages(desk):
     desk.git.add(".pre-commit-config.yaml", "repos: [\n")
     ends(desk.type(BRIDGE, "install"), 0, "installed: ", ".pre-commit-config.yaml:1:")
     text = desk.starts_with(system("fine", "entry: 'true'", "stages: [pre-commit]"), system("subject", "entry: 'true'", "stages: [commit-msg]"), system("tests", "entry: 'true'", "stages: [pre-push]"))
-    says(text, "installed: ", "pre-commit", "commit-msg", "subject", "tests")
+    says(text, "installed: ", "runs: pre-commit (1 hook), commit-msg (1 hook)", "not run: other stages (tests)", "not served: pre-push")
+
+
+# ---- messages
+
+
+def a_message_is_refused_and_given_again(desk):
+    """The hook before it names the branch, which the editor shows, and the one after it asks for a capital letter."""
+    desk.git.add(".gitignore", "*.log\n")
+    desk.starts_with(
+        system("ticket", shell('sed -i "1s/^/$(git branch --show-current): /" "$1"'), "stages: [prepare-commit-msg]"),
+        system("subject", shell('grep ": [A-Z]" "$1"'), "stages: [commit-msg]"),
+        system("tell", shell("git log -1 --format='made: %s'"), "stages: [post-commit], always_run: true, verbose: true"),
+    )
+    desk.git.git("checkout", "--quiet", "-b", "T-1")
+    desk.git.add("a.txt", "a\n")
+    not_made(desk.commit("-m", "add a"), "ticket.", "Passed\n", "subject.", "Failed\n- hook id: subject\n- exit code: 1\n")
+    same("what is staged", desk.git.git("status", "--short"), "A  a.txt\n")
+    # An editor gets the message with the branch, between the others' lines.
+    desk.tool("editor", 'cp "$1" shown.log\nsed -i "1s/$/Add a/" "$1"\n')
+    made(desk.commit("--verbose", GIT_EDITOR="editor"), "subject.", "Passed\ntell.", "- hook id: tell\n", "made: T-1: Add a\n")
+    shown = desk.git.read("shown.log").decode()
+    check(shown.startswith("T-1: \n") and "# Changes to be committed:" in shown and "+a\n" in shown, f"{shown!r}")
+    same("the message", desk.git.git("log", "-1", "--format=%B"), "T-1: Add a\n\n")
+    made(desk.commit("--amend", "-m", "add it", "--no-verify"), "ticket.", "made: T-1: add it\n")
 
 
 SESSIONS = [
@@ -432,6 +456,7 @@ SESSIONS = [
     what_is_left_out_does_not_pass, a_hook_that_calls_git_looks_at_the_commit, a_hook_that_names_no_repository_is_refused, what_cannot_be_started_is_named, variables_name_the_top,
     an_edit_of_a_configuration_file_counts, a_failure_is_not_cached, a_tool_is_installed_and_upgraded, a_second_commit_starts_nothing,
     a_run_takes_names_and_options, lines_are_shown_as_hooks_end, a_variable_of_ones_own_shows_nothing, colors_are_chosen, colors_of_a_diff, a_program_without_colors_is_refused, a_diff_is_shown_on_failure, no_hint_leads_out_of_git, a_refused_configuration_is_explained, install_lists_stages,
+    a_message_is_refused_and_given_again,
 ]
 
 
