@@ -62,7 +62,7 @@ class Limited:
         path = os.path.join(self.folder, "started")
         write(self.folder, "started", b"")
         named = [f"{letter}.txt" for letter in letters]
-        words = ["run", *options, "--all-files"] if letters == self.letters else ["run-files", *options, *named]
+        words = ["run", "--jobs=1", *options, "--all-files"] if letters == self.letters else ["run-files", "--jobs=1", *options, *named]
         said = run(self.folder, *words)
         check(said == (0, PASSED, b""), f"{words!r} says {said!r}")
         wanted = []
