@@ -39,10 +39,14 @@ def kit_imports():
                 yield from (crate for crate in KIT.findall(file.read()) if crate not in ours)
 
 
+def read(path):
+    with open(os.path.join(TOP, path), encoding="utf-8") as file:
+        return file.read()
+
+
 def words():
-    for path in [os.path.join(TOP, "README.md"), *glob.glob(os.path.join(TOP, "docs", "*.md"))]:
-        with open(path, encoding="utf-8") as file:
-            yield from file.read().split()
+    for path in ["README.md", *glob.glob(os.path.join(TOP, "docs", "*.md"))]:
+        yield from read(path).split()
 
 
 def counts():
@@ -54,6 +58,7 @@ def counts():
         "lines of proofs/ over 200 columns": count_longer(200, lines("proofs", "**", "*.antt")),
         "imports of the kit's lemmas outside of Kit.antt": sum(1 for _ in kit_imports()),
         "words of README and docs": sum(1 for _ in words()),
+        "lines of README": len(read("README.md").splitlines()),
     }
 
 
