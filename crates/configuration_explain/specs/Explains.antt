@@ -1,4 +1,5 @@
--- What an explanation says about the bytes, apart from its text.
+-- What an explanation says about the bytes, apart from its text. (docs/REFERENCE.md, "What `explain`
+-- says".)
 use Rattle.std.specs.Prelude.{◌≡◌, ℕ, List, Option, Some, None, IsSome}
 use Rattle.hook_config.specs.Configuration.{configuration_of}
 use Rattle.hook_config.specs.Gives.{UnlessLeftOpen}

@@ -1,4 +1,4 @@
-//! What is said about a configuration that is taken.
+//! What is said about a configuration that is taken. (docs/REFERENCE.md, "What `explain` says".)
 
 use crate::escaped_texts::{push_number, push_shown};
 use crate::hooks_never_run::push_never;

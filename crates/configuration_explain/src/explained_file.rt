@@ -1,4 +1,4 @@
-//! The explanation of a configuration.
+//! The explanation of a configuration. (docs/REFERENCE.md, "What `explain` says".)
 //!
 //! The contracts cite `specs/Explains.antt`.
 

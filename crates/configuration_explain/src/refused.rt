@@ -1,4 +1,4 @@
-//! What is said about a configuration that is refused.
+//! What is said about a configuration that is refused. (docs/REFERENCE.md, "What `explain` says".)
 
 use crate::escaped_texts::{push_number, push_quoted, push_shown};
 use crate::finding::{Finding, finding_of};

@@ -1,4 +1,4 @@
--- A node's rows_of_members and items, as the meaning's.
+-- A node's rows and items, as the meaning's.
 use Rattle.std.proofs.Common.{◌≡◌, ℕ, List, [], ◌∷◌, map, String, Vec, Bor, Global, Some, bytes_eq, refl, ap, ◌∙◌}
 use Rattle.std.specs.List.{list_any}
 use Rattle.std.specs.Prelude.{◌||◌}

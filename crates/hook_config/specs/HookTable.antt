@@ -1,5 +1,5 @@
--- The hook that a table of a configuration describes (pre-commit.com, "Creating new hooks"). Its fields are
--- read group by group.
+-- The hook that a table of a configuration describes (pre-commit.com, "Creating new hooks"). Its fields
+-- are read group by group. (docs/REFERENCE.md, "The configuration's keys".)
 use Rattle.std.specs.Prelude.{List, Option, Some, option_and_then}
 use Rattle.yaml_lines.specs.Meaning.{Meaning}
 use Rattle.hook_config.specs.Rows.{ConfigurationRow, table_of}

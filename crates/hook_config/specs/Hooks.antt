@@ -9,7 +9,7 @@ use Rattle.hook_config.specs.KnownKeys.{at_key, local_word}
 use Rattle.hook_config.specs.KnownKeys as key
 use Rattle.hook_config.specs.Limits.{most_hooks}
 
--- the lists that f gives for each value, joined_lists, or none if it gives none for one of them
+-- the lists that f gives for each value, joined, or none if it gives none for one of them
 abbrev pub joined_lists : {A B : Type 0} → (A → Option (List B)) → List A → Option (List B)
 joined_lists f [] = Some []
 joined_lists f (x ∷ xs) = option_and_then (λ ys. option_map (λ rest. ys ++ rest) (joined_lists f xs)) (f x)

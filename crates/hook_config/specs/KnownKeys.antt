@@ -1,6 +1,6 @@
 -- The keys of a configuration's tables (pre-commit.com, "Adding pre-commit plugins to your project" and
 -- "Creating new hooks"). The row of each has its word, what its value has to be, what that is read as, and
--- what it is if the key isn't there.
+-- what it is if the key isn't there. (docs/REFERENCE.md, "The configuration's keys".)
 use Rattle.std.specs.Prelude.{ℕ, List, [], ◌∷◌, codes, Bool, true, false, if◌then◌else◌, bytes_eq, map, Option, Some, None}
 use Rattle.std.specs.Borrow.{Bor}
 use Rattle.yaml_lines.specs.Meaning.{Meaning}

@@ -1,4 +1,4 @@
-//! The table of a hook.
+//! The table of a hook. (docs/REFERENCE.md, "The configuration's keys".)
 
 ghost use Rattle.std.specs.Prelude.{◌≡◌};
 ghost use Rattle.yaml_lines.specs.View.{view};

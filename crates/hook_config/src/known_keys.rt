@@ -1,6 +1,7 @@
 //! The keys of a configuration's three tables (pre-commit.com, "Adding pre-commit plugins to your project"
 //! and "Creating new hooks"). `specs/KnownKeys.antt` says what each has to be. The functions that read the
 //! value at a key, or compare a key with these, are proved only if the words here and there are the same.
+//! (docs/REFERENCE.md, "The configuration's keys".)
 //!
 //! What else a further key of a hook touches is listed in `docs/ARCHITECTURE.md`, "Where a change goes",
 //! under "A hook key".

@@ -1,6 +1,11 @@
-//! The program `store_trial` (docs/REFERENCE.md, "`store_trial`"): plays calls on the store in a file, and
-//! commands of a host over it. Each is a line of standard input and is answered by a line. Scripts use it to
-//! drive, time and stop a store.
+//! The program `store_trial FILE`: plays calls on the store in a file, and commands of a host over it. Each is a
+//! line of standard input, and is answered by a line of fields that tabs part. A backslash, a line end and a tab
+//! are `\\`, `\n` and `\t`. Scripts use it to drive, time and stop a store.
+//!
+//! `store_trial log NUMBER` and `store_trial database NUMBER` play on a disk in memory whose log or database file
+//! takes so many operations and then none. `crash` loses what wasn't synchronized and mends the disk. The exit
+//! status is 1 if its input, its output or `play-tables` fails, 2 for a line that can't be played there, and 3
+//! without memory.
 #![tactic(auto)]
 
 mod alone;

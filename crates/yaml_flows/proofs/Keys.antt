@@ -32,7 +32,7 @@ same_truth true b f g = sym (f refl)
 same_truth false true f g = g refl
 same_truth false false f g = refl
 
-bytes_eq-flip : (xs ys : List ℕ) → bytes_eq xs ys ≡ bytes_eq ys xs
+pub bytes_eq-flip : (xs ys : List ℕ) → bytes_eq xs ys ≡ bytes_eq ys xs
 bytes_eq-flip xs ys =
     same_truth _ _
     (λ e. (bytes_eq-Decides ys xs).1 (sym ((bytes_eq-Decides xs ys).0 e)))
@@ -53,7 +53,7 @@ and_parts false b e = absurd (cc)
 -- ---- one row more
 
 -- the keys with one more after them
-has_key-push : (k : List ℕ) (rs : List Row) (r : Row) → has_key k (rs ++ r ∷ []) ≡ (has_key k rs || bytes_eq r.0 k)
+pub has_key-push : (k : List ℕ) (rs : List Row) (r : Row) → has_key k (rs ++ r ∷ []) ≡ (has_key k rs || bytes_eq r.0 k)
 has_key-push k rs r =
     list_any-append (λ s. bytes_eq k s.0) rs (r ∷ []) ∙ ap (λ b. has_key k rs || b) (or_false (bytes_eq k r.0) ∙ bytes_eq-flip k r.0)
 
@@ -94,7 +94,7 @@ more_rows true e c h = refl
 more_rows false true c h = refl
 more_rows false false c h = h
 
-flipped : (a b : Bool) → cond a true b ≡ (b || a)
+pub flipped : (a b : Bool) → cond a true b ≡ (b || a)
 flipped true true = refl
 flipped true false = refl
 flipped false true = refl

@@ -1,5 +1,5 @@
 //! The flows of a YAML text: lists in brackets and tables in braces, in this project's profile of YAML
-//! 1.2.2.
+//! 1.2.2. (docs/REFERENCE.md, "The configuration's text: a profile of YAML".)
 //!
 //! [`read_flow`] reads the lines of one flow, joined by line feeds, as a [`Node`](yaml_lines::Node). If
 //! they can't be read, a [`FlowFault`] says why, and where.

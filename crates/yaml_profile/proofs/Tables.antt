@@ -1,87 +1,22 @@
 -- Rows whose keys differ, a row at a time.
 use Rattle.std.proofs.Common.{◌≡◌, ℕ, Bool, true, false, not, cond, ◌&&◌, ◌||◌, List, [], ◌∷◌, ◌++◌, Option, Some, None, option_map, option_and_then, String, Global, refl, sym, ap, ◌∙◌, rules}
-use Rattle.std.proofs.lemmas.List.Folds.{list_any-append}
-use Rattle.std.proofs.lemmas.Slice.Eq.{bytes_eq-Decides}
 use Rattle.std.specs.BTreeSet.{BTreeSet, contains_text}
-use Rattle.std.specs.List.{list_any}
 use Rattle.std.specs.Str.{bytes_eq}
 use Rattle.yaml_flows.specs.Keys.{Row, keys_differ}
+use Rattle.yaml_flows.proofs.Keys.{bytes_eq-flip, flipped, has_key, has_key-push}
 use Rattle.yaml_profile.specs.Blocks.{all_of, distinct}
 use Rattle.yaml_profile.specs.Rows.{fresh}
 use Rattle.yaml_profile.proofs.Lists.{prepend, one_more, refused, all_read}
-
-abbrev pub has_key : List ℕ → List Row → Bool
-has_key k rs = list_any (λ r. bytes_eq k r.0) rs
 
 -- the rows read so far with those of the parts that are left, as those of a table
 abbrev pub rows_with : {A : Type 0} → (A → Option Row) → List Row → List A → Option (List Row)
 rows_with f rs rest = option_and_then distinct (prepend rs (all_of f rest))
 
--- the keys of one row differ
-pub alone : keys_differ [] ≡ true
-unfolding keys_differ
-alone = refl
-
 -- an empty set has no key
 pub none_seen : (seen : BTreeSet (String Global)) → seen.keys ≡ [] → (q : List ℕ) → contains_text seen q ≡ has_key q []
 none_seen seen e q = search (rules, e)
 
--- ---- tests
-
-same_truth : (a b : Bool) → (a ≡ true → b ≡ true) → (b ≡ true → a ≡ true) → a ≡ b
-same_truth true b f g = sym (f refl)
-same_truth false true f g = g refl
-same_truth false false f g = refl
-
-bytes_eq-flip : (xs ys : List ℕ) → bytes_eq xs ys ≡ bytes_eq ys xs
-bytes_eq-flip xs ys =
-    same_truth _ _
-    (λ e. (bytes_eq-Decides ys xs).1 (sym ((bytes_eq-Decides xs ys).0 e)))
-    (λ e. (bytes_eq-Decides xs ys).1 (sym ((bytes_eq-Decides ys xs).0 e)))
-
-or_false : (b : Bool) → (b || false) ≡ b
-or_false true = refl
-or_false false = refl
-
-or_parts : (a b : Bool) → (a || b) ≡ false → (a ≡ false) × (b ≡ false)
-or_parts true b e = absurd (cc)
-or_parts false b e = (refl, e)
-
-and_parts : (a b : Bool) → (a && b) ≡ true → (a ≡ true) × (b ≡ true)
-and_parts true b e = (refl, e)
-and_parts false b e = absurd (cc)
-
 -- ---- one row more
-
--- the keys with one more after them
-has_key-push : (k : List ℕ) (rs : List Row) (r : Row) → has_key k (rs ++ r ∷ []) ≡ (has_key k rs || bytes_eq r.0 k)
-has_key-push k rs r =
-    list_any-append (λ s. bytes_eq k s.0) rs (r ∷ []) ∙ ap (λ b. has_key k rs || b) (or_false (bytes_eq k r.0) ∙ bytes_eq-flip k r.0)
-
-absent : (k : List ℕ) (rs : List Row) (r : Row) → has_key k rs ≡ false → bytes_eq r.0 k ≡ false → has_key k (rs ++ r ∷ []) ≡ false
-absent k rs r e f = has_key-push k rs r ∙ ap (λ b. b || bytes_eq r.0 k) e ∙ f
-
-both : (a b : Bool) → a ≡ false → b ≡ true → (not a && b) ≡ true
-both true b e f = absurd (cc)
-both false b e f = f
-
-opposite : (a : Bool) → not a ≡ true → a ≡ false
-opposite true e = absurd (cc)
-opposite false e = refl
-
-pub keys_differ-push : (rs : List Row) (r : Row) → keys_differ rs ≡ true → has_key r.0 rs ≡ false → keys_differ (rs ++ r ∷ []) ≡ true
-unfolding keys_differ
-keys_differ-push [] r apart new = refl
-keys_differ-push (s ∷ rs) r apart new =
-    let parts = and_parts (not (has_key s.0 rs)) (keys_differ rs) apart in
-    let others = or_parts (bytes_eq r.0 s.0) (has_key r.0 rs) new in
-    both _ _ (absent s.0 rs r (opposite _ parts.0) others.0) (keys_differ-push rs r parts.1 others.1)
-
-flipped : (a b : Bool) → cond a true b ≡ (b || a)
-flipped true true = refl
-flipped true false = refl
-flipped false true = refl
-flipped false false = refl
 
 -- what is seen after a row is what was seen before it, and its key
 pub seen-push : (q : List ℕ) (rs : List Row) (r : Row) (b : Bool) → b ≡ has_key q rs → cond (bytes_eq r.0 q) true b ≡ has_key q (rs ++ r ∷ [])

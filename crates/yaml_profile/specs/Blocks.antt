@@ -1,5 +1,6 @@
 -- What the lines of a text mean: lists and tables by their indentation, flows and single texts. (YAML
 -- 1.2.2, sections 8.2.1 "Block Sequences", 8.2.2 "Block Mappings" and 8.2.3 "Block Nodes".)
+-- (docs/REFERENCE.md, "The configuration's text: a profile of YAML".)
 use Rattle.std.specs.Prelude.{ℕ, zero, suc, Bool, true, false, ◌&&◌, ◌||◌, List, [], ◌∷◌, ◌++◌, Option, Some, None, option_map, option_and_then, is_some, nat_lt, ◌==◌, if◌then◌else◌}
 use Rattle.std.specs.List.{list_all}
 use Rattle.yaml_lines.specs.BlockTexts.{begins_block}
@@ -157,7 +158,7 @@ node (suc room) (first ∷ later) =
     block (node room) (line_node room) (line_node (suc room) first later) (is_item first.content)
     (is_some (entry_of_line first.content)) first later
 
--- What the lines of a whole_text text mean. No block text is one, and the lines of a flow may have any depth.
+-- What the lines of a whole text mean. No block text is one, and the lines of a flow may have any depth.
 unfoldable pub whole_text : ℕ → List ContentLine → Option Meaning
 whole_text room [] = node room []
 whole_text room (first ∷ later) =

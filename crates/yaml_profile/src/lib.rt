@@ -1,4 +1,5 @@
 //! The YAML reader: from the bytes of a text to its [`Node`], or the first fault and its line.
+//! (docs/REFERENCE.md, "The configuration's text: a profile of YAML".)
 //!
 //! [`read`] takes this project's profile of YAML 1.2.2: comments, one document, block lists and tables by
 //! their indentation, plain and quoted texts, flows and block texts. Its contract cites `specs/Text.antt`,

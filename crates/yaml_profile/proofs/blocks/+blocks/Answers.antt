@@ -8,7 +8,8 @@ use Rattle.yaml_profile.specs.Blocks.{all_of, parts, is_deeper, is_below_key, li
 use Rattle.yaml_lines.specs.ViewLemmas.{view-List, view-Table}
 use Rattle.yaml_profile.proofs.Lists.{prepend, one_more, refused, all_read}
 use Rattle.yaml_profile.proofs.Nodes.{node-no_room, node-list, node-table, node-line}
-use Rattle.yaml_profile.proofs.Tables.{has_key, none_seen, alone, rows_with, row_read, row_refused, rows_read, unseen, keys_differ-push, seen-push}
+use Rattle.yaml_flows.proofs.Keys.{has_key, keys_differ-push, none_apart}
+use Rattle.yaml_profile.proofs.Tables.{none_seen, rows_with, row_read, row_refused, rows_read, unseen, seen-push}
 use Rattle.yaml_profile.proofs.Turns.{begun, first_and_others, none_left, map_push, items_at, rows_at}
 use Rattle.yaml_profile.proofs.blocks.+blocks.Goals as goal
 
@@ -136,7 +137,7 @@ rows-rows-init t c =
           ∙ ap (rows_with (blocks.entry node line indent) []) (begun (is_below_key indent) _ _ _ _ _ refl c.split_below_key.ensures.below c.split_below_key.ensures.rest)
           ∙ row_read (blocks.entry node line indent) [] _ _ row entry.0
           ∙ ap (λ rs. rows_with (blocks.entry node line indent) rs (parts (is_below_key indent) c.split_below_key.result.1.now)) (sym found);
-      apart = ap keys_differ found ∙ keys_differ-push [] row alone refl;
+      apart = ap keys_differ found ∙ keys_differ-push [] row none_apart refl;
       seen = λ q.
           c.in_ok-entry.ensures.seen q ∙ seen-push q [] row _ (none_seen c.new-seen.result c.new-seen.ensures.empty q) ∙ ap (has_key q) (sym found);
     }

@@ -5,7 +5,8 @@ use Rattle.yaml_profile.specs.Blocks as blocks
 use Rattle.yaml_profile.specs.Blocks.{all_of, parts, is_deeper, is_below_key}
 use Rattle.yaml_flows.specs.Keys.{keys_differ}
 use Rattle.yaml_profile.proofs.Lists.{prepend}
-use Rattle.yaml_profile.proofs.Tables.{rows_with, has_key}
+use Rattle.yaml_flows.proofs.Keys.{has_key}
+use Rattle.yaml_profile.proofs.Tables.{rows_with}
 use Rattle.yaml_profile.proofs.blocks.+blocks.Given as goal
 
 abbrev pub decreases-node : goal.decreases-node
