@@ -7,6 +7,7 @@ pub mod CompletionLemmas
 pub mod EditLemmas
 pub mod EditedRunLemmas
 pub mod FaultLemmas
+pub mod FurtherLawLemmas
 pub mod FurtherLemmas
 pub mod HookRefs
 pub mod NextLemmas

@@ -20,12 +20,12 @@ use Rattle.hook_run.specs.declared.part_outcome.PartOutcome.{PartOutcome}
 use Rattle.hook_run.specs.declared.reuse.Reuse.{Reuse}
 use Rattle.hook_run.specs.declared.run_refusal.RunRefusal.{RunRefusal}
 use Rattle.hook_run.specs.declared.run_refusal.RunRefusal.TheVariants.{NoSuchHook, Spent}
-use Rattle.hook_run.specs.AnswerLemmas.{answered-none, so-far-back_to, so-far-back_to-last}
+use Rattle.hook_run.specs.AnswerLemmas.{answered-none, so-far-back_to, so-far-back_to-cut-off, so-far-back_to-last}
 use Rattle.hook_run.specs.Answers.{AreAnswered}
 use Rattle.hook_run.specs.Moments.{Moment, moment}
 use Rattle.hook_run.specs.Parts.{Part}
 use Rattle.hook_run.specs.PlanRuns.{IsPartStarted, IsPartStopped, IsPartUnput, part_of}
-use Rattle.hook_run.specs.Plans.{Plan, need_of, part_with, seen_of_plan, words_of_plan}
+use Rattle.hook_run.specs.Plans.{CanComplete, Plan, need_of, part_with, seen_of_plan, words_of_plan}
 use Rattle.hook_run.specs.Refusals.{run_refusal_of_book}
 use Rattle.hook_run.specs.Reuses.{LacksServing, NeedsStart, serves}
 use Rattle.hook_run.specs.Starts.{AfterOutcome, IsUnsteadyMark, IsReplayed, IsStarted, StartsFor}
@@ -106,6 +106,7 @@ module _ (tells : List (List ℕ) → List File → Outcome → Type 0) (reuse :
       stopped = inl (refl, ap (moment calls faults) kept);
     };
     begins = can-complete plan;
+    cut_off = tt;
     asked = asked;
     needs = λ is. absurd (countable is);
     spent = λ is. absurd (countable is);
@@ -120,11 +121,11 @@ module _ (tells : List (List ℕ) → List File → Outcome → Type 0) (reuse :
   }
 
   -- no child told the part, or its answer isn't put
-  pub part-unput : (calls calls_after faults faults_after : ℕ) (before between after : Contents) (found : Option Answer) (refusal : RunRefusal)
+  pub part-unput : (calls calls_after faults faults_after : ℕ) (before between after : Contents) (found : Option Answer) (refusal : RunRefusal) → need_of plan ≡ Child
       → Finds (words_of_plan plan) (seen_of_plan plan) before found → AfterFind (words_of_plan plan) (seen_of_plan plan) before between → NeedsStart reuse found
       → IsPartUnput tells (moment calls faults between) (moment calls_after faults_after after) plan refusal
       → IsPartStopped tells reuse (moment calls faults before) (moment calls_after faults_after after) plan refusal
-  part-unput calls calls_after faults faults_after before between after found refusal finds look_up needs it =
+  part-unput calls calls_after faults faults_after before between after found refusal need finds look_up needs it =
       let looked_up = subst (AfterFind (words_of_plan plan) (seen_of_plan plan) before) (sym it.kept) look_up in
       record {
         last = it.last;
@@ -148,18 +149,19 @@ module _ (tells : List (List ℕ) → List File → Outcome → Type 0) (reuse :
           );
         };
         begins = it.begins;
+        cut_off = can-follow plan it.outcome it.unsteady need;
         asked = it.asked;
         needs = λ is. ((it.spent is).0, (it.spent is).0, lacks-still before after found finds looked_up needs);
         spent = λ is. (it.spent is).1;
       }
 
-  pub part-unput_if : {T : Type 0} (calls calls_after faults faults_after : ℕ) (before between after : Contents) (found : Option Answer) (result : Result T RunRefusal)
+  pub part-unput_if : {T : Type 0} (calls calls_after faults faults_after : ℕ) (before between after : Contents) (found : Option Answer) (result : Result T RunRefusal) → need_of plan ≡ Child
       → Finds (words_of_plan plan) (seen_of_plan plan) before found → AfterFind (words_of_plan plan) (seen_of_plan plan) before between → NeedsStart reuse found
       → IfErr result (IsPartUnput tells (moment calls faults between) (moment calls_after faults_after after) plan)
       → IfErr result (IsPartStopped tells reuse (moment calls faults before) (moment calls_after faults_after after) plan)
-  part-unput_if calls calls_after faults faults_after before between after found (Ok came) finds look_up needs it = tt
-  part-unput_if calls calls_after faults faults_after before between after found (Err refusal) finds look_up needs it =
-      part-unput calls calls_after faults faults_after before between after found refusal finds look_up needs it
+  part-unput_if calls calls_after faults faults_after before between after found (Ok came) need finds look_up needs it = tt
+  part-unput_if calls calls_after faults faults_after before between after found (Err refusal) need finds look_up needs it =
+      part-unput calls calls_after faults faults_after before between after found refusal need finds look_up needs it
 
 -- ---- a child
 
@@ -235,6 +237,7 @@ stopped-back_to tells others same reuse from to plan refusal it = record {
   last = it.last;
   answered = so-far-back_to tells others same reuse from to it.last it.answered;
   begins = it.begins;
+  cut_off = so-far-back_to-cut-off tells others same (CanComplete plan) reuse from to it.last it.answered it.cut_off;
   asked = it.asked;
   needs = λ is. ((it.needs is).0, so-far-back_to-last tells others same reuse from to it.last it.answered ∙ (it.needs is).1, (it.needs is).2);
   spent = it.spent;

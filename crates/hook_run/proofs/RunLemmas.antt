@@ -1,5 +1,5 @@
 -- A run over children and what is remembered, part by part.
-use Rattle.std.proofs.Common.{◌≡◌, ◌≢◌, ◌∙◌, ap, sym, subst, refl, append_assoc, length-append, arith, ℕ, ◌+◌, ◌-◌, ◌^◌, min, length, Bool, false, List, [], ◌∷◌, ◌++◌, Option, None, Some, Result, Ok, Err, IfOk, IfErr, IsErrAnd}
+use Rattle.std.proofs.Common.{◌≡◌, ◌≢◌, ◌⊎◌, inl, inr, ◌∙◌, ap, sym, subst, refl, append_assoc, length-append, arith, ℕ, ◌+◌, ◌-◌, ◌^◌, min, length, Bool, false, List, [], ◌∷◌, ◌++◌, Option, None, Some, Result, Ok, Err, IfOk, IfErr, IsErrAnd}
 use Rattle.std.proofs.lemmas.List.{append-nil}
 use Rattle.hook_base.specs.declared.file.File.{File}
 use Rattle.child_port.specs.SeenLemmas.{IsPartOf-seen_of}
@@ -18,8 +18,8 @@ use Rattle.hook_run.specs.declared.run_ask.RunAsk.{RunAsk}
 use Rattle.hook_run.specs.declared.run_out.RunOut.{RunOut}
 use Rattle.hook_run.specs.declared.run_refusal.RunRefusal.{RunRefusal}
 use Rattle.hook_run.specs.declared.run_refusal.RunRefusal.TheVariants.{Book, NoSuchHook, OutOfMemory, Spent}
-use Rattle.hook_run.specs.AnswerLemmas.{answered-adds, answered-append, answered-none, answered-told, so-far, so-far-adds, so-far-append, so-far-last, so-far-told}
-use Rattle.hook_run.specs.Answers.{AreAnswered, AreReused}
+use Rattle.hook_run.specs.AnswerLemmas.{answered-adds, answered-append, answered-none, answered-told, so-far, so-far-adds, so-far-append, so-far-cut-off, so-far-last, so-far-told, so-far-whole}
+use Rattle.hook_run.specs.Answers.{AreAnswered, AreReused, HoldsCutOff}
 use Rattle.hook_run.specs.HookRun.{further_of, sees_whole}
 use Rattle.hook_run.specs.Moments.{Moment}
 use Rattle.hook_run.specs.Parts.{AllTold, Part, all_parts}
@@ -102,6 +102,11 @@ module _ (tells : List (List ℕ) → List File → Outcome → Type 0) (reuse :
         (it.leads (front ++ can.rest) can.out can.completes);
   }
 
+  lead-cut-off : {Whole : Type 0} {Cut : Part → Type 0} (from to : Moment) (reused : ℕ) (first plan : Plan) (it : PlanSoFar tells reuse from to reused first plan) (done : List Part)
+      (stopped : Whole ⊎ ((part : Part) × Cut part)) → HoldsCutOff (CanComplete plan) done stopped → HoldsCutOff (λ front. CanComplete first (it.parts ++ front)) done stopped
+  lead-cut-off from to reused first plan it done (inl whole) holds = tt
+  lead-cut-off from to reused first plan it done (inr cut) holds = lead-on from to reused first plan (done ++ cut.0 ∷ []) it holds
+
   no-last : (parts last : List Part) (part : Part) → last ≡ [] → (parts ++ last) ++ part ∷ [] ≡ parts ++ part ∷ []
   no-last parts last part none = ap (λ (l : List Part). (parts ++ l) ++ part ∷ []) none ∙ ap (λ (l : List Part). l ++ part ∷ []) (append-nil parts)
 
@@ -114,6 +119,8 @@ module _ (tells : List (List ℕ) → List File → Outcome → Type 0) (reuse :
         parts = it.parts ++ stop.last;
         answered = so-far-append tells reuse from now to it.parts stop.last it.answered stop.answered;
         begins = lead-on from now reused first plan stop.last it stop.begins;
+        cut_off = so-far-cut-off tells reuse (CanComplete first) from now to it.parts stop.last it.answered stop.answered
+            (lead-cut-off from now reused first plan it stop.answered.done stop.answered.stopped stop.cut_off);
         asked = stop.asked;
         needs = λ is. let why = stop.needs is in record {
           part = part;
@@ -141,6 +148,7 @@ module _ (tells : List (List ℕ) → List File → Outcome → Type 0) (reuse :
         parts = it.parts ++ part ∷ [];
         answered = so-far tells reuse from to (it.parts ++ part ∷ []) (answered-append tells reuse from now to it.parts (part ∷ []) it.answered answered);
         begins = lead-on from now reused first plan (part ∷ []) it (can-follow plan outcome unsteady need);
+        cut_off = so-far-whole tells reuse (CanComplete first) from to (it.parts ++ part ∷ []) (answered-append tells reuse from now to it.parts (part ∷ []) it.answered answered);
         asked = λ no_hook. absurd (cc);
         needs = λ spent. absurd (cc);
         untold = λ spent. absurd (cc);
@@ -195,6 +203,11 @@ module _ (tells : List (List ℕ) → List File → Outcome → Type 0) (from to
       let run = of (front ++ can.rest) can.out can.completes in
       record { trace = run.0; rest = can.rest; out = can.out; joined = run.1; run = run.2 }
 
+  begun-cut-off : {Whole : Type 0} {Cut : Part → Type 0} (done : List Part) (stopped : Whole ⊎ ((part : Part) × Cut part)) → HoldsCutOff (CanComplete plan) done stopped
+      → HoldsCutOff (IsBegun config ask tree) done stopped
+  begun-cut-off done (inl whole) holds = tt
+  begun-cut-off done (inr cut) holds = begun-run (done ++ cut.0 ∷ []) holds
+
   pub stopped_if : {T : Type 0} (result : Result T RunRefusal) → IfErr result (IsPlanStopped tells ask.reuse from to plan) → IfErr result (IsStoppedRun tells from to config ask tree)
   stopped_if (Ok out) on = tt
   stopped_if (Err refusal) on = record {
@@ -203,6 +216,7 @@ module _ (tells : List (List ℕ) → List File → Outcome → Type 0) (from to
     told = λ book. so-far-told tells ask.reuse from to on.parts on.answered book;
     no_hook = λ is. absurd (on.asked is);
     begins = λ _. begun-run on.parts on.begins;
+    cut_off = begun-cut-off on.answered.done on.answered.stopped on.cut_off;
     needs = λ is. let next = on.needs is in record { part = next.part; begun = begun-run (on.parts ++ next.part ∷ []) next.begins; lacks = next.lacks };
     untold = on.untold;
     spent = on.spent;
@@ -222,6 +236,7 @@ stopped-at-once tells at config ask tree refusal countable = record {
   told = λ _. tt;
   no_hook = λ is. (refl, refl);
   begins = λ is. begins-at-once config ask tree;
+  cut_off = so-far-whole tells ask.reuse (IsBegun config ask tree) at at [] (answered-none tells ask.reuse at);
   needs = λ is. absurd (countable is);
   untold = λ is. absurd (countable is);
   spent = λ is. absurd (countable is);

@@ -15,7 +15,7 @@ use Rattle.result_book.specs.Contents.{Contents, Finds}
 use Rattle.result_book.specs.Told.{AddsTold, IsTold}
 use Rattle.result_book.specs.ToldLemmas.{adds-found, adds-none, adds-put, adds-then, told-adds}
 use Rattle.hook_run.specs.declared.reuse.Reuse.{Reuse}
-use Rattle.hook_run.specs.Answers.{AreAnswered, AreAnsweredSoFar, IsCounted}
+use Rattle.hook_run.specs.Answers.{AreAnswered, AreAnsweredSoFar, HoldsCutOff, IsCounted, IsCutOff}
 use Rattle.hook_run.specs.CountLemmas.{Rises, rises, rises-then}
 use Rattle.hook_run.specs.Moments.{Moment}
 use Rattle.hook_run.specs.Parts.{AllTold, Part, faults_of}
@@ -127,6 +127,29 @@ module _ (tells : List (List ℕ) → List File → Outcome → Type 0) (reuse :
     stopped = two.stopped;
   }
 
+  -- a run that was stopped after whole parts was stopped at no part
+  pub so-far-whole : (P : List Part → Type 0) (from to : Moment) (parts : List Part)
+      (answered : AreAnswered tells reuse from to parts)
+      → HoldsCutOff P (so-far from to parts answered).done (so-far from to parts answered).stopped
+  unfolding so-far
+  so-far-whole P from to parts answered = tt
+
+  -- what holds up to the part at which the rest was stopped holds after whole parts too
+  cut-off-after : {Whole : Type 0} {Cut : Part → Type 0} (P : List Part → Type 0) (parts done : List Part)
+      (stopped : Whole ⊎ ((part : Part) × Cut part)) → HoldsCutOff (λ front. P (parts ++ front)) done stopped
+      → HoldsCutOff P (parts ++ done) stopped
+  cut-off-after P parts done (inl whole) holds = tt
+  cut-off-after P parts done (inr cut) holds = subst P (sym (append_assoc parts done (cut.0 ∷ []))) holds
+
+  pub so-far-cut-off : (P : List Part → Type 0) (first second third : Moment) (parts more : List Part)
+      (one : AreAnswered tells reuse first second parts) (two : AreAnsweredSoFar tells reuse second third more)
+      → HoldsCutOff (λ front. P (parts ++ front)) two.done two.stopped
+      → HoldsCutOff P (so-far-append first second third parts more one two).done
+      (so-far-append first second third parts more one two).stopped
+  unfolding so-far-append
+  so-far-cut-off P first second third parts more one two holds =
+      cut-off-after P parts two.done two.stopped holds
+
   -- a stopped run that goes on after whole parts has the last part of its rest
   pub so-far-last : (first second third : Moment) (parts more : List Part)
       (one : AreAnswered tells reuse first second parts) (two : AreAnsweredSoFar tells reuse second third more)
@@ -150,6 +173,33 @@ module _ (tells others : List (List ℕ) → List File → Outcome → Type 0) (
     counted = answered.counted;
   }
 
+  abbrev IsStopped : (List (List ℕ) → List File → Outcome → Type 0) → Reuse → Moment → Moment → List Part → Type 0
+  IsStopped by reuse between to last =
+      ((last ≡ []) × (to ≡ between)) ⊎ ((part : Part) × IsCutOff by reuse between to part last)
+
+  stopped-back : (reuse : Reuse) (between to : Moment) (last : List Part) → IsStopped others reuse between to last
+      → IsStopped tells reuse between to last
+  stopped-back reuse between to last (inl whole) = inl whole
+  stopped-back reuse between to last (inr cut) = inr (
+    cut.0,
+    record {
+      found = cut.1.found;
+      finds = cut.1.finds;
+      needs = cut.1.needs;
+      look_up = cut.1.look_up;
+      this = cut.1.this;
+      told = told-back_to last cut.1.told;
+      counted = cut.1.counted;
+    },
+  )
+
+  stopped-back-cut-off : (P : List Part → Type 0) (done : List Part) (reuse : Reuse) (between to : Moment)
+      (last : List Part) (stopped : IsStopped others reuse between to last) → HoldsCutOff P done stopped
+      → HoldsCutOff P done (stopped-back reuse between to last stopped)
+  unfolding stopped-back
+  stopped-back-cut-off P done reuse between to last (inl whole) holds = tt
+  stopped-back-cut-off P done reuse between to last (inr cut) holds = holds
+
   pub so-far-back_to : (reuse : Reuse) (from to : Moment) (parts : List Part)
       → AreAnsweredSoFar others reuse from to parts → AreAnsweredSoFar tells reuse from to parts
   so-far-back_to reuse from to parts it = record {
@@ -158,27 +208,20 @@ module _ (tells others : List (List ℕ) → List File → Outcome → Type 0) (
     between = it.between;
     split = it.split;
     answered = answered-back_to reuse from it.between it.done it.answered;
-    stopped = elim it.stopped [
-      | inl whole ↦ inl whole
-      | inr cut ↦ inr (
-        cut.0,
-        record {
-          found = cut.1.found;
-          finds = cut.1.finds;
-          needs = cut.1.needs;
-          look_up = cut.1.look_up;
-          this = cut.1.this;
-          told = told-back_to it.last cut.1.told;
-          counted = cut.1.counted;
-        },
-      )
-    ];
+    stopped = stopped-back reuse it.between to it.last it.stopped;
   }
 
   pub so-far-back_to-last : (reuse : Reuse) (from to : Moment) (parts : List Part)
       (it : AreAnsweredSoFar others reuse from to parts) → (so-far-back_to reuse from to parts it).last ≡ it.last
   unfolding so-far-back_to
   so-far-back_to-last reuse from to parts it = refl
+
+  pub so-far-back_to-cut-off : (P : List Part → Type 0) (reuse : Reuse) (from to : Moment) (parts : List Part)
+      (it : AreAnsweredSoFar others reuse from to parts) → HoldsCutOff P it.done it.stopped
+      → HoldsCutOff P (so-far-back_to reuse from to parts it).done (so-far-back_to reuse from to parts it).stopped
+  unfolding so-far-back_to
+  so-far-back_to-cut-off P reuse from to parts it holds =
+      stopped-back-cut-off P it.done reuse it.between to it.last it.stopped holds
 
   pub adds-back_to : (before after : Contents) → AddsTold others before after → AddsTold tells before after
   adds-back_to before after adds = λ words seen answer holds. elim (adds words seen answer holds) [

@@ -1,5 +1,6 @@
 -- How the parts of a run get their outcomes: from children, which count what they report, or from the cache.
-use Rattle.std.specs.Prelude.{◌≡◌, ◌⊎◌, ◌+◌, ◌-◌, ◌^◌, ℕ, min, List, [], ◌∷◌, ◌++◌, length, Option}
+use Rattle.std.specs.Prelude.{◌≡◌, ◌⊎◌, ◌+◌, ◌-◌, ◌^◌, ℕ, min, List, [], ◌∷◌, ◌++◌, length, Option, None, Some, IfSome}
+use Rattle.std.proofs.Common.{inl, inr}
 use Rattle.hook_base.specs.declared.file.File.{File}
 use Rattle.child_port.specs.declared.answer.Answer.{Answer}
 use Rattle.child_port.specs.declared.answer.Outcome.{Outcome}
@@ -44,6 +45,11 @@ pub record IsCutOff (tells : List (List ℕ) → List File → Outcome → Type 
   pub told : AllTold tells last
   pub counted : IsCounted from to last
 
+-- the part at which a run was stopped, if it wasn't stopped after a whole part
+abbrev pub part_cut_off : {Whole : Type 0} {Cut : Part → Type 0} → Whole ⊎ ((part : Part) × Cut part) → Option Part
+part_cut_off (inl whole) = None
+part_cut_off (inr cut) = Some cut.0
+
 -- The same of parts with which a run may be stopped: after a whole part, or at one that needs a child.
 pub record AreAnsweredSoFar (tells : List (List ℕ) → List File → Outcome → Type 0) (reuse : Reuse) (from to : Moment)
     (parts : List Part) : Type 0 where
@@ -53,3 +59,8 @@ pub record AreAnsweredSoFar (tells : List (List ℕ) → List File → Outcome �
   pub split : parts ≡ done ++ last
   pub answered : AreAnswered tells reuse from between done
   pub stopped : ((last ≡ []) × (to ≡ between)) ⊎ ((part : Part) × IsCutOff tells reuse between to part last)
+
+-- This holds of the parts up to the one at which a run was stopped, with that one, if there is one.
+abbrev pub HoldsCutOff : {Whole : Type 0} {Cut : Part → Type 0} → (List Part → Type 0) → List Part
+    → Whole ⊎ ((part : Part) × Cut part) → Type 0
+HoldsCutOff P done stopped = IfSome (part_cut_off stopped) (λ part. P (done ++ part ∷ []))

@@ -8,7 +8,7 @@ use Rattle.hook_run.specs.declared.hooks_run.HooksRun.{HooksRun}
 use Rattle.hook_run.specs.declared.reuse.Reuse.{Reuse}
 use Rattle.hook_run.specs.declared.run_refusal.RunRefusal.{RunRefusal}
 use Rattle.hook_run.specs.declared.run_refusal.RunRefusal.TheVariants.{NoSuchHook, Spent}
-use Rattle.hook_run.specs.Answers.{AreAnswered, AreAnsweredSoFar, AreReused, IsCounted}
+use Rattle.hook_run.specs.Answers.{AreAnswered, AreAnsweredSoFar, AreReused, HoldsCutOff, IsCounted}
 use Rattle.hook_run.specs.Moments.{Moment}
 use Rattle.hook_run.specs.Parts.{AllTold, Part}
 use Rattle.hook_run.specs.Plans.{CanComplete, Completes, Plan, part_with, seen_of_plan, words_of_plan}
@@ -54,6 +54,7 @@ pub record IsPartStopped (tells : List (List ℕ) → List File → Outcome → 
   pub last : List Part
   pub answered : AreAnsweredSoFar tells reuse from to last
   pub begins : CanComplete plan last
+  pub cut_off : HoldsCutOff (CanComplete plan) answered.done answered.stopped
   pub asked : refusal ≢ NoSuchHook
   pub needs : refusal ≡ Spent → (last ≡ []) × (answered.last ≡ [])
       × LacksServing reuse (words_of_plan plan) (seen_of_plan plan) to.remembered
@@ -81,6 +82,7 @@ pub record IsPlanStopped (tells : List (List ℕ) → List File → Outcome → 
   pub parts : List Part
   pub answered : AreAnsweredSoFar tells reuse from to parts
   pub begins : CanComplete plan parts
+  pub cut_off : HoldsCutOff (CanComplete plan) answered.done answered.stopped
   pub asked : refusal ≢ NoSuchHook
   pub needs : refusal ≡ Spent → NeedsFurther reuse to plan parts
   pub untold : refusal ≡ Spent → answered.last ≡ []

@@ -1,4 +1,5 @@
--- Which cached results a run may use, and for which parts it needs a child.
+-- Which cached results a run may use, and for which parts it needs a child. (docs/REFERENCE.md, "Cached
+-- results".)
 use Rattle.std.specs.Prelude.{◌≡◌, ◌==◌, ◌&&◌, ℕ, Bool, true, false, List, [], ◌∷◌, Option, None, Some}
 use Rattle.child_port.specs.declared.answer.Answer.{Answer}
 use Rattle.hook_base.specs.declared.change.Change.{Change}

@@ -14,7 +14,7 @@ use Rattle.hook_run.specs.declared.run_out.RunOut.{RunOut}
 use Rattle.hook_run.specs.declared.run_refusal.RunRefusal.{RunRefusal}
 use Rattle.hook_run.specs.declared.run_refusal.RunRefusal.TheVariants.{NoSuchHook, Spent}
 use Rattle.hook_run.specs.Asks.{hooks_of_run, names_of_run}
-use Rattle.hook_run.specs.Answers.{AreAnswered, AreAnsweredSoFar, AreReused}
+use Rattle.hook_run.specs.Answers.{AreAnswered, AreAnsweredSoFar, AreReused, HoldsCutOff}
 use Rattle.hook_run.specs.Moments.{Moment}
 use Rattle.hook_run.specs.Parts.{AllTold, Part, all_parts, tree_after}
 use Rattle.hook_run.specs.PartsEnding.{is_unsteady}
@@ -80,8 +80,9 @@ pub record IsCountedRun (tells : List (List ℕ) → List File → Outcome → T
   pub reused : AreReused (all_parts over.trace) over.answered.started ran.reused
 
 -- A run that is refused between two moments, with the parts up to there. There are none if no hook has the
--- name; otherwise a run begins with them. If the refusal is `Spent`, there is a further part that needs a
--- child, and the children have reported as many outcomes as can be counted, 2^64 - 1.
+-- name; otherwise a run begins with them. If it was stopped at a part, which was looked up, a run begins with
+-- that one too. If the refusal is `Spent`, there is a further part that needs a child, and the children have
+-- reported as many outcomes as can be counted, 2^64 - 1.
 pub record IsStoppedRun (tells : List (List ℕ) → List File → Outcome → Type 0) (from to : Moment) (config : Config)
     (ask : RunAsk) (tree : List File) (refusal : RunRefusal) : Type 0 where
   pub parts : List Part
@@ -89,6 +90,7 @@ pub record IsStoppedRun (tells : List (List ℕ) → List File → Outcome → T
   pub told : IsTold tells from.remembered → AllTold tells parts
   pub no_hook : refusal ≡ NoSuchHook → (parts ≡ []) × (to ≡ from)
   pub begins : refusal ≢ NoSuchHook → IsBegun config ask tree parts
+  pub cut_off : HoldsCutOff (IsBegun config ask tree) answered.done answered.stopped
   pub needs : refusal ≡ Spent → NeedsChild to.remembered config ask tree parts
   pub untold : refusal ≡ Spent → answered.last ≡ []
   pub spent : refusal ≡ Spent → to.calls ≡ 2 ^ 64 - 1

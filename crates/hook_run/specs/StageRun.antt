@@ -1,4 +1,5 @@
 -- A run of a stage's hooks one after another, each on the tree that the one before it left.
+-- (docs/REFERENCE.md, "What a hook answers".)
 use Rattle.std.specs.Prelude.{◌≡◌, ◌&&◌, ◌||◌, Bool, not, MatchBool, List, [], ◌∷◌}
 use Rattle.std.specs.List.{list_all}
 use Rattle.hook_base.specs.declared.file.File.{File}

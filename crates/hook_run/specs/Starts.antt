@@ -1,6 +1,6 @@
 -- Which parts of a run are started, and what is cached of their answers. The words and seen files of each
--- part are looked up in what is cached at that moment, even if the run may use nothing. A found row moves to
--- the front, and a put may drop the last row.
+-- part are looked up in what is cached at that moment, even if the run may use nothing. A found row moves
+-- to the front, and a put may drop the last row. (docs/REFERENCE.md, "Cached results".)
 use Rattle.std.specs.Prelude.{◌≡◌, ◌≢◌, ◌↔◌, ℕ, Bool, false, IsTrue, MatchBool, List, [], ◌∷◌, ◌++◌, Option, None, Some}
 use Rattle.hook_base.specs.declared.file.File.{File}
 use Rattle.child_port.specs.declared.answer.Answer.{Answer}

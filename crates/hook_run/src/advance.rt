@@ -1,4 +1,5 @@
-//! Goes through the hooks of a run, up to one that waits for a child.
+//! Goes through the hooks of a run, up to one that waits for a child. (docs/REFERENCE.md, "What a hook
+//! answers".)
 
 ghost use Rattle.std.specs.Prelude.{◌≡◌, ◌<◌, ◌≤◌, ◌+◌, ◌-◌, ◌∷◌, IfOk, length};
 ghost use Rattle.hook_run.specs.CandidateFiles.{files_at};

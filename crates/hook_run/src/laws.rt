@@ -1,15 +1,19 @@
 //! Laws of the definitions that the contracts cite. Each is a function that returns nothing: what it ensures
 //! is a theorem.
 
-ghost use Rattle.std.specs.Prelude.{◌≡◌, ◌++◌, ℕ, List, []};
+ghost use Rattle.std.specs.Prelude.{◌≡◌, ◌++◌, ℕ, List, [], None, map};
 ghost use Rattle.child_port.specs.declared.answer.Outcome.{Outcome};
 ghost use Rattle.child_port.specs.Telling.{SameTells};
 ghost use Rattle.hook_base.specs.declared.file.File.{File};
+ghost use Rattle.hook_base.specs.Trees.{entry_of, path_of};
 ghost use Rattle.hook_config.specs.declared.configuration.Config.{Config};
+ghost use Rattle.hook_config.specs.declared.configuration.Hook.{Hook};
+ghost use Rattle.path_select.specs.Selection.{rules_of_pattern, selected};
 ghost use Rattle.result_book.specs.Told.{IsTold};
 ghost use Rattle.hook_run.specs.declared.run_ask.RunAsk.{RunAsk};
 ghost use Rattle.hook_run.specs.declared.run_out.RunOut.{RunOut};
 ghost use Rattle.hook_run.specs.ChildFaults.{child_faults};
+ghost use Rattle.hook_run.specs.HookRun.{further_of};
 ghost use Rattle.hook_run.specs.Limits.{most_command_bytes};
 ghost use Rattle.hook_run.specs.Moments.{Moment};
 ghost use Rattle.hook_run.specs.OneAnswer.{AreSameRuns, IsFaultless, OneAnswer};
@@ -58,6 +62,14 @@ pub fn parts_decide_what_is_given()
     ensures { (config : Config) (ask : RunAsk) (tree : List File) (trace others : List (List Part))
         (first second : RunOut) → IsRunOut config ask tree trace first → IsRunOut config ask tree others second
         → all_parts trace ≡ all_parts others → first ≡ second }
+{}
+
+/// The further files that a hook's children see are those that its pattern `x_reads` selects alone. All paths are
+/// candidates, all other patterns are the default ones of a configuration, and no tags are asked for. The premise
+/// is that no file's path is empty.
+pub fn further_files_are_those_that_a_pattern_selects()
+    ensures { (hook : Hook) (tree : List File) → entry_of [] tree ≡ None
+        → further_of hook tree ≡ selected (rules_of_pattern hook.x_reads) (map path_of tree) tree }
 {}
 
 /// Each part of a run has an answer that the run may take from the cache, or a child was started for it. If

@@ -1,4 +1,5 @@
-//! How a part of a run gets its outcome: from a child, or from the cache.
+//! How a part of a run gets its outcome: from a child, or from the cache. (docs/REFERENCE.md, "Cached
+//! results".)
 
 ghost use Rattle.std.specs.Prelude.{◌≡◌, ◌≢◌, ◌⊎◌, ◌+◌, ◌-◌, ◌^◌, ◌<◌, ◌∷◌, [], IfOk, IfErr, OnOk, OnErr, false};
 ghost use Rattle.child_port.specs.Outcomes.{faults_in};

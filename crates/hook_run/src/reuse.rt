@@ -1,4 +1,4 @@
-//! Which cached results a run may use.
+//! Which cached results a run may use. (docs/REFERENCE.md, "Cached results".)
 
 ghost use Rattle.std.specs.Prelude.{◌≡◌};
 ghost use Rattle.hook_run.specs.Reuses.{is_pass, serves};

@@ -96,3 +96,17 @@ pub selected_alone : (pattern : List ℕ) (tree : List File) → entry_of [] tre
 selected_alone pattern tree none_there =
     let all = map path_of tree in
     ap (map path_of) (rows-alone pattern all tree (all_are_candidates tree) none_there)
+
+-- the default of `exclude` is found in no path
+filtered-out : (b : Bool) (row : File) (rows : List File) → b ≡ false → (if b then row ∷ rows else rows) ≡ rows
+filtered-out false row rows is = refl
+filtered-out true row rows is = absurd (cc)
+
+none-kept : (tree : List File) → entry_of [] tree ≡ None → filter (λ (row : File). is_found (codes "^$") row.path) tree ≡ []
+none-kept [] none_there = refl
+none-kept (row ∷ rows) none_there =
+    let parts = none-first (bytes_eq [] row.path) row.entry (entry_of [] rows) none_there in
+    filtered-out (is_found (codes "^$") row.path) row (filter (λ (other : File). is_found (codes "^$") other.path) rows) (not-empty row.path parts.0) ∙ none-kept rows parts.1
+
+pub none_found_in : (tree : List File) → entry_of [] tree ≡ None → found_in (codes "^$") tree ≡ []
+none_found_in tree none_there = ap (map path_of) (none-kept tree none_there)

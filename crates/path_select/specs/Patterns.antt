@@ -1,5 +1,5 @@
 -- What a pattern means: what the grammar of `regex` reads in its text, searched for anywhere in a path
--- (pre-commit.com, "Regular expressions").
+-- (pre-commit.com, "Regular expressions"). (docs/REFERENCE.md, "Patterns and selection".)
 use Rattle.std.specs.Prelude.{ℕ, Bool, false, List, Option, None, Some, IsSome, is_some}
 use Rattle.std.specs.Str.{chars}
 use Rattle.regex_syntax.specs.Brackets.{Nested}

@@ -1,4 +1,4 @@
--- Which files of a tree a hook gets.
+-- Which files of a tree a hook gets. (docs/REFERENCE.md, "Patterns and selection".)
 use Rattle.std.specs.Prelude.{ℕ, Bool, true, not, ◌&&◌, List, [], ◌∷◌, codes, map, filter}
 use Rattle.std.specs.List.{list_any, list_all}
 use Rattle.hook_base.specs.declared.file.File.{File}

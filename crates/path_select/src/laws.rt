@@ -1,6 +1,6 @@
 //! Laws of what the contracts cite. Each is a function that gives nothing: what it ensures is a theorem.
 
-ghost use Rattle.std.specs.Prelude.{◌≡◌, ℕ, List, [], None, map};
+ghost use Rattle.std.specs.Prelude.{◌≡◌, ℕ, List, [], None, codes, map};
 ghost use Rattle.hook_base.specs.declared.file.File.{File};
 ghost use Rattle.hook_base.specs.Trees.{IsRising, entry_of, path_of};
 ghost use Rattle.path_select.specs.Candidates.{AreRisingPaths, ArePassing};
@@ -29,4 +29,11 @@ pub fn what_is_selected_is_in_order()
 pub fn what_a_pattern_selects_alone_is_where_it_is_found()
     ensures { (pattern : List ℕ) (tree : List File) → entry_of [] tree ≡ None
         → selected (rules_of_pattern pattern) (map path_of tree) tree ≡ found_in pattern tree }
+{}
+
+/// The pattern `^$`, the default of `exclude`, is found in no path of a tree. The premise is that no file's path
+/// is empty.
+#[tactic(auto, using(crate::proofs::DefaultPatternLemmas::none_found_in))]
+pub fn the_empty_text_is_found_in_no_path()
+    ensures { (tree : List File) → entry_of [] tree ≡ None → found_in (codes "^$") tree ≡ [] }
 {}

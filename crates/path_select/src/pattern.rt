@@ -1,4 +1,4 @@
-//! Patterns over paths.
+//! Patterns over paths. (docs/REFERENCE.md, "Patterns and selection".)
 
 ghost use Rattle.std.specs.Prelude.{◌≡◌, IfOk, IfErr};
 ghost use Rattle.path_select.specs.Patterns.{IsPattern};

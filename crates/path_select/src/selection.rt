@@ -1,4 +1,4 @@
-//! The files that a hook gets.
+//! The files that a hook gets. (docs/REFERENCE.md, "Patterns and selection".)
 
 ghost use Rattle.std.specs.Prelude.{◌≡◌, filter, IfOk};
 ghost use Rattle.std.specs.Option.{option_copied};

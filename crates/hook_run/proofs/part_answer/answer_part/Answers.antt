@@ -64,7 +64,7 @@ returns-in_default-clause-stopped g c =
     let book = g.B.Book in
     part-unput_if (children.tells c.args.children.now) c.args.reuse c.args.plan.now (children.call_count c.args.children.now) (children.call_count c.start_part.new.children)
     (children.fault_count c.args.children.now) (children.fault_count c.start_part.new.children)
-    (book.contents c.args.book.now) (book.contents c.find.new.self) (book.contents c.start_part.new.book) None c.start_part.result
+    (book.contents c.args.book.now) (book.contents c.find.new.self) (book.contents c.start_part.new.book) None c.start_part.result c.requires
     (finds-at c.words.result.now (words_of_plan c.args.plan.now) c.seen.result.now (seen_of_plan c.args.plan.now) c.words.ensures c.seen.ensures (book.contents c.args.book.now) None
     (subst (Finds c.words.result.now c.seen.result.now (book.contents c.args.book.now)) (none-found c.in_ok-found.found c.in_default.not-Some) c.in_ok-found.ensures.found))
     (look-up-at c.words.result.now (words_of_plan c.args.plan.now) c.seen.result.now (seen_of_plan c.args.plan.now) c.words.ensures c.seen.ensures (book.contents c.args.book.now)
@@ -106,7 +106,7 @@ returns-then-not-serves-clause-stopped g c =
     let unserved : serves c.args.reuse c.in-Some.answer ≡ false = search rules in
     part-unput_if (children.tells c.args.children.now) c.args.reuse c.args.plan.now (children.call_count c.args.children.now) (children.call_count c.start_part-then-not-serves.new.children)
     (children.fault_count c.args.children.now) (children.fault_count c.start_part-then-not-serves.new.children)
-    (book.contents c.args.book.now) (book.contents c.find.new.self) (book.contents c.start_part-then-not-serves.new.book) (Some c.in-Some.answer) c.start_part-then-not-serves.result
+    (book.contents c.args.book.now) (book.contents c.find.new.self) (book.contents c.start_part-then-not-serves.new.book) (Some c.in-Some.answer) c.start_part-then-not-serves.result c.requires
     (subst (Finds (words_of_plan c.args.plan.now) (seen_of_plan c.args.plan.now) (book.contents c.args.book.now)) c.in-Some.is
     (finds-at c.words.result.now (words_of_plan c.args.plan.now) c.seen.result.now (seen_of_plan c.args.plan.now) c.words.ensures c.seen.ensures (book.contents c.args.book.now) c.in_ok-found.found
     c.in_ok-found.ensures.found))
