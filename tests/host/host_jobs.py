@@ -74,6 +74,10 @@ class Repository:
         """The hooks whose commands began, each as often as one did, in the order of their names."""
         return sorted(name for step, name, _ in self.notes() if step == "begin")
 
+    def counts(self):
+        """How many names each command got that notes their number, in rising order."""
+        return sorted(int(count) for _, _, count in self.notes())
+
     def most_at_once(self):
         """How many commands ran at the same time, at most."""
         running, most = 0, 0
@@ -144,6 +148,38 @@ def runs_parts_of_one_hook_at_once(folder):
         says(given, wanted, f"the names of parts of {keys}")
         do(tested.work, "forget")
         says(tested.run("run", "--jobs=1", MEETING=str(parts), LIMIT=SHORT)[0], 1, f"parts of {keys} one after another")
+
+
+# A known tool that notes how many files it is given.
+KNOWN_TOOL = """#!/bin/sh
+count=0
+for word; do case $word in -*) ;; *) count=$((count+1)) ;; esac; done
+echo "begin ${0##*/} $count" >> $TOP/log
+"""
+
+
+def splits_files_of_known_tools_in_a_cautious_run(folder):
+    """A known tool that looks at each file by itself gets at most 100 names in a cautious run, unless its hook or its words say
+    otherwise. After an edit of one file only the part with that file is started again."""
+    files = [f"file{at:03}.md" for at in range(201)]
+    cases = [("flake8", "", [100, 100, 1]), ("eslint --max-warnings=0", "", [100, 100, 1]), ("eslint --max-warnings=9", "", [201]),
+             ("black", "", [201]), ("flake8", ", require_serial: true", [201]), ("flake8", ", x_at_most: 150", [150, 51])]
+    for at, (entry, keys, parts) in enumerate(cases):
+        hook = ("tool", f"language: system, entry: {entry}, files: ^file{keys}", None)
+        tested = Repository(in_one_folder(folder, str(at)), [hook], files)
+        tools = in_one_folder(tested.top, "tools")
+        write(tools, entry.split()[0], KNOWN_TOOL.encode())
+        os.chmod(os.path.join(tools, entry.split()[0]), 0o755)
+        given = {"PATH": f"{tools}:{os.environ['PATH']}"}
+        plain = parts if "x_at_most" in keys else [201]
+        for options, wanted in ([], plain), (["--cautious"], parts):
+            do(tested.work, "forget")
+            says(tested.run("run", *options, **given), (0, report(("tool", 0)), b""), f"{entry}{keys} {options!r}")
+            says(tested.counts(), sorted(wanted), f"{entry}{keys} {options!r}: how many names each command gets")
+        write(tested.work, "file000.md", b"other\n")
+        do(tested.work, "add", "file000.md")
+        says(tested.run("run", "--all-files", "--cautious", **given)[0], 0, f"{entry}{keys} after an edit")
+        says(tested.counts(), parts[:1], f"{entry}{keys}: how many names the command gets after an edit")
 
 
 def is_limited():
@@ -488,6 +524,7 @@ def refuses_other_numbers(folder):
 
 
 CASES = [runs_as_many_at_once_as_it_may, runs_as_many_at_once_as_there_are_processors, runs_parts_of_one_hook_at_once,
+         splits_files_of_known_tools_in_a_cautious_run,
          never_runs_more_at_once, shows_durations_of_hooks_that_run_alone, takes_few_open_files,
          starts_nothing_after_a_hook_that_may_be_the_last, runs_a_serial_hook_alone, runs_hooks_of_a_message_one_after_another,
          starts_no_command_whose_answer_is_cached, sees_what_hooks_before_it_changed, takes_no_new_file_of_another, takes_nothing_of_another,

@@ -8,6 +8,7 @@ use Rattle.hook_config.specs.Limits.{IsShort, most_text_bytes}
 use Rattle.run_options.specs.TableRules.{are_short}
 use Rattle.run_options.specs.Tools.{Tool, ToolRow, tool_in, tool_of, tool_rows}
 use Rattle.run_options.specs.declared.tools.ToolKind.{ToolKind}
+use Rattle.run_options.specs.declared.tools.Verdict.{Verdict}
 
 abbrev ReadsShort : Option Tool → Type 0
 ReadsShort None = ⊤
@@ -26,9 +27,9 @@ all_short : are_short tool_rows ≡ true
 unfolding tool_rows
 all_short = refl
 
-short_of : (given : Option (ToolKind × Bor (List ℕ))) → ReadsShort (tool_of given) → IfSome given (λ tool. IsShort tool.1.now)
+short_of : (given : Option (ToolKind × Bor (List ℕ) × Verdict)) → ReadsShort (tool_of given) → IfSome given (λ tool. IsShort tool.1.now)
 short_of None short = tt
 short_of (Some given) short = short
 
-pub short_named : (given : Option (ToolKind × Bor (List ℕ))) (name : List ℕ) → tool_of given ≡ tool_in tool_rows name → IfSome given (λ tool. IsShort tool.1.now)
+pub short_named : (given : Option (ToolKind × Bor (List ℕ) × Verdict)) (name : List ℕ) → tool_of given ≡ tool_in tool_rows name → IfSome given (λ tool. IsShort tool.1.now)
 short_named given name same = short_of given (subst ReadsShort (sym same) (short_in tool_rows name all_short))

@@ -1,4 +1,5 @@
 -- What a command is taken to read in a cautious run, besides the files that it is given.
+-- (docs/REFERENCE.md, "Cached results".)
 use Rattle.std.specs.Prelude.{ℕ, Bool, not, ◌&&◌, if◌then◌else◌, List, [], ◌∷◌, Option, Some, None}
 use Rattle.std.specs.Str.{bytes_eq}
 use Rattle.hook_config.specs.Patterns.{every_path, no_path}

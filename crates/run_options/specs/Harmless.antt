@@ -1,4 +1,4 @@
--- Words that let a tool read nothing but what its row says.
+-- Words that let a tool read nothing but what its row says. (docs/REFERENCE.md, "Known tools".)
 use Rattle.std.specs.Prelude.{ℕ, Bool, true, false, not, ◌==◌, ◌||◌, ◌&&◌, nat_le, if◌then◌else◌, List, [], ◌∷◌, codes, count_by, length, slice_get, ◌+◌, ◌-◌, Option, Some, None, drop, position, take}
 use Rattle.std.specs.Char.{is_ascii_alphabetic, is_ascii_digit, is_ascii_lowercase, is_ascii_uppercase}
 use Rattle.std.specs.List.{list_all, list_any}

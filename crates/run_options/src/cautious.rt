@@ -1,4 +1,4 @@
-//! What a command is taken to read in a cautious run.
+//! What a command is taken to read in a cautious run. (docs/REFERENCE.md, "Cached results".)
 
 ghost use Rattle.std.specs.Prelude.{◌≡◌, IfSome};
 ghost use Rattle.std.specs.Option.{option_copied};
@@ -61,7 +61,7 @@ fn tool_reads(name: &str, words: &[Text]) -> &'static str
     ensures short { IsShort result.now }
 {
     match tool_named(name) {
-        Some((kind, reads)) if are_harmless(kind, words) => reads,
+        Some((kind, reads, _)) if are_harmless(kind, words) => reads,
         _ => EVERY_PATH,
     }
 }

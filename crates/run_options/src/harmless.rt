@@ -1,4 +1,4 @@
-//! Words that let a tool read nothing but what its row says.
+//! Words that let a tool read nothing but what its row says. (docs/REFERENCE.md, "Known tools".)
 
 ghost use Rattle.std.specs.Prelude.{◌≡◌, count_by};
 ghost use Rattle.std.specs.Char.{is_ascii_digit};

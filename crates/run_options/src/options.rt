@@ -5,6 +5,7 @@ ghost use Rattle.hook_config.specs.Limits.{IsShort};
 ghost use Rattle.run_options.specs.Options.{hook_with_options, with_options};
 
 use crate::cautious::new_reads;
+use crate::split_files::new_most_names;
 use hook_base::{Items, OutOfMemory};
 use hook_config::{Config, Hook, SharedPattern};
 use std::alloc::Global;
@@ -13,14 +14,14 @@ use std::alloc::Global;
 #[derive(Clone, Copy, Debug, PartialEq, Eq)]
 pub struct RunOptions {
     /// Whether the command of a hook that doesn't say what it reads is taken to read every file, unless it is
-    /// known to read less.
+    /// known to read less, and a known tool's files are split if it looks at each by itself.
     pub cautious: bool,
     /// Whether every hook's details are reported even if it passed.
     pub verbose: bool,
 }
 
 /// The configuration that is run with these options. It differs from the given one in which files the
-/// commands of hooks see, and which hooks are verbose. `OutOfMemory` if memory is refused.
+/// commands of hooks see, how many names each gets, and which hooks are verbose. `OutOfMemory` if memory is refused.
 pub fn with_options(
     alloc: Global,
     config: Config,
@@ -64,6 +65,7 @@ fn hook_with_options(alloc: Global, hook: Hook, options: RunOptions) -> Result<H
     let mut hook = hook;
     hook.verbose = hook.verbose || options.verbose;
     if options.cautious {
+        hook.x_at_most = new_most_names(&hook);
         if let Some(reads) = new_reads(&hook) {
             hook.x_reads = pattern_of(alloc, reads)?;
         }

@@ -1,4 +1,5 @@
 //! The table of known tools. It is written only here, and `specs/Tools.antt` reads it from here.
+//! (docs/REFERENCE.md, "Known tools".)
 
 ghost use Rattle.std.specs.Prelude.{◌≡◌, IfSome};
 ghost use Rattle.hook_config.specs.Limits.{IsShort};
@@ -17,6 +18,16 @@ pub enum ToolKind {
     Sed,
     /// Any words.
     Any,
+}
+
+/// What a known tool's verdict on a file depends on, if its words and settings stay the same.
+#[derive(Clone, Copy, Debug, PartialEq, Eq)]
+pub enum Verdict {
+    /// The file alone, so the files may be split among several commands.
+    OfEach,
+    /// All files that it is given together. It compares them, follows what leads from one to another, looks
+    /// for its settings above all of them, or its output tells how many it was given.
+    OfAll,
 }
 
 // No path.
@@ -65,111 +76,125 @@ const PROJECT: &str =
 
 const PROSELINT: &str = r"(^|/)\.|(^|/)proselint[^/]*$";
 
+const EACH: Verdict = Verdict::OfEach;
+
+const ALL: Verdict = Verdict::OfAll;
+
 /// Tools that read nothing but the files that they are given and those in whose paths the pattern of their
 /// row is found. A row has the name that is the first word of a command, the kind of words that may follow
-/// it, and the pattern. No name occurs twice.
+/// it, the pattern, and what a verdict depends on. No name occurs twice.
 ///
 /// Tools whose settings may name another file, that look for modules or that load plugins of the project read
 /// all of `PROJECT`. A tool that may read any file all the same isn't listed: one that runs what else is
 /// installed, or follows what its files include.
-pub static TOOLS: [(&str, ToolKind, &str); 91] = [
-    ("add-trailing-comma", ToolKind::Options, NOTHING),
-    ("alejandra", ToolKind::Options, TOML),
-    ("autoflake", ToolKind::Options, PYTHON),
-    ("autopep8", ToolKind::Options, PYTHON),
-    ("bandit", ToolKind::Options, BANDIT),
-    ("black", ToolKind::Options, PYTHON),
-    ("blacken-docs", ToolKind::Options, PYTHON),
-    ("check-ast", ToolKind::Options, NOTHING),
-    ("check-builtin-literals", ToolKind::Options, NOTHING),
-    ("check-byte-order-marker", ToolKind::Options, NOTHING),
-    ("check-docstring-first", ToolKind::Options, NOTHING),
-    ("check-json", ToolKind::Options, NOTHING),
-    ("check-toml", ToolKind::Options, NOTHING),
-    ("check-yaml", ToolKind::Options, NOTHING),
-    ("checkbashisms", ToolKind::Options, NOTHING),
-    ("clang-format", ToolKind::Options, CLANG_FORMAT),
-    ("codespell", ToolKind::Options, PROJECT),
-    ("csslint", ToolKind::Options, DOT),
-    ("darglint", ToolKind::Options, PYTHON),
-    ("deadnix", ToolKind::Options, DOT),
-    ("debug-statement-hook", ToolKind::Options, NOTHING),
-    ("desktop-file-validate", ToolKind::Options, NOTHING),
-    ("detect-private-key", ToolKind::Options, NOTHING),
-    ("docformatter", ToolKind::Options, PYTHON),
-    ("dos2unix", ToolKind::Options, NOTHING),
-    ("double-quote-string-fixer", ToolKind::Options, NOTHING),
-    ("echo", ToolKind::Any, NOTHING),
-    ("editorconfig-checker", ToolKind::Options, DOT),
-    ("egrep", ToolKind::Grep, NOTHING),
-    ("elm-format", ToolKind::Options, ELM),
-    ("end-of-file-fixer", ToolKind::Options, NOTHING),
-    ("eslint", ToolKind::Options, PROJECT),
-    ("false", ToolKind::Any, NOTHING),
-    ("fgrep", ToolKind::Grep, NOTHING),
-    ("file-contents-sorter", ToolKind::Options, NOTHING),
-    ("fix-byte-order-marker", ToolKind::Options, NOTHING),
-    ("fix-encoding-pragma", ToolKind::Options, NOTHING),
-    ("flake8", ToolKind::Options, PROJECT),
-    ("flawfinder", ToolKind::Options, NOTHING),
-    ("flynt", ToolKind::Options, PYTHON),
-    ("fourmolu", ToolKind::Options, HASKELL),
-    ("gofmt", ToolKind::Options, GO),
-    ("google-java-format", ToolKind::Options, JAVA),
-    ("grep", ToolKind::Grep, NOTHING),
-    ("hadolint", ToolKind::Options, HADOLINT),
-    ("isort", ToolKind::Options, PROJECT),
-    ("jpegoptim", ToolKind::Options, NOTHING),
-    ("jsonnetfmt", ToolKind::Options, NOTHING),
-    ("markdownlint", ToolKind::Options, PROJECT),
-    ("mdl", ToolKind::Options, PROJECT),
-    ("misspell", ToolKind::Options, NOTHING),
-    ("mixed-line-ending", ToolKind::Options, NOTHING),
-    ("mypy", ToolKind::Options, PROJECT),
-    ("name-tests-test", ToolKind::Options, NOTHING),
-    ("nixfmt", ToolKind::Options, DOT),
-    ("ocamlformat", ToolKind::Options, DUNE),
-    ("optipng", ToolKind::Options, BACKUPS),
-    ("ormolu", ToolKind::Options, HASKELL),
-    ("perlcritic", ToolKind::Options, PROJECT),
-    ("perltidy", ToolKind::Options, PERLTIDY),
-    ("podchecker", ToolKind::Options, NOTHING),
-    ("prettier", ToolKind::Options, PROJECT),
-    ("pretty-format-json", ToolKind::Options, NOTHING),
-    ("printf", ToolKind::Any, NOTHING),
-    ("proselint", ToolKind::Options, PROSELINT),
-    ("pycodestyle", ToolKind::Options, PYTHON),
-    ("pydocstyle", ToolKind::Options, PYTHON),
-    ("pyflakes", ToolKind::Options, NOTHING),
-    ("pyflakes3", ToolKind::Options, NOTHING),
-    ("pylint", ToolKind::Options, PROJECT),
-    ("pyupgrade", ToolKind::Options, NOTHING),
-    ("requirements-txt-fixer", ToolKind::Options, NOTHING),
-    ("rubocop", ToolKind::Options, PROJECT),
-    ("ruff", ToolKind::Options, PROJECT),
-    ("sed", ToolKind::Sed, NOTHING),
-    ("shellcheck", ToolKind::Options, PROJECT),
-    ("shfmt", ToolKind::Options, DOT),
-    ("sort-simple-yaml", ToolKind::Options, NOTHING),
-    ("stylelint", ToolKind::Options, PROJECT),
-    ("stylua", ToolKind::Options, TOML),
-    ("tidy", ToolKind::Options, NOTHING),
-    ("toml-sort", ToolKind::Options, TOML),
-    ("trailing-whitespace-fixer", ToolKind::Options, NOTHING),
-    ("true", ToolKind::Any, NOTHING),
-    ("tsc", ToolKind::Options, PROJECT),
-    ("typos", ToolKind::Options, TOML),
-    ("unix2dos", ToolKind::Options, NOTHING),
-    ("vint", ToolKind::Options, DOT),
-    ("yamllint", ToolKind::Options, PROJECT),
-    ("yapf", ToolKind::Options, PYTHON),
-    ("yapf3", ToolKind::Options, PYTHON),
+pub static TOOLS: [(&str, ToolKind, &str, Verdict); 91] = [
+    ("add-trailing-comma", ToolKind::Options, NOTHING, EACH),
+    ("alejandra", ToolKind::Options, TOML, EACH),
+    ("autoflake", ToolKind::Options, PYTHON, ALL),
+    ("autopep8", ToolKind::Options, PYTHON, ALL),
+    ("bandit", ToolKind::Options, BANDIT, EACH),
+    ("black", ToolKind::Options, PYTHON, ALL),
+    ("blacken-docs", ToolKind::Options, PYTHON, EACH),
+    ("check-ast", ToolKind::Options, NOTHING, EACH),
+    ("check-builtin-literals", ToolKind::Options, NOTHING, EACH),
+    ("check-byte-order-marker", ToolKind::Options, NOTHING, EACH),
+    ("check-docstring-first", ToolKind::Options, NOTHING, EACH),
+    ("check-json", ToolKind::Options, NOTHING, EACH),
+    ("check-toml", ToolKind::Options, NOTHING, EACH),
+    ("check-yaml", ToolKind::Options, NOTHING, EACH),
+    ("checkbashisms", ToolKind::Options, NOTHING, EACH),
+    ("clang-format", ToolKind::Options, CLANG_FORMAT, EACH),
+    ("codespell", ToolKind::Options, PROJECT, EACH),
+    ("csslint", ToolKind::Options, DOT, EACH),
+    ("darglint", ToolKind::Options, PYTHON, EACH),
+    ("deadnix", ToolKind::Options, DOT, EACH),
+    ("debug-statement-hook", ToolKind::Options, NOTHING, EACH),
+    ("desktop-file-validate", ToolKind::Options, NOTHING, EACH),
+    ("detect-private-key", ToolKind::Options, NOTHING, EACH),
+    ("docformatter", ToolKind::Options, PYTHON, EACH),
+    ("dos2unix", ToolKind::Options, NOTHING, EACH),
+    (
+        "double-quote-string-fixer",
+        ToolKind::Options,
+        NOTHING,
+        EACH,
+    ),
+    ("echo", ToolKind::Any, NOTHING, ALL),
+    ("editorconfig-checker", ToolKind::Options, DOT, EACH),
+    ("egrep", ToolKind::Grep, NOTHING, ALL),
+    ("elm-format", ToolKind::Options, ELM, EACH),
+    ("end-of-file-fixer", ToolKind::Options, NOTHING, EACH),
+    ("eslint", ToolKind::Options, PROJECT, EACH),
+    ("false", ToolKind::Any, NOTHING, ALL),
+    ("fgrep", ToolKind::Grep, NOTHING, ALL),
+    ("file-contents-sorter", ToolKind::Options, NOTHING, EACH),
+    ("fix-byte-order-marker", ToolKind::Options, NOTHING, EACH),
+    ("fix-encoding-pragma", ToolKind::Options, NOTHING, EACH),
+    ("flake8", ToolKind::Options, PROJECT, EACH),
+    ("flawfinder", ToolKind::Options, NOTHING, EACH),
+    ("flynt", ToolKind::Options, PYTHON, ALL),
+    ("fourmolu", ToolKind::Options, HASKELL, EACH),
+    ("gofmt", ToolKind::Options, GO, EACH),
+    ("google-java-format", ToolKind::Options, JAVA, EACH),
+    ("grep", ToolKind::Grep, NOTHING, ALL),
+    ("hadolint", ToolKind::Options, HADOLINT, EACH),
+    ("isort", ToolKind::Options, PROJECT, ALL),
+    ("jpegoptim", ToolKind::Options, NOTHING, EACH),
+    ("jsonnetfmt", ToolKind::Options, NOTHING, EACH),
+    ("markdownlint", ToolKind::Options, PROJECT, EACH),
+    ("mdl", ToolKind::Options, PROJECT, EACH),
+    ("misspell", ToolKind::Options, NOTHING, EACH),
+    ("mixed-line-ending", ToolKind::Options, NOTHING, EACH),
+    ("mypy", ToolKind::Options, PROJECT, ALL),
+    ("name-tests-test", ToolKind::Options, NOTHING, EACH),
+    ("nixfmt", ToolKind::Options, DOT, EACH),
+    ("ocamlformat", ToolKind::Options, DUNE, EACH),
+    ("optipng", ToolKind::Options, BACKUPS, EACH),
+    ("ormolu", ToolKind::Options, HASKELL, EACH),
+    ("perlcritic", ToolKind::Options, PROJECT, EACH),
+    ("perltidy", ToolKind::Options, PERLTIDY, EACH),
+    ("podchecker", ToolKind::Options, NOTHING, EACH),
+    ("prettier", ToolKind::Options, PROJECT, EACH),
+    ("pretty-format-json", ToolKind::Options, NOTHING, EACH),
+    ("printf", ToolKind::Any, NOTHING, ALL),
+    ("proselint", ToolKind::Options, PROSELINT, EACH),
+    ("pycodestyle", ToolKind::Options, PYTHON, ALL),
+    ("pydocstyle", ToolKind::Options, PYTHON, EACH),
+    ("pyflakes", ToolKind::Options, NOTHING, EACH),
+    ("pyflakes3", ToolKind::Options, NOTHING, EACH),
+    ("pylint", ToolKind::Options, PROJECT, ALL),
+    ("pyupgrade", ToolKind::Options, NOTHING, EACH),
+    ("requirements-txt-fixer", ToolKind::Options, NOTHING, EACH),
+    ("rubocop", ToolKind::Options, PROJECT, EACH),
+    ("ruff", ToolKind::Options, PROJECT, EACH),
+    ("sed", ToolKind::Sed, NOTHING, ALL),
+    ("shellcheck", ToolKind::Options, PROJECT, ALL),
+    ("shfmt", ToolKind::Options, DOT, EACH),
+    ("sort-simple-yaml", ToolKind::Options, NOTHING, EACH),
+    ("stylelint", ToolKind::Options, PROJECT, EACH),
+    ("stylua", ToolKind::Options, TOML, EACH),
+    ("tidy", ToolKind::Options, NOTHING, EACH),
+    ("toml-sort", ToolKind::Options, TOML, EACH),
+    (
+        "trailing-whitespace-fixer",
+        ToolKind::Options,
+        NOTHING,
+        EACH,
+    ),
+    ("true", ToolKind::Any, NOTHING, ALL),
+    ("tsc", ToolKind::Options, PROJECT, ALL),
+    ("typos", ToolKind::Options, TOML, EACH),
+    ("unix2dos", ToolKind::Options, NOTHING, EACH),
+    ("vint", ToolKind::Options, DOT, EACH),
+    ("yamllint", ToolKind::Options, PROJECT, EACH),
+    ("yapf", ToolKind::Options, PYTHON, EACH),
+    ("yapf3", ToolKind::Options, PYTHON, EACH),
 ];
 
-/// What kind of words the tool of that name may be given, and the pattern of what it reads. Nothing if the
-/// tool isn't known.
+/// What kind of words the tool of that name may be given, the pattern of what it reads, and what its verdict
+/// on a file depends on. Nothing if the tool isn't known.
 #[tactic(auto, unfolding(crate::specs::Tools::tool_rows))]
-pub(crate) fn tool_named(name: &str) -> Option<(ToolKind, &'static str)>
+pub(crate) fn tool_named(name: &str) -> Option<(ToolKind, &'static str, Verdict)>
     ensures tool { tool_of result ≡ tool_in tool_rows name.now }
     ensures short { IfSome result (λ tool. IsShort tool.1.now) }
 {
@@ -178,14 +203,14 @@ pub(crate) fn tool_named(name: &str) -> Option<(ToolKind, &'static str)>
 
 // The tool of the first row that has the name.
 fn tool_in(
-    rows: &'static [(&'static str, ToolKind, &'static str)],
+    rows: &'static [(&'static str, ToolKind, &'static str, Verdict)],
     name: &str,
-) -> Option<(ToolKind, &'static str)>
+) -> Option<(ToolKind, &'static str, Verdict)>
     ensures { tool_of result ≡ tool_in (tool_rows_of rows.now) name.now }
 {
     'rows: for row in rows {
         if row.0 == name {
-            return Some((row.1, row.2));
+            return Some((row.1, row.2, row.3));
         }
     }
     None

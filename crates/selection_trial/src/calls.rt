@@ -48,6 +48,7 @@ fn of_commands(alloc: Global, call: &str, arguments: &[Vec<u8>]) -> Result<Answe
 
 fn of_options(alloc: Global, call: &str, arguments: &[Vec<u8>]) -> Result<AnswerBytes, Stop> {
     match call {
+        "can_split" => options::splits(alloc, arguments),
         "command_reads" => options::read_by(alloc, arguments),
         "tools" => options::tools(alloc),
         "with_options" => options::hooks(alloc, arguments),

@@ -38,6 +38,10 @@ TOOLS = {
 }
 PATTERNS = {name: pattern for pattern, names in TOOLS.items() for name in names.split()}
 
+# Tools whose verdict on a file depends on the others that they are given.
+OF_ALL = """autoflake autopep8 black echo egrep false fgrep flynt grep isort mypy printf pycodestyle pylint sed shellcheck true
+    tsc""".split()
+
 # Tools that may read any file, or look for one: they aren't known.
 UNKNOWN = """ansible-lint bash cat cppcheck djlint env golangci-lint hlint jq luacheck npx perl pytest python python3 reuse
     rustfmt sh sqlfluff terraform textlint vulture xmllint""".split()
@@ -227,6 +231,34 @@ def rows_of_commands():
     return rows
 
 
+# Whether the files of a command are split.
+SPLIT = [
+    (["eslint"], True),
+    (["eslint", "--quiet"], True),
+    (["eslint", "--max-warnings=0"], True),
+    (["eslint", "--max-warnings=10"], False),
+    (["eslint", "--max-warnings=00"], False),
+    (["eslint", "--max-warnings=0", "--max-warnings=1"], False),
+    (["eslint", "--max-warnings", "0"], False),
+    (["eslint", "--config=x.json"], False),
+    (["stylelint", "--max-warnings=3"], False),
+    (["flake8", "--max-line-length=100"], True),
+    (["flake8", "--max-complexity=10", "-j1"], True),
+    (["flake8", "src"], False),
+    (["./flake8"], False),
+    (["npx", "eslint"], False),
+    (["Eslint"], False),
+    ([""], False),
+    ([], False),
+]
+
+
+def split_rows():
+    rows = [("can_split", f"{name}\n", str(name not in OF_ALL).lower()) for name in PATTERNS]
+    rows += [("can_split", f"{name}\n", "false") for name in UNKNOWN]
+    return rows + [("can_split", "".join(f"{word}\n" for word in words), str(split).lower()) for words, split in SPLIT]
+
+
 # The hooks of a configuration, in the keys of one each, and for each the pattern that it has in a cautious run.
 HOOKS = [
     ("known", "language: system, entry: black", PYTHON),
@@ -248,9 +280,26 @@ HOOKS = [
     ("fail_reads", "language: fail, entry: no, x_reads: '^a$'", "^a$"),
     ("pygrep", "language: pygrep, entry: black", NOTHING),
     ("verbose", "language: system, entry: 'true', verbose: true", NOTHING),
+    ("split", "language: system, entry: flake8", PROJECT),
+    ("split_words", "language: system, entry: eslint --quiet, args: [--max-warnings=0]", PROJECT),
+    ("limited", "language: system, entry: eslint --max-warnings=7", PROJECT),
+    ("split_reads", "language: system, entry: flake8, x_reads: '^a$'", "^a$"),
+    ("split_single", "language: system, entry: flake8, x_per_file: true", PROJECT),
+    ("fewer", "language: system, entry: flake8, x_at_most: 7", PROJECT),
+    ("more", "language: system, entry: flake8, x_at_most: 99999", PROJECT),
+    ("most", "language: system, entry: flake8, x_at_most: 100000", PROJECT),
+    ("serial", "language: system, entry: flake8, require_serial: true", PROJECT),
+    ("split_always", "language: system, entry: flake8, always_run: true", EVERY),
+    ("split_whole", "language: system, entry: flake8, pass_filenames: false", EVERY),
+    ("split_script", "language: script, entry: flake8", EVERY),
+    ("split_pygrep", "language: pygrep, entry: flake8", NOTHING),
 ]
+# The most names that a command of a hook gets: what its keys say, and what it is in a cautious run if its files are split.
+MOST = 100_000
+OWN_MOST = {"fewer": 7, "more": 99_999}
+SPLITS = ("split", "split_words", "split_reads", "split_single", "most")
 # What a hook has without options, if its keys say it.
-OWN = {"reads": "^a$", "known_reads": "^a$", "script_reads": "^a$", "every": EVERY, "fail_reads": "^a$"}
+OWN = {"reads": "^a$", "known_reads": "^a$", "script_reads": "^a$", "every": EVERY, "fail_reads": "^a$", "split_reads": "^a$"}
 
 
 def configuration(hooks):
@@ -263,13 +312,15 @@ def options(names, hooks=HOOKS):
     lines = ""
     for name, _keys, pattern in hooks:
         shown = pattern if cautious else OWN.get(name, NOTHING)
-        lines += f"{name}|{shown}|{str(verbose or name == 'verbose').lower()}\n"
+        most = 100 if cautious and name in SPLITS else OWN_MOST.get(name, MOST)
+        lines += f"{name}|{shown}|{most}|{str(verbose or name == 'verbose').lower()}\n"
     return ("with_options", names, configuration(hooks), lines)
 
 
 ROWS = [
-    ("tools", "".join(f"{name}|{PATTERNS[name]}\n" for name in sorted(PATTERNS))),
+    ("tools", "".join(f"{name}|{'all' if name in OF_ALL else 'each'}|{PATTERNS[name]}\n" for name in sorted(PATTERNS))),
     *rows_of_commands(),
+    *split_rows(),
     *(options(names) for names in ("", "cautious", "verbose", "cautious verbose")),
     *(options("cautious", [hook]) for hook in HOOKS),
     ("with_options", "cautious verbose", "repos: []\n", ""),
