@@ -21,7 +21,7 @@ use Rattle.commit_flow.specs.declared.host_refusal.HostRefusal.{HostRefusal}
 use Rattle.commit_flow.specs.declared.host_refusal.HostRefusal.TheVariants.{OutOfMemory, Store, Collision}
 use Rattle.commit_flow.specs.declared.reply.Reply.{Reply}
 use Rattle.commit_flow.specs.declared.reply.Reply.TheVariants.{Ran, Forgot, Limited, EditRefused, Refused}
-use Rattle.commit_flow.specs.MachineRuns.{IsMachineRun}
+use Rattle.commit_flow.specs.MachineRuns.{IsMachineRun, IsRunWithoutMemory}
 use Rattle.commit_flow.specs.Plays.{ArePlayed, IsPlay, IsPlayed}
 use Rattle.commit_flow.specs.Runs.{reuse_of, run_ask_of}
 use Rattle.commit_flow.specs.StepLaws.{IsDecided, IsDecidedRefusal}
@@ -132,6 +132,15 @@ played_steps tells from to before after (command ∷ commands) (reply ∷ replie
   joined = played.joined;
 }
 played_steps tells from to before after commands replies parts played = absurd played
+
+-- if what is cached at first may be reported, a host without a cache may make the same
+pub run_without_memory : (tells : List (List ℕ) → List File → Outcome → Type 0) (from to : Moment) (before after : Repository) (commands : List Command) (replies : List Reply)
+    → IsPlay tells from to before commands replies after → IsTold tells from.remembered → IsRunWithoutMemory tells before commands replies after
+run_without_memory tells from to before after commands replies it book = record {
+  parts = it.parts;
+  run = played_steps tells from to before after commands replies it.parts it.played;
+  told = it.told book;
+}
 
 -- where what is remembered at first is told, no hook is unsteady
 module _ (tells : List (List ℕ) → List File → Outcome → Type 0) (alone : OneAnswer tells) where

@@ -16,8 +16,10 @@ use Rattle.commit_flow.specs.declared.command.Command.{Command}
 use Rattle.commit_flow.specs.declared.command.Command.TheVariants.{Add, Remove, Stage, Accept, Run, Message, Commit, Forget, Limit}
 use Rattle.commit_flow.specs.declared.host_refusal.HostRefusal.{HostRefusal}
 use Rattle.commit_flow.specs.declared.reply.PostCommit.{PostCommit}
+use Rattle.commit_flow.specs.declared.message_ask.MessageAsk.{MessageAsk}
 use Rattle.commit_flow.specs.declared.reply.Reply.{Reply}
 use Rattle.commit_flow.specs.declared.reply.Reply.TheVariants.{Added, Removed, Staged, Accepted, Ran, MessageRan, Committed, HooksFailed, Forgot, Limited, EditRefused, Refused}
+use Rattle.commit_flow.specs.declared.staging_stop.StagingStop.{StagingStop}
 use Rattle.commit_flow.specs.CommitSteps.{SaysSpent, StandsOnAll}
 use Rattle.commit_flow.specs.Messages.{cleaned_message}
 use Rattle.commit_flow.specs.Plays.{ArePlayed, HooksBegin, IsPlayed, Makes, RunsHooks, reuse_in}
@@ -37,6 +39,14 @@ refused_leaves before after (Message ask message) refusal parts step = step.1
 refused_leaves before after (Commit message no_verify skip) refusal parts step = step.1
 refused_leaves before after Forget refusal parts step = step.1
 refused_leaves before after (Limit most) refusal parts step = step.1
+
+pub edits_refused_leave : (before after : Repository) (edits : List StagingEdit) (stop : StagingStop) (parts : List Part) → Step before (Stage edits) (EditRefused stop) parts after → after ≡ before
+edits_refused_leave before after edits stop parts step = step.2
+
+pub messages_leave : (before after : Repository) (ask : MessageAsk) (message : List ℕ) (reply : Reply) (parts : List Part) → Step before (Message ask message) reply parts after → after ≡ before
+messages_leave before after ask message (MessageRan passed report left) parts step = step.same
+messages_leave before after ask message (Refused refusal) parts step = step.1
+messages_leave before after ask message reply parts step = absurd step
 
 same_history : (before after : Repository) → after ≡ before → after.history ≡ before.history
 same_history before after same = ap (λ (repo : Repository). repo.history) same

@@ -16,11 +16,11 @@ use Rattle.hook_run.specs.declared.run_refusal.RunRefusal.{RunRefusal}
 use Rattle.hook_run.specs.declared.run_refusal.RunRefusal.TheVariants as run
 use Rattle.hook_run.specs.Asks.{names_no_hook}
 use Rattle.hook_run.specs.Answers.{AreReused}
-use Rattle.hook_run.specs.AnswerLemmas.{answered-adds, answered-none, so-far, so-far-adds}
+use Rattle.hook_run.specs.AnswerLemmas.{answered-adds, answered-none, so-far, so-far-adds, so-far-whole}
 use Rattle.hook_run.specs.Moments.{Moment}
 use Rattle.hook_run.specs.Parts.{Part, all_parts}
 use Rattle.hook_run.specs.Refusals.{IsOfBook}
-use Rattle.hook_run.specs.RunOuts.{IsCountedRun, IsStoppedRun}
+use Rattle.hook_run.specs.RunOuts.{IsBegun, IsCountedRun, IsStoppedRun}
 use Rattle.store_faults.specs.declared.fault.StoreFault.{StoreFault}
 use Rattle.store_faults.specs.declared.fault.StoreFault.TheVariants as store
 use Rattle.store_faults.specs.Faults.{IsRefusal}
@@ -165,6 +165,7 @@ lost refuses tells from to config ask tree out have =
         told = have.over.told;
         no_hook = λ is. absurd (cc);
         begins = λ _. record { trace = have.over.trace; rest = []; out = out; joined = sym (append-nil parts); run = have.over.run };
+        cut_off = so-far-whole tells ask.reuse (IsBegun config ask tree) from to parts have.over.answered;
         needs = λ is. absurd (cc);
         untold = λ is. absurd (cc);
         spent = λ is. absurd (cc);

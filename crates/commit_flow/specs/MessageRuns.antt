@@ -1,5 +1,5 @@
 -- The hooks of a stage about a message, without a commit: what they answer, and why they are refused. They get
--- what they get in a commit, and change nothing of the repository.
+-- the staged files, and the message in its file as in a commit, and change nothing of the repository.
 use Rattle.std.specs.Prelude.{◌≡◌, ℕ, Bool, List, []}
 use Rattle.hook_base.specs.declared.file.File.{File}
 use Rattle.hook_config.specs.declared.configuration.Config.{Config}

@@ -57,7 +57,7 @@ AreLeftOutOfMessage from to before ask message parts reply = ⊥
 -- them, from the moment `between`, some that the reply leaves out. The reply says that the children are spent
 -- only if they have reported as many outcomes as can be counted, 2^64 - 1. Then what they reported is put, as
 -- `Starts` says. If the children may report each result that was cached before, they may report each outcome.
--- Each result that is cached afterwards was cached before, or was reported.
+-- Each result that is cached afterwards was cached before, or may be reported.
 pub record IsMessageStep (tells : List (List ℕ) → List File → Outcome → Type 0) (from to : Moment)
     (before : Repository) (ask : MessageAsk) (message : List ℕ) (reply : Reply)
     (after : Repository) : Type 0 where

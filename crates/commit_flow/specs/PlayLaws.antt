@@ -43,7 +43,7 @@ HasCommitted before command after = ⊥
 -- ---- for which parts children were started
 
 -- What a command makes of what is cached. A child was started for those of its parts that are in `started`. A
--- command that forgets has no parts.
+-- command that forgets or sets a limit has no parts.
 abbrev pub CommandStarts : Command → Reply → Contents → Contents → List Part → List Part → Type 0
 CommandStarts Forget reply before after parts started = HasForgotten before after reply × (parts ≡ []) × (started ≡ [])
 CommandStarts (Limit most) reply before after parts started =

@@ -143,7 +143,7 @@ ArePlayed tells from to before commands replies parts after = ⊥
 
 -- A run of the machine between two moments, by all of these commands. If the children may report each result
 -- that was cached before, they may report each outcome and each result that is cached afterwards. Each result
--- that is cached afterwards was cached before, or was reported.
+-- that is cached afterwards was cached before, or may be reported.
 pub record IsPlay (tells : List (List ℕ) → List File → Outcome → Type 0) (from to : Moment) (before : Repository)
     (commands : List Command) (replies : List Reply) (after : Repository) : Type 0 where
   pub parts : List Part

@@ -32,7 +32,7 @@ reply_of_run ran = Ran ran.passed ran.report ran.changes ran.unsteady
 
 -- The run is a step of the machine, with parts that were answered between two moments. If the children may
 -- report each result that was cached before, they may report each outcome. Each result that is cached
--- afterwards was cached before, or was reported. As many parts as the run says used a cached result.
+-- afterwards was cached before, or may be reported. As many parts as the run says used a cached result.
 pub record IsRunStep (tells : List (List ℕ) → List File → Outcome → Type 0) (from to : Moment) (before : Repository)
     (ask : HostAsk) (ran : StagedRun) (after : Repository) : Type 0 where
   pub parts : List Part

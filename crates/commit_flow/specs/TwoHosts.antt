@@ -56,7 +56,7 @@ pub record IsUnhinderedPlay (tells : List (List ℕ) → List File → Outcome �
 
 -- ---- what in a reply depends on what is cached
 
--- how many results were forgotten is left out
+-- how many results were forgotten or are left is left out
 abbrev pub without_number : Reply → Reply
 without_number (Forgot number) = Forgot 0
 without_number (Limited number) = Limited 0

@@ -14,14 +14,18 @@ ghost use Rattle.repo_store.specs.Kept.{Kept};
 ghost use Rattle.repo_store.specs.Repository.{Repository};
 ghost use Rattle.repo_store.specs.Shown.{Leaves};
 ghost use Rattle.repo_store.specs.StoreBooks.{remembered_by};
+ghost use Rattle.repo_store.specs.declared.staging_edit.StagingEdit.{StagingEdit};
 ghost use Rattle.sqlite_trees.specs.Tree.{Trees};
 ghost use Rattle.commit_flow.specs.declared.command.Command.{Command};
-ghost use Rattle.commit_flow.specs.declared.command.Command.TheVariants.{Commit};
+ghost use Rattle.commit_flow.specs.declared.command.Command.TheVariants.{Commit, Message, Stage as StageEdits};
 ghost use Rattle.commit_flow.specs.declared.host_refusal.HostRefusal.{HostRefusal};
+ghost use Rattle.commit_flow.specs.declared.message_ask.MessageAsk.{MessageAsk};
 ghost use Rattle.commit_flow.specs.declared.reply.PostCommit.{PostCommit};
 ghost use Rattle.commit_flow.specs.declared.reply.Reply.{Reply};
-ghost use Rattle.commit_flow.specs.declared.reply.Reply.TheVariants.{Committed, HooksFailed, Refused};
+ghost use Rattle.commit_flow.specs.declared.reply.Reply.TheVariants.{Committed, EditRefused, HooksFailed, Refused};
+ghost use Rattle.commit_flow.specs.declared.staging_stop.StagingStop.{StagingStop};
 ghost use Rattle.commit_flow.specs.CommitSteps.{SaysSpent, StandsOnAll};
+ghost use Rattle.commit_flow.specs.MachineRuns.{IsRunWithoutMemory};
 ghost use Rattle.commit_flow.specs.MessageLaws.{HasNoEarlierHook, IsCheckedThenMade, IsNotPrepared, IsPreparedThenMade};
 ghost use Rattle.commit_flow.specs.Messages.{begun_message};
 ghost use Rattle.commit_flow.specs.PlayLaws.{HasCommitted, PlayStarts, SaysCommitted};
@@ -35,21 +39,25 @@ use child_port::Children;
 use repo_store::Store;
 use sqlite::Alter;
 
-/// A command that neither runs hooks nor forgets has at most one reply and leaves at most one repository,
-/// unless memory or the database refuses, or contents collide. So the refusals of a command come in one
-/// order, and none comes if the command could be done.
+/// A command that neither runs hooks, nor forgets, nor sets a limit has at most one reply and leaves at most
+/// one repository, unless memory or the database refuses, or contents collide. So the refusals of a command
+/// come in one order, and none comes if the command could be done.
 pub fn a_command_has_one_answer()
     ensures { (before after other : Repository) (command : Command) (reply second : Reply) (parts more : List Part)
         → Step before command reply parts after → Step before command second more other → IsRunless command
         → IsDecided reply → IsDecided second → (reply ≡ second) × (parts ≡ more) × (after ≡ other) }
 {}
 
-/// A command that is refused leaves the whole repository as it was. The history changes only if the reply
-/// says that a commit was made. Then there is one commit more: each stage before it passed, and its message
-/// is what they pass on, cleaned.
+/// A command that is refused leaves the whole repository as it was, several changes that are refused too, and
+/// hooks about a message in any case. The history changes only if the reply says that a commit was made. Then
+/// there is one commit more: each stage before it passed, and its message is what they pass on, cleaned.
 pub fn the_history_grows_by_commits_alone()
     ensures refused { (before after : Repository) (command : Command) (refusal : HostRefusal) (parts : List Part)
         → Step before command (Refused refusal) parts after → after ≡ before }
+    ensures edits { (before after : Repository) (edits : List StagingEdit) (stop : StagingStop) (parts : List Part)
+        → Step before (StageEdits edits) (EditRefused stop) parts after → after ≡ before }
+    ensures message { (before after : Repository) (ask : MessageAsk) (message : List ℕ) (reply : Reply)
+        (parts : List Part) → Step before (Message ask message) reply parts after → after ≡ before }
     ensures kept { (before after : Repository) (command : Command) (reply : Reply) (parts : List Part)
         → Step before command reply parts after → (¬ SaysCommitted reply) → after.history ≡ before.history }
     ensures committed { (before after : Repository) (command : Command) (number : ℕ) (reports : List (List ℕ))
@@ -57,10 +65,12 @@ pub fn the_history_grows_by_commits_alone()
         → HasCommitted before command after }
 {}
 
-/// A commit that bypasses hooks is [`Host::message`](crate::Host::message) for `prepare-commit-msg`, on its message
-/// ended by a line feed, and then a commit of the message that is left. It is made just if that call passes and
-/// the message may be committed, and its reports and parts are those of the call, and of the hooks after it. If
-/// a hook fails before it, that call fails with the same report. The begun message must be of at most 16 MiB.
+/// A commit that bypasses hooks is [`Host::message`](crate::Host::message) for `prepare-commit-msg`, not
+/// fresh and without options, on its message ended by a line feed unless empty, and then a commit of the
+/// message that is left. It is made just if that call passes, the staged files aren't those of the last
+/// commit, and the cleaned message may be committed. Its report is that of the call, and its parts those of
+/// the call and of the hooks after it. If a hook fails before it, that call fails with the same report and
+/// parts. The begun message must be of at most 16 MiB.
 pub fn a_bypassing_commit_is_of_the_message_that_is_left()
     ensures made { (before : Repository) (message : List ℕ) (skip : List (List ℕ)) (after : Repository) (number : ℕ)
         (reports : List (List ℕ)) (post : PostCommit) (parts : List Part) → IsSmall (begun_message message)
@@ -76,11 +86,14 @@ pub fn a_bypassing_commit_is_of_the_message_that_is_left()
         → IsNotPrepared before message skip reports parts }
 {}
 
-/// A commit whose configuration has no hook of `pre-commit` is two calls of [`Host::message`](crate::Host::message),
-/// and then a commit of the message that is left. The first is for `prepare-commit-msg`, on the commit's message
-/// ended by a line feed, and the second for `commit-msg`, on what the first leaves. It is made just if both pass
-/// and the message may be committed. Its reports and parts are those of the calls, and of the hooks after it. No
-/// message on the way may have more than 16 MiB, since a call refuses it.
+/// Let the configuration have no hook of `pre-commit`, and the staged files be a tree without the message's
+/// file, as those of a store are. Then a commit is two calls of [`Host::message`](crate::Host::message), not
+/// fresh and without options, and then a commit of the message that is left. The first is for
+/// `prepare-commit-msg`, on the commit's message ended by a line feed unless empty, the second for
+/// `commit-msg`, on what the first leaves. It is made just if both pass, the staged files aren't those of the
+/// last commit, and the cleaned message may be committed. Its reports are an empty one and those of the
+/// calls, and its parts those of the calls and of the hooks after it. No message on the way may have more
+/// than 16 MiB, since a call refuses it.
 pub fn a_commit_without_earlier_hooks_is_of_the_message_that_is_left()
     ensures made { (before : Repository) (message : List ℕ) (skip : List (List ℕ)) (after : Repository) (number : ℕ)
         (reports : List (List ℕ)) (post : PostCommit) (parts : List Part) → HasNoEarlierHook before
@@ -91,6 +104,16 @@ pub fn a_commit_without_earlier_hooks_is_of_the_message_that_is_left()
         (reports : List (List ℕ)) (post : PostCommit) (parts : List Part) → HasNoEarlierHook before
         → (checked : IsCheckedThenMade before message skip number reports post parts after) → IsSmall checked.between
         → Step before (Commit message false skip) (Committed number reports post) parts after }
+{}
+
+/// The replies to a list of commands, and the repository that it leaves, are those of a host without a cache:
+/// one that starts a child for each part of a hook, on the files as they are then. The outcomes are some that
+/// the children may report. The law holds if they may report what is cached at first.
+pub fn a_play_is_one_without_memory<C: Children>(children: &C)
+    ensures { (from to : Moment) (before after : Repository) (commands : List Command) (replies : List Reply)
+        → IsPlay (C.tells children.now) from to before commands replies after
+        → IsTold (C.tells children.now) from.remembered
+        → IsRunWithoutMemory (C.tells children.now) before commands replies after }
 {}
 
 /// A list of commands adds to the history only if a reply says that a commit was made.
@@ -118,16 +141,17 @@ pub fn a_play_without_hooks_starts_no_child<C: Children>(children: &C)
         → All (λ command. ¬ RunsHooks command) commands → (to.calls ≡ from.calls) × (to.faults ≡ from.faults) }
 {}
 
-/// Commands that neither run hooks nor forget leave what is cached as it was.
+/// Commands that neither run hooks, nor forget, nor set a limit leave what is cached and the children's
+/// counts as they were.
 pub fn a_play_without_hooks_leaves_what_is_remembered<C: Children>(children: &C)
     ensures { (from to : Moment) (before after : Repository) (commands : List Command) (replies : List Reply)
         (parts : List Part) → ArePlayed (C.tells children.now) from to before commands replies parts after
         → All IsRunless commands → to ≡ from }
 {}
 
-/// Let each reply rest on all that was answered for it. Then only two things change what is cached: the parts
-/// of a command, for some of which children were started, and a command that forgets, which empties it. The
-/// children count just these started parts.
+/// Let each reply rest on all that was answered for it. Then only three things change what is cached: the
+/// parts of a command, for some of which children were started; a command that forgets, which empties it; and
+/// one that sets a limit, which drops what is beyond it. The children count just the started parts.
 pub fn a_play_counts_what_it_starts<C: Children>(children: &C)
     ensures { (from to : Moment) (before after : Repository) (commands : List Command) (replies : List Reply)
         (parts : List Part) → ArePlayed (C.tells children.now) from to before commands replies parts after
@@ -136,8 +160,8 @@ pub fn a_play_counts_what_it_starts<C: Children>(children: &C)
         × IsCounted from to started }
 {}
 
-/// A reply says that the children are spent only if they have reported as many outcomes as can be counted.
-/// The count stays there once all the commands are done.
+/// If a reply says that the children are spent, they have reported 2^64 - 1 outcomes once all the commands
+/// are done. They can't count more.
 pub fn spent_only_at_the_last_count<C: Children>(children: &C)
     ensures { (from to : Moment) (before after : Repository) (commands : List Command) (replies : List Reply)
         (parts : List Part) → ArePlayed (C.tells children.now) from to before commands replies parts after
@@ -166,9 +190,11 @@ pub fn commands_have_one_answer<C: Children, D: Children>(children: &C, others: 
         → (map without_memory replies ≡ map without_memory seconds) × (after ≡ other) }
 {}
 
-/// Two hosts play the same commands on equal repositories, over children that may report the same outcomes.
-/// They give one answer, whatever results of such children each has cached: equal replies, except for how
-/// many answers were forgotten, and equal repositories. And none of their hooks is unsteady.
+/// Let no words and seen files have two completed answers. Two hosts play the same commands on equal
+/// repositories, over children that may report the same outcomes, and all that each host has cached at first.
+/// If no fault is counted, and no reply is left open as in [`commands_have_one_answer`], they give one
+/// answer: equal replies, except for how many answers were forgotten or are left, and equal repositories. In
+/// any case no reply of a run names an unsteady hook.
 pub fn two_hosts_give_one_answer<C: Children, D: Children>(children: &C, others: &D)
     ensures same { SameTells (C.tells children.now) (D.tells others.now) → OneAnswer (C.tells children.now)
         → (from to start end : Moment) (before after other : Repository) (commands : List Command)
@@ -181,15 +207,15 @@ pub fn two_hosts_give_one_answer<C: Children, D: Children>(children: &C, others:
         → IsTold (C.tells children.now) from.remembered → All IsSteady replies }
 {}
 
-/// However often a list of commands is stopped, and goes on once the store is opened again, nothing is half
-/// done, and nothing that was done is lost. Each session makes, of the repository that the one before it
-/// left, a first stretch of its commands with the replies that it gave. Then it may make the next command
-/// too, by parts that were answered for it. A commit is made only if each stage before it passed. And each
-/// answer that is cached in the end was reported.
+/// However often a list of commands is stopped, and goes on once the store is opened again, nothing of the
+/// repository is half done, and no change of it that was done is lost. Each session makes, of the repository
+/// that the one before it left, a first stretch of its commands with the replies that it gave. Then it may
+/// make the next command too, by parts that were answered for it. A commit is made only if each stage before
+/// it passed. And each answer that is cached in the end is one that the children may report.
 ///
 /// A session opens what a stop left of the one before it, plays commands as [`Host::play`](crate::Host::play)
 /// does, and is stopped within a command, between two, or not at all. The law holds on a disk that returns
-/// what was written to it, and if what is cached at first was reported.
+/// what was written to it, and if the children may report what is cached at first.
 pub fn stopped_sessions_lose_nothing<C: Children, S: Alter>(children: &C, store: &Store<S>)
     ensures { (found left : Trees) (sessions : List Session) (kept : Kept) → Leaves kept found
         → IsTold (C.tells children.now) (remembered_by kept)

@@ -1,12 +1,13 @@
 //! The host of a repository: the commands that stage files, run hooks and commit, and what each answers.
 //!
 //! A [`Host`] works on a store, which keeps the repository and caches what children answered, up to a limit.
-//! Runs and commits use these cached results and add to them. A [`HostAsk`] says what is asked of a run of
-//! hooks on the staged files, and a [`StagedRun`] what it gave. A [`CommitEnding`] says how a commit through
-//! its hooks ended. A [`MessageAsk`] says what is asked of the hooks of a [`MessageStage`] without a commit, and
-//! a [`MessageRun`] what they gave. A [`HostRefusal`] says why a command is refused. [`Command`] and [`Reply`]
-//! are the commands and their answers as values. A list of [`StagingEdit`]s makes several changes of the staged
-//! files at once, and a [`StagingStop`] says which of them is refused.
+//! Runs, hooks about a message and commits use these cached results and add to them. A [`HostAsk`] says what
+//! is asked of a run of hooks on the staged files, and a [`StagedRun`] what it gave. A [`CommitEnding`] says
+//! how a commit through its hooks ended. A [`MessageAsk`] says what is asked of the hooks of a
+//! [`MessageStage`] without a commit, and a [`MessageRun`] what they gave. A [`HostRefusal`] says why a
+//! command is refused. [`Command`] and [`Reply`] are the commands and their answers as values. A list of
+//! [`StagingEdit`]s makes several changes of the staged files at once, and a [`StagingStop`] says which of
+//! them is refused.
 //!
 //! The contracts cite `Step` of `specs/Steps.antt`: what each command may answer, and what it makes of the
 //! repository. The other specs that they cite are:

@@ -1,6 +1,6 @@
 pub mod OverHostLemmas
 pub mod OverRunLemmas
-pub mod PathLemmas
+pub mod PlayedLemmas
 pub mod PrintingLemmas
 pub mod RunPrintingLemmas
 pub mod StagingLemmas

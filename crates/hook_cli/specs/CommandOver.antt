@@ -162,6 +162,15 @@ pub record Counts : Type 0 where
   pub faults : ℕ
   pub faults_after : ℕ
 
+-- the counts of children before a command and after it
+abbrev pub counts_over : {C : Type 0} → (C → ℕ) → (C → ℕ) → C → C → Counts
+counts_over call_count fault_count before after = record {
+  calls = call_count before;
+  calls_after = call_count after;
+  faults = fault_count before;
+  faults_after = fault_count after;
+}
+
 -- the counts with the results that the host has cached, before the command and after it
 abbrev pub moment_before : {S : Type 0} → Counts → Host S → Moment
 moment_before counts host = moment counts.calls counts.faults (remembered_by host.store.kept)
@@ -349,3 +358,13 @@ pub record IsCommandOver {S : Type 0} (g : Ghosts S) (tells : List (List ℕ) �
   pub over : IsDoneOver g tells counts old new done out err ending
   pub called : IsCalledBy done counts
   pub exits : status ≡ status_of ending
+
+-- ---- commands in turn
+
+-- each command that ends in one of these ways was played, with some reply and the promise on stops
+abbrev pub EachIsPlayed : {S : Type 0} → Ghosts S → (List (List ℕ) → List File → Outcome → Type 0) → Type 0
+EachIsPlayed {S} g tells =
+    (counts : Counts) (old new : Host S) (done : Command) (out err : Output) (status : ℕ)
+    → IsCommandOver g tells counts old new done out err status
+    → (reply : Reply) × IsPlayedSafely g tells (moment_before counts old) (moment_after counts new) old.store new.store
+    done reply

@@ -1,4 +1,5 @@
 -- Several changes of the staged files over a repository: what they do, and what is printed of a refusal.
+-- (docs/REFERENCE.md, "Several files".)
 use Rattle.std.specs.Prelude.{◌≡◌, ℕ, List, [], ◌++◌, codes, Option, None, Some, MatchOption, MatchResult, Result, IfErr, OnOk, option_and_then, option_map, slice_get}
 use Rattle.sqlite_trees.specs.declared.store.Store.{Ghosts}
 use Rattle.report_text.specs.Report.{line}

@@ -12,6 +12,7 @@
 #![tactic(auto)]
 
 mod command_ending;
+pub mod laws;
 mod look_up;
 mod over_answers;
 mod over_host;

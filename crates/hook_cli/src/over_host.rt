@@ -4,7 +4,7 @@
 
 ghost use Rattle.std.specs.Prelude.{◌≡◌, ◌⊎◌};
 ghost use Rattle.child_port.specs.Telling.{SameTells};
-ghost use Rattle.hook_cli.specs.CommandOver.{IsAcceptOver, IsAddOver, IsCalledBy, IsCommandOver, IsDoneOver, IsRemoveOver, AreStagedOver};
+ghost use Rattle.hook_cli.specs.CommandOver.{AreStagedOver, IsAcceptOver, IsAddOver, IsCalledBy, IsCommandOver, IsDoneOver, IsRemoveOver, counts_over};
 ghost use Rattle.text_output.specs.Outputs.{IsSilent, Output, output_of};
 
 use crate::CommandEnding;
@@ -57,13 +57,7 @@ pub fn command_over<S: Alter, C: Children, O: Write, E: Write>(
     err: &mut E,
 ) -> u8
     ensures done { IsCommandOver S.Store (C.tells children.old)
-        (record {
-          calls = C.call_count children.old;
-          calls_after = C.call_count children.new;
-          faults = C.fault_count
-              children.old;
-          faults_after = C.fault_count children.new;
-        }) host.old host.new command.now
+        (counts_over C.call_count C.fault_count children.old children.new) host.old host.new command.now
         (output_of (O.contents out.old) (O.contents out.new)) (output_of (E.contents err.old) (E.contents err.new))
         result }
     ensures same { SameTells (C.tells children.old) (C.tells children.new) }
@@ -81,22 +75,10 @@ fn end_of<S: Alter, C: Children, O: Write, E: Write>(
     err: &mut E,
 ) -> CommandEnding
     ensures over { IsDoneOver S.Store (C.tells children.old)
-        (record {
-          calls = C.call_count children.old;
-          calls_after = C.call_count children.new;
-          faults = C.fault_count
-              children.old;
-          faults_after = C.fault_count children.new;
-        }) host.old host.new command.now
+        (counts_over C.call_count C.fault_count children.old children.new) host.old host.new command.now
         (output_of (O.contents out.old) (O.contents out.new)) (output_of (E.contents err.old) (E.contents err.new))
         result }
-    ensures called { IsCalledBy command.now (record {
-      calls = C.call_count children.old;
-      calls_after = C.call_count children.new;
-      faults = C.fault_count
-          children.old;
-      faults_after = C.fault_count children.new;
-    }) }
+    ensures called { IsCalledBy command.now (counts_over C.call_count C.fault_count children.old children.new) }
     ensures same { SameTells (C.tells children.old) (C.tells children.new) }
 {
     match command {

@@ -4,7 +4,7 @@
 
 ghost use Rattle.std.specs.Prelude.{◌≡◌, ◌⊎◌};
 ghost use Rattle.child_port.specs.Telling.{SameTells};
-ghost use Rattle.hook_cli.specs.CommandOver.{IsDoneOver, IsMessageOver, IsMessageOverHost, message_given};
+ghost use Rattle.hook_cli.specs.CommandOver.{IsDoneOver, IsMessageOver, IsMessageOverHost, counts_over, message_given};
 ghost use Rattle.commit_flow.specs.declared.command.Command.TheVariants.{Message};
 ghost use Rattle.text_output.specs.Outputs.{output_of};
 
@@ -54,13 +54,7 @@ pub fn message_over<S: Alter, C: Children, O: Write, E: Write>(
     err: &mut E,
 ) -> MessageOver
     ensures over { IsMessageOver S.Store (C.tells children.old)
-        (record {
-          calls = C.call_count children.old;
-          calls_after = C.call_count children.new;
-          faults = C.fault_count
-              children.old;
-          faults_after = C.fault_count children.new;
-        }) host.old host.new ask.now message.now
+        (counts_over C.call_count C.fault_count children.old children.new) host.old host.new ask.now message.now
         (output_of (O.contents out.old) (O.contents out.new)) (output_of (E.contents err.old) (E.contents err.new))
         result.message result.status }
     ensures same { SameTells (C.tells children.old) (C.tells children.new) }
@@ -85,13 +79,8 @@ pub(crate) fn run_message_hooks<S: Alter, C: Children, O: Write, E: Write>(
     err: &mut E,
 ) -> CommandEnding
     ensures over { IsDoneOver S.Store (C.tells children.old)
-        (record {
-          calls = C.call_count children.old;
-          calls_after = C.call_count children.new;
-          faults = C.fault_count
-              children.old;
-          faults_after = C.fault_count children.new;
-        }) host.old host.new (Message ask.now message.now)
+        (counts_over C.call_count C.fault_count children.old children.new)
+        host.old host.new (Message ask.now message.now)
         (output_of (O.contents out.old) (O.contents out.new)) (output_of (E.contents err.old) (E.contents err.new))
         result }
     ensures same { SameTells (C.tells children.old) (C.tells children.new) }
@@ -111,13 +100,7 @@ fn hooks_of_message<S: Alter, C: Children, O: Write, E: Write>(
     err: &mut E,
 ) -> MessageAnswered
     ensures over { IsMessageOverHost S.Store (C.tells children.old)
-        (record {
-          calls = C.call_count children.old;
-          calls_after = C.call_count children.new;
-          faults = C.fault_count
-              children.old;
-          faults_after = C.fault_count children.new;
-        }) host.old host.new ask.now message.now
+        (counts_over C.call_count C.fault_count children.old children.new) host.old host.new ask.now message.now
         (output_of (O.contents out.old) (O.contents out.new)) (output_of (E.contents err.old) (E.contents err.new))
         result.message result.ending }
     ensures same { SameTells (C.tells children.old) (C.tells children.new) }

@@ -4,7 +4,7 @@
 
 ghost use Rattle.child_port.specs.Telling.{SameTells};
 ghost use Rattle.commit_flow.specs.Commands.{reply_of_ending};
-ghost use Rattle.hook_cli.specs.CommandOver.{IsCommitOverHost, IsReplied, IsRunOverHost};
+ghost use Rattle.hook_cli.specs.CommandOver.{IsCommitOverHost, IsReplied, IsRunOverHost, counts_over};
 ghost use Rattle.text_output.specs.Outputs.{output_of};
 
 use crate::CommandEnding;
@@ -28,13 +28,7 @@ pub(crate) fn run<S: Alter, C: Children, O: Write, E: Write>(
     err: &mut E,
 ) -> CommandEnding
     ensures run { IsRunOverHost S.Store (C.tells children.old)
-        (record {
-          calls = C.call_count children.old;
-          calls_after = C.call_count children.new;
-          faults = C.fault_count
-              children.old;
-          faults_after = C.fault_count children.new;
-        }) host.old host.new ask.now
+        (counts_over C.call_count C.fault_count children.old children.new) host.old host.new ask.now
         (output_of (O.contents out.old) (O.contents out.new)) (output_of (E.contents err.old) (E.contents err.new))
         result }
     ensures same { SameTells (C.tells children.old) (C.tells children.new) }
@@ -58,13 +52,8 @@ pub(crate) fn commit<S: Alter, C: Children, O: Write, E: Write>(
     err: &mut E,
 ) -> CommandEnding
     ensures commit { IsCommitOverHost S.Store (C.tells children.old)
-        (record {
-          calls = C.call_count children.old;
-          calls_after = C.call_count children.new;
-          faults = C.fault_count
-              children.old;
-          faults_after = C.fault_count children.new;
-        }) host.old host.new message.now no_verify skip.now
+        (counts_over C.call_count C.fault_count children.old children.new)
+        host.old host.new message.now no_verify skip.now
         (output_of (O.contents out.old) (O.contents out.new)) (output_of (E.contents err.old) (E.contents err.new))
         result }
     ensures same { SameTells (C.tells children.old) (C.tells children.new) }

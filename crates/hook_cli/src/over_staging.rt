@@ -1,4 +1,4 @@
-//! Several changes of the staged files, all or none.
+//! Several changes of the staged files, all or none. (docs/REFERENCE.md, "Several files".)
 //!
 //! The contracts cite `specs/StagingOver.antt`.
 

@@ -1,6 +1,6 @@
 use Rattle.std.proofs.lemmas.Result.{err_from_is_err_and}
 use Rattle.hook_cli.specs.CommandOver.{IsPathRefusal}
-use Rattle.hook_cli.proofs.PathLemmas.{read_refused}
+use Rattle.commit_flow.proofs.PathLemmas.{read_refused}
 use Rattle.hook_cli.proofs.look_up.legal_path.Goals as goal
 
 pub returns-in_err-path-clause-refused : goal.returns-in_err-path-clause-refused
