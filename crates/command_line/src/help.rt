@@ -10,7 +10,7 @@ no files. hookhost try --help explains what that refuses.
 
 A repository lies in .hookhost of the current folder: init makes it, and all
 commands but try, check and explain work on it. In a repository of Git the script
-hookhost-git runs the hooks before each commit: hookhost-git --help says how.
+hookhost-git runs the hooks of each commit: hookhost-git --help says how.
 
 Examples:
   hookhost try .pre-commit-config.yaml README.md src/main.c
@@ -20,7 +20,7 @@ Examples:
 
 Exit status:
    0  every hook passed or was skipped, or the command did what it says
-   1  a hook failed
+   1  a hook failed, or explain found a fault
    2  the words are wrong, or ask for help
    3  something was refused: standard error says what
 
@@ -30,8 +30,9 @@ hookhost COMMAND --help explains what that command refuses.";
 pub(crate) const TRY_HELP: &str = "\
 Hooks of the stage pre-commit are run in their order, on the files that each
 selects. The commands of system and script hooks run in .hookhost/scratch of the
-current folder, each over copies of all named files: no other file is written, and
-at the end that folder is removed. The report goes to standard output.
+current folder, or in folders next to it, each over copies of all named files. No
+other file is written, and at the end these folders are removed. The report goes to
+standard output.
 
 Several commands run at the same time: as many as there are processors, or at most N
 with --jobs=N. If one of them changes files, those after it are run again, so the
@@ -110,8 +111,8 @@ Nothing is run, and no repository is needed. If the configuration is refused, ea
 fault is printed: its line, hook, key and value, what is wanted, and the word that
 may have been meant. Below that is the line itself, with a mark under the place. If
 the configuration is taken, these are printed: the hooks of each stage and what each
-runs, the ignored keys, the hooks that never run here, and those that run at all
-four stages of a commit.
+runs, their files and stages, the ignored keys, the hooks that never run here, those
+that run at all four stages of a commit, and warnings.
 
 It can't see that a command looks at the clock, the network, git, the environment or
 a file that none of its words names: hookhost run --fresh shows that.

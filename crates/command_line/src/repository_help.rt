@@ -155,8 +155,9 @@ hookhost memory --help says when that is of use, and how long a result is kept.
 
 With --cautious a hook counts as seeing every file of the tree, so a change of any
 file starts its command again. This leaves out hooks that say by x_reads which files
-their command reads, and commands of known tools. No failure is then taken from the
-cache. With --verbose the output of every hook is printed, and after the report
+their command reads, and commands of known tools. Most of these get at most 100
+names each, so that their results are cached in parts. No failure is then taken from
+the cache. With --verbose the output of every hook is printed, and after the report
 'answered from the cache: N', how many commands weren't started.
 
 Several commands run at the same time: as many as there are processors, or at most N
@@ -224,16 +225,18 @@ pub(crate) const HOOK_HELP: &str = opening_help!(
     "\
 For a program that makes the commits itself, such as Git. The hooks of STAGE in the
 staged configuration run on the staged files, and no commit is made. The variable
-SKIP, --fresh, --cautious and --jobs=N are as in hookhost run, whose help says more.
+SKIP, --fresh and --cautious are as in hookhost run, whose help says more. For
+pre-commit --jobs=N is too: commands of the other stages run one at a time.
 
 Those of pre-commit run as by hookhost run. Those of post-commit get no names of
 files, so one without always_run is skipped. What hooks of these two stages change
 are the fixes, which hookhost fixes lists.
 
-Those of prepare-commit-msg and commit-msg get the message in FILE, under the name
-.git/COMMIT_EDITMSG. If they pass and have changed it, FILE is replaced by a file
-with the new message. If one fails, FILE stays as it is. What they change of other
-files is dropped, the fixes stay, and no line unsteady: ID is printed.
+Those of prepare-commit-msg and commit-msg get the message in FILE as it is, under
+the name .git/COMMIT_EDITMSG. If they pass and have changed it, FILE is replaced by
+a file with the new message, an empty one if a hook removed it. If one fails, FILE
+stays as it is. A hook that changes other files fails, and that is dropped. The
+fixes stay, and no line unsteady: ID is printed.
 
 Examples:
   hookhost hook pre-commit
@@ -253,8 +256,8 @@ Examples:
                   run it again: each run counts from 0
 
 'hookhost: cannot use FILE' says that FILE is no file that can be read and replaced:
-name the one with the message. If hooks have changed the message, it isn't in FILE
-then."
+name the one with the message. After hooks that changed the message it says that
+FILE still has the old one."
 );
 
 /// At the end of the help of `fixes`.

@@ -87,7 +87,7 @@ LINES = [
         "no files. hookhost try --help explains what that refuses.\n\n"
         "A repository lies in .hookhost of the current folder: init makes it, and all\n"
         "commands but try, check and explain work on it. In a repository of Git the script\n"
-        "hookhost-git runs the hooks before each commit: hookhost-git --help says how.\n\n"
+        "hookhost-git runs the hooks of each commit: hookhost-git --help says how.\n\n"
         "Examples:\n"
         "  hookhost try .pre-commit-config.yaml README.md src/main.c\n"
         "  hookhost init\n"
@@ -95,7 +95,7 @@ LINES = [
         "  hookhost status\n\n"
         "Exit status:\n"
         "   0  every hook passed or was skipped, or the command did what it says\n"
-        "   1  a hook failed\n"
+        "   1  a hook failed, or explain found a fault\n"
         "   2  the words are wrong, or ask for help\n"
         "   3  something was refused: standard error says what\n\n"
         "hookhost COMMAND --help explains what that command refuses.\n",
