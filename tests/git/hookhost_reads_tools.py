@@ -64,7 +64,7 @@ KNOWN = {
 def known_names():
     """The names of the table of known tools, as the program has it."""
     with open(os.path.join(CRATES, "run_options/src/tools.rt"), encoding="utf-8") as file:
-        found = re.findall(r'^    \("([^"]+)", ToolKind::', file.read(), re.MULTILINE)
+        found = re.findall(r'^    \(\s*"([^"]+)",\s*ToolKind::', file.read(), re.MULTILINE)
     if len(found) < 50:
         raise ValueError("the table of known tools isn't found")
     return found

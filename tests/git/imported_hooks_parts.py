@@ -24,7 +24,7 @@ def the_table_of_tools_is_that_of_hookhost(_top, _env):
     with open(os.path.join(CRATES, "run_options/src/tools.rt"), encoding="utf-8") as file:
         text = file.read()
     named = dict(re.findall(r'^const (\w+): &str =\s*r?"(.*)";$', text, re.MULTILINE))
-    rows = {tool: named[name] for tool, kind, name in re.findall(r'\("([^"]+)", ToolKind::(\w+), (\w+)\)', text) if kind == "Options"}
+    rows = {tool: named[name] for tool, kind, name in re.findall(r'\(\s*"([^"]+)",\s*ToolKind::(\w+),\s*(\w+),', text) if kind == "Options"}
     check(len(named) > 10 and len(rows) > 60, f"the table isn't read: {len(named)} patterns, {len(rows)} tools")
     for name, (_, reads) in (tools.OF_PYTHON | tools.OF_NODE).items():
         for path in PATHS:
